@@ -1,5 +1,5 @@
-/* Grants and returns of one sort, for bench/calls: an object of their own, a block of a buddy chunk, a fit chunk or a free
-   list. */
+/* Grants and returns of one sort, for bench/calls: an object of their own, a block of a buddy chunk, a fit chunk or a
+   free list. */
 #include "../c/wallthyme.h"
 #include <stdio.h>
 #include <stdlib.h>

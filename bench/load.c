@@ -1,4 +1,4 @@
-/* Runs a load over the library with one way to share objects: bench/held runs it for fit chunks, which scripts can't ask for.
+/* Runs a load over the library with one way to share objects: bench/held runs it for fit chunks, which scripts lack.
 
      load CONFIG SHARING < LINES      CONFIG: potato, prototyping; SHARING: buddy, fit
 
@@ -34,7 +34,8 @@ static void count(wt_allocator *a)
     wt_counts counts;
     must(wt_heap(a, 0, &bytes) == WT_OK && bytes.used_high == 0, "wt_heap");
     must(wt_count(a, &counts) == WT_OK, "wt_count");
-    printf("counts remaining %" PRIu32 " held %" PRIu32 " used %" PRIu64 "\n", counts.remaining, counts.held, bytes.used);
+    printf("counts remaining %" PRIu32 " held %" PRIu32 " used %" PRIu64 "\n", counts.remaining, counts.held,
+           bytes.used);
 }
 
 int main(int argc, char **argv)

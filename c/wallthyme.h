@@ -1,8 +1,8 @@
 /* Wallthyme: a proved GPU memory allocator, for C (C99 and later) and C++ (C++11 and later). It is a port of
  * gpu-alloc 0.6.0 to Rattle (Rust with contracts).
  *
- * It never calls back, and never touches a device. A call that needs the device answers WT_ASK with a question. The
- * caller puts it to its device, writes the answer into it, and makes the same call again with the questions so far:
+ * It never calls back, and never touches a device. A call that needs the device returns WT_ASK with a question. The
+ * caller asks its device, writes the answer into the question, and makes the same call again with the questions so far:
  *
  *     wt_question asked[WT_MAX_QUESTIONS + 1];
  *     size_t n = 0;
@@ -13,45 +13,45 @@
  *
  * What is proved of the calls (the contracts of the crates gpu_desk and wallthyme):
  * - Each live block is a range of a memory object, inside it, aligned as asked and at least as large. No two share a
- *   byte; in shared objects of memory that is not coherent, blocks begin and end at whole atoms, so none share one.
- * - A call that ends otherwise than in WT_OK leaves all as it was.
+ *   byte. In shared objects of memory that is not coherent, blocks begin and end at whole atoms, so none share one.
+ * - A call that does not end in WT_OK changes nothing.
  * - Names of objects rise, and none comes twice. Each object is reported once to be freed, when no block needs it.
  * - After all blocks are freed and wt_cleanup, no object is held.
- * - What was asked for of an optimal block shares no page with a linear one (WT_OPTIMAL), no question passes a heap's
- *   limit, and WT_ALLOCATE_OWN is set exactly where an object will hold one block, of its size. A request with
- *   WT_HELD_ONLY asks nothing. It is served wherever its size is within the limit and a permitted memory type that
- *   serves its usage has a place for it, but for host memory.
+ * - The requested bytes of an optimal block share no page with a linear one (WT_OPTIMAL).
+ * - No question exceeds a heap's limit. WT_ALLOCATE_OWN is set exactly where an object will hold one block, of its
+ *   size.
+ * - A request with WT_HELD_ONLY asks nothing. It is served wherever its size is within the limit and a permitted memory
+ *   type that serves its usage has a place for it, unless host memory runs out.
  *
  * What the caller owes, and nothing checks:
- * - Pointers are valid; one to 0 elements may be null. Nothing that a call writes overlaps anything else that the
- *   call is given, but that *question may lie right behind the asked ones in their array.
- * - A wt_allocator is zeroed before its first use, and then written by these calls alone. Between two calls it may be
- *   moved: its bytes are copied to another place, and the old place is not used again. It is never copied otherwise
- *   while open.
+ * - Pointers are valid; one to 0 elements may be null. Nothing that a call writes overlaps anything else that the call
+ *   gets, except that *question may stand right after the asked ones in their array.
+ * - A wt_allocator is zeroed before its first use, and then written only by these calls. Between two calls it may be
+ *   moved: its bytes are copied to another place, and the old place is not used again. While it is open, it is not
+ *   copied in any other way.
  * - Answers are true.
  * - Threads: one call at a time for each allocator. A lock, or the start or join of a thread, orders each call before
- *   the next; different threads may make them. (That all that lies behind a wt_allocator may cross to another thread
- *   is proved: the bound Send in crates/wallthyme/src/handle.rt.) There is no lock
- *   inside. Hold yours from the first call of a request (of wt_map too) until its last call has answered and the
- *   object stands under its name in your table, and from wt_free or wt_cleanup until what wt_gone reports is freed.
- *   Two allocators share nothing but the device.
+ *   the next; different threads may make them. (It is proved that all that lies behind a wt_allocator may cross to
+ *   another thread: the bound Send in crates/wallthyme/src/handle.rt.) The library has no lock inside. Hold yours from
+ *   the first call of a request (or of wt_map) until its last call has returned and the object stands under its name in
+ *   your table. Hold it too from wt_free or wt_cleanup until you have freed what wt_gone reports. Two allocators share
+ *   nothing but the device.
  * - The library takes memory by malloc, realloc and free. A program that replaces one of them replaces all three. No
  *   call is made from a signal handler, nor in a child process between fork and exec.
  *
- * What to know besides:
- * - An object whose name wt_gone reports counts as free already: free it before more is made, or the device may hold
- *   more objects and bytes than the allocator counts.
+ * What else to know:
+ * - An object whose name wt_gone reports counts as free already. Free it before you make another one, or the device may
+ *   hold more objects and bytes than the allocator counts.
  * - A shared object of a host-visible type is mapped whole when it is made (WT_MAP_MADE), and stays mapped until it is
- *   freed. Any other object is mapped while its block is (wt_map to wt_unmap or wt_free). "The host sees" means a
- *   host-visible type.
+ *   freed. Any other object is mapped while its block is (from wt_map to wt_unmap or wt_free).
  * - Sizes cost. A block in a buddy chunk is a power of two; one of a free list reaches from its start to the end of a
  *   free range, so a large alignment costs. With WT_CONFIG_PROTOTYPING 1,000 requests like a renderer's hold 1.5
  *   times what they ask, and 1.7 times after many exchanges; as WT_USAGE_TRANSIENT ones 1.0 to 1.1, and 1.5 times.
  *   In fit chunks (WT_FIT) a block is as long as asked, in whole grains: 1.13 to 1.15 times (doc/COSTS.md).
- * - A block may be lent to several resources, one after the other or at once: the library knows blocks alone.
- * - Without a device it is a virtual allocator: grant every question, and use the ranges for what you like.
+ * - A block may be used for several resources, one after the other or at once: the library knows only blocks.
+ * - Without a device it is a virtual allocator: grant every question, and use the ranges for whatever you like.
  *
- * Sizes, offsets and alignments are bytes. A status has a text: wt_text.
+ * Sizes, offsets and alignments are bytes. Each status has a text: wt_text.
  */
 #ifndef WALLTHYME_H
 #define WALLTHYME_H
@@ -69,55 +69,55 @@ extern "C" {
 /* What a call answers. */
 enum {
     WT_OK = 0,
-    WT_ASK = 1,                        /* a question has no answer yet: nothing was done so far */
+    WT_ASK = 1,                        /* a question has no answer yet: nothing has changed */
 
-    /* Refusals. Nothing was changed. */
-    WT_OUT_OF_DEVICE_MEMORY = 2,       /* by the device or a heap's budget, or the size is over the limit */
+    /* Refusals. Nothing has changed. */
+    WT_OUT_OF_DEVICE_MEMORY = 2,       /* the device's, or a heap's budget; or the size is over the limit */
     WT_OUT_OF_HOST_MEMORY = 3,         /* the device's or the library's, or a new shared object could not be mapped */
     WT_NO_COMPATIBLE_MEMORY_TYPES = 4, /* no permitted memory type serves the usage */
     WT_TOO_MANY_OBJECTS = 5,           /* as many objects are held as the device allows */
-    WT_NON_HOST_VISIBLE = 6,           /* the host does not see the block's memory */
+    WT_NON_HOST_VISIBLE = 6,           /* the block's memory is not host-visible */
     WT_ALREADY_MAPPED = 7,             /* the block is mapped */
     WT_MAP_FAILED = 8,                 /* the device failed to map for a reason of its own */
 
-    /* Misuses. Nothing was changed. */
+    /* Misuses. Nothing has changed. */
     WT_NOT_OPEN = 9,                   /* the allocator is closed */
     WT_ALREADY_OPEN = 10,              /* the allocator is open */
-    WT_BAD_PROPERTIES = 11,            /* over 32 memory types, one of a heap that is not there, 2^32 heaps or more, an
+    WT_BAD_PROPERTIES = 11,            /* over 32 memory types, one of a missing heap, 2^32 heaps or more, an
                                           atom that is not a power of two of at most 2^62, a granularity that is
                                           neither 0 nor a power of two of at most 2^32, or a sharing that is neither
                                           WT_BUDDY nor WT_FIT */
     WT_UNKNOWN_KEY = 12,               /* no live block has this key: it was freed, or is another allocator's. (Keys of
-                                          two allocators may be the same numbers.) */
-    WT_OTHER_QUESTION = 13,            /* an answer is to another question than is asked in its place */
+                                          two allocators may be equal.) */
+    WT_OTHER_QUESTION = 13,            /* an answer is to another question than the one asked in its place */
     WT_BAD_ANSWER = 14,                /* an answer is not one of the four below, or its question is invalid */
     WT_BAD_SIZE = 15,                  /* a size of 0 */
     WT_BAD_ALIGNMENT = 16,             /* align_mask + 1 is not a power of two of at most 2^63 */
     WT_BAD_USAGE = 17,                 /* usage bits without a name */
     WT_BAD_DEDICATED = 18,             /* not WT_SHARED, WT_PREFERRED or WT_REQUIRED */
     WT_NO_DEVICE_ADDRESS = 19,         /* WT_USAGE_DEVICE_ADDRESS without the device's feature */
-    WT_BAD_RANGE = 20,                 /* a range that passes the end of its block or object */
-    WT_BAD_MEMORY_TYPE = 21,           /* no such memory type */
-    WT_BAD_HEAP = 22,                  /* no such heap */
-    WT_BAD_IMPORT_END = 23,            /* an import of memory that the host sees and that is not coherent, which ends
-                                          neither on the atom nor where its object ends */
-    WT_NO_REMAINING = 24,              /* an import, and as many objects are held as the device allows */
+    WT_BAD_RANGE = 20,                 /* a range ends past its block or object */
+    WT_BAD_MEMORY_TYPE = 21,           /* there is no such memory type */
+    WT_BAD_HEAP = 22,                  /* there is no such heap */
+    WT_BAD_IMPORT_END = 23,            /* an import of memory that is host-visible and not coherent ends neither on the
+                                          atom nor at its object's end */
+    WT_NO_REMAINING = 24,              /* an import, when as many objects are held as the device allows */
     WT_TOO_MANY_REMAINING = 25,        /* together with the held objects not below 2^32 */
     WT_STILL_HELD = 26,                /* an object is held: free all blocks, and call wt_cleanup */
-    WT_UNREAD_NAMES = 27,              /* names of objects to free are still to be read by wt_gone */
+    WT_UNREAD_NAMES = 27,              /* names of objects to free still wait for wt_gone */
     WT_BAD_FLAGS = 28,                 /* wt_request.flags has a bit without a name */
 
-    /* A refusal. Nothing was changed. */
-    WT_WOULD_ASK = 29                  /* WT_HELD_ONLY, and no object that is held has a place for the block */
+    /* A refusal. Nothing has changed. */
+    WT_WOULD_ASK = 29                  /* WT_HELD_ONLY, and no held object has a place for the block */
 };
 
-/* How a question was answered: wt_question.answer. To an allocation WT_NO_DEVICE_MEMORY means that it goes on to the
-   next memory type, and the next two end it. */
+/* How a question was answered: wt_question.answer. After WT_NO_DEVICE_MEMORY an allocation goes on to the next memory
+   type; the next two end it. */
 enum {
     WT_GRANTED = 0,                    /* it was done */
     WT_NO_DEVICE_MEMORY = 1,           /* VK_ERROR_OUT_OF_DEVICE_MEMORY */
     WT_NO_HOST_MEMORY = 2,             /* VK_ERROR_OUT_OF_HOST_MEMORY */
-    WT_DEVICE_MAP_FAILED = 3           /* VK_ERROR_MEMORY_MAP_FAILED; to WT_ALLOCATE as WT_NO_HOST_MEMORY */
+    WT_DEVICE_MAP_FAILED = 3           /* VK_ERROR_MEMORY_MAP_FAILED; to WT_ALLOCATE it counts as WT_NO_HOST_MEMORY */
 };
 
 /* What is asked: wt_question.kind. */
@@ -128,42 +128,43 @@ enum {
 };
 
 /* wt_question.flags: what an object is made with. */
-#define WT_ALLOCATE_DEVICE_ADDRESS 0x01u /* it has to have VK_MEMORY_ALLOCATE_DEVICE_ADDRESS_BIT */
-/* It will hold this request's block alone, and its size is that of the request: so what belongs to one resource may be
-   chained to it, as VkMemoryDedicatedAllocateInfo, a priority or an export. Set exactly where that is so (proved).
-   Answers are not compared by it. */
+#define WT_ALLOCATE_DEVICE_ADDRESS 0x01u /* it must have VK_MEMORY_ALLOCATE_DEVICE_ADDRESS_BIT */
+/* It will hold only this request's block, and has the request's size: so what belongs to one resource may be chained to
+   it, such as VkMemoryDedicatedAllocateInfo, a priority or an export. Set exactly where that is so (proved).
+   It is ignored when answers are compared. */
 #define WT_ALLOCATE_OWN 0x100u
 
-/* wt_request.usage: what the block is for. It says which memory types may serve and in which order they are tried;
-   0 means WT_USAGE_FAST_DEVICE_ACCESS. With HOST_ACCESS, DOWNLOAD or UPLOAD only types that the host sees serve. What
-   decides first is whether a type is device-local: with FAST_DEVICE_ACCESS such types come first, without it last. So
+/* wt_request.usage: what the block is for. It decides which memory types may serve and in which order they are tried; 0
+   means WT_USAGE_FAST_DEVICE_ACCESS. With HOST_ACCESS, DOWNLOAD or UPLOAD only host-visible types serve. The order
+   depends first on whether a type is device-local: with FAST_DEVICE_ACCESS such types come first, without it last. So
    TRANSIENT or DEVICE_ADDRESS alone takes memory that is not device-local first: add FAST_DEVICE_ACCESS where the
-   device works on the block. Then come types that the host does not see, where it need not; then what stands below. */
+   device works on the block. Next, where the usage does not need the host, come types that are not host-visible. Then
+   the order is as below. */
 #define WT_USAGE_FAST_DEVICE_ACCESS 0x01u /* the device uses it often: device-local types first */
 #define WT_USAGE_HOST_ACCESS 0x02u        /* the host maps it: uncached first, of those not coherent ones first */
 #define WT_USAGE_DOWNLOAD 0x04u           /* the host reads what the device wrote: cached first, then coherent ones */
 #define WT_USAGE_UPLOAD 0x08u             /* the device reads what the host wrote: uncached first, then coherent ones */
 #define WT_USAGE_TRANSIENT 0x10u          /* it lives briefly: served from a free list, and no other shared chunk */
-#define WT_USAGE_DEVICE_ADDRESS 0x20u     /* its address is used: bufferDeviceAddress has to be enabled */
+#define WT_USAGE_DEVICE_ADDRESS 0x20u     /* its address is used: bufferDeviceAddress must be enabled */
 
-/* wt_request.dedicated: whether the block has to be a whole object of its own. WT_PREFERRED: it gets one from
+/* wt_request.dedicated: whether the block must be a whole object of its own. With WT_PREFERRED it gets one from
    wt_config.preferred_dedicated_threshold on. */
 enum { WT_SHARED = 0, WT_PREFERRED = 1, WT_REQUIRED = 2 };
 
-/* wt_request.flags, and wt_block.flags: the block is for an optimal resource (an image of VK_IMAGE_TILING_OPTIMAL), and
-   else for a linear one (a buffer, a linear image). No page of wt_limits.buffer_image_granularity bytes of one object
-   holds one of the first wt_block.asked bytes of an optimal block and a byte of a linear one (proved). So bind nothing
-   to the bytes of an optimal block behind those asked: their page may be a linear block's too.
+/* wt_request.flags, and wt_block.flags: the block is for an optimal resource (an image of VK_IMAGE_TILING_OPTIMAL), not
+   for a linear one (a buffer, a linear image). No page of wt_limits.buffer_image_granularity bytes of one object holds
+   one of the first wt_block.asked bytes of an optimal block and a byte of a linear one (proved). So bind nothing to an
+   optimal block past its first wt_block.asked bytes: a linear block may share that page.
    An optimal request is served as one whose size is rounded up to the granularity and that is aligned to it at least.
-   By that size it gets an object of its own, but such an object has the very size of the request. Where the granularity
-   is 1 the flag changes nothing but wt_block.flags. */
+   That size decides whether it gets an object of its own, but such an object has exactly the request's size. Where the
+   granularity is 1, the flag changes only wt_block.flags. */
 #define WT_OPTIMAL 1u
 
 /* wt_request.flags: the device is asked for nothing (proved). Of the permitted memory types that serve the usage, the
-   first in rank that has a place in a shared object serves, even where a better one would serve by asking. WT_WOULD_ASK
-   where none has one (proved), as with WT_REQUIRED; a memory type has none for a request that it would serve by an
-   object of its own. A size over the limit, and a usage that no permitted type serves, are refused before. How many more
-   objects may be held is of no account. */
+   first in rank with a place in a shared object serves, even where a better one would serve by asking. The status is
+   WT_WOULD_ASK where no type has a place (proved), as always with WT_REQUIRED: a type that would serve the request by
+   an object of its own has none. A size over the limit, and a usage that no permitted type serves, are refused first.
+   How many more objects may be held does not matter. */
 #define WT_HELD_ONLY 2u
 
 /* wt_memory_type.props: the lower six bits of VkMemoryType::propertyFlags. Other bits are ignored; leave such
@@ -175,12 +176,12 @@ enum { WT_SHARED = 0, WT_PREFERRED = 1, WT_REQUIRED = 2 };
 #define WT_LAZILY_ALLOCATED 0x10u
 #define WT_PROTECTED 0x20u
 
-/* The most questions that one call asks (proved): wt_alloc an object of each of 32 memory types, and its mapping,
-   since a type is passed too where the mapping lacks device memory; wt_map one. So with this many answers WT_ASK
-   never comes; the array has one place more, since *question has to be writable at every call. */
+/* The most questions that one call asks (proved). wt_alloc asks for an object of each of 32 memory types and for its
+   mapping, since a type is also passed over where the mapping lacks device memory. wt_map asks one. So WT_ASK never
+   comes with this many answers. The array has one place more, since *question must be writable at every call. */
 #define WT_MAX_QUESTIONS 64
 
-/* An allocator: zeroed at first, which is closed. Its fields are the library's own. */
+/* An allocator. Zeroed, it is closed. Its fields are the library's own. */
 typedef struct wt_allocator {
     uint32_t full;
     void *state;
@@ -195,31 +196,32 @@ typedef struct wt_memory_type {
 typedef struct wt_limits {
     uint64_t max_memory_allocation_size;  /* the largest request */
     uint64_t non_coherent_atom_size;
-    uint32_t max_memory_allocation_count; /* how many objects may be held: less those that the program makes itself */
+    uint32_t max_memory_allocation_count; /* how many objects may be held, less those that the program makes itself */
     uint32_t buffer_device_address;       /* not 0: the feature is enabled */
     uint64_t buffer_image_granularity;    /* bufferImageGranularity, for WT_OPTIMAL; 0 counts as 1 */
 } wt_limits;
 
-/* wt_config.sharing: how requests that are not WT_USAGE_TRANSIENT, and get no object of their own, share objects. It
+/* wt_config.sharing: how requests share objects if they are not WT_USAGE_TRANSIENT and get no object of their own. It
    stays as long as the allocator is open.
-   WT_BUDDY: in buddy chunks. Each block is a power of two and starts at a multiple of its size. Of each memory type
-   that it tries a call looks at 63 lengths at most (proved), however many blocks are live.
-   WT_FIT: in fit chunks. Each block is as long as asked, in whole grains (256 bytes, or the atom where that is
-   larger), in a free run that has room. Requests over the first fit chunk's size (starting_free_list_chunk, cut down
-   to 1/32 of the heap; where that is less than a grain, all of them) get an object of their own, and later chunks grow
-   up to four times the first. Of each memory type at most one fit chunk stays without a live block, until wt_cleanup.
-   The same requests hold less memory; but where its lists show no place, a call looks at all blocks and free runs in
-   the fit chunks of each memory type that it tries, before it asks for a chunk. */
+   WT_BUDDY: in buddy chunks. Each block is a power of two and starts at a multiple of its size. For each memory type
+   that it tries, a call looks at 63 lengths at most (proved), however many blocks are live.
+   WT_FIT: in fit chunks. Each block is as long as asked, in whole grains (256 bytes, or the atom where that is larger),
+   in a free run that has room. Requests over the first fit chunk's size get an object of their own. (That size is
+   starting_free_list_chunk, cut to 1/32 of the heap; where it is less than a grain, all requests do.) Later chunks grow
+   up to four times the first, and no larger than a free list's largest. For each memory type at most one fit chunk
+   stays without a live block, until wt_cleanup. The same requests hold less memory. But where its lists show no place,
+   a call looks at all blocks and free runs in the fit chunks of each memory type that it tries, before it asks for a
+   chunk. */
 enum { WT_BUDDY = 0, WT_FIT = 1 };
 
-/* The sizes by which the allocator decides, in bytes, as gpu-alloc's Config has them, and how requests share objects.
-   Any sizes serve. Zero it before you fill it, so that each field that you do not know is 0: sharing is WT_BUDDY then,
-   as in an initialiser with seven numbers.
+/* The sizes that steer the allocator, in bytes, as in gpu-alloc's Config, and how requests share objects. Any sizes
+   serve. Zero it before you fill it, so that each field that you do not know is 0: sharing is then WT_BUDDY, as in an
+   initialiser with seven numbers.
    A request gets an object of its own, a block of a buddy or fit chunk, or, with WT_USAGE_TRANSIENT, a block of a free
-   list's chunk; from 1/32 of its heap on always an object of its own. Sizes of chunks are cut down to 1/32 of their
-   heap, a buddy's then rounded up to a power of two. */
+   list's chunk. From 1/32 of its heap on it always gets an object of its own. Sizes of chunks are cut to 1/32 of their
+   heap; a buddy chunk's is then rounded up to a power of two. */
 typedef struct wt_config {
-    /* A request of this size or more gets an object of its own. Lower it to hold fewer bytes in more objects. */
+    /* From this size on a request gets an object of its own. Lower it to hold fewer bytes in more objects. */
     uint64_t dedicated_threshold;
     /* The same for WT_PREFERRED requests; the lesser of the two counts. */
     uint64_t preferred_dedicated_threshold;
@@ -231,22 +233,22 @@ typedef struct wt_config {
     /* The size at which a free list's chunks stop growing: the greatest of this, the one before and the transient
        threshold. */
     uint64_t final_free_list_chunk;
-    /* The least block of a buddy chunk, rounded up to a power of two; a greater one counts as 1/1024 of the heap. Raise
-       it where many tiny blocks would fall apart into pieces that nothing else fits; lower it to waste less on them. */
+    /* The smallest block of a buddy chunk: at most 1/1024 of the heap, rounded up to a power of two. Raise it where
+       many tiny blocks would leave pieces that nothing else fits; lower it to waste less on them. */
     uint64_t minimal_buddy_size;
-    /* The least size of the first buddy chunk, rounded up to a power of two. Each has at least twice the size of its
-       first block, and at least that of the chunk made before it. Raise it for fewer objects. */
+    /* The least size of the first buddy chunk, rounded up to a power of two. Each chunk is at least twice as large as
+       its first block, and at least as large as the chunk before it. Raise it for fewer objects. */
     uint64_t initial_buddy_dedicated_size;
     uint64_t sharing; /* WT_BUDDY or WT_FIT; any other number is refused (WT_BAD_PROPERTIES) */
 } wt_config;
 
-/* The two configurations of gpu-alloc as initialisers, which share buddy chunks: for little device memory, and for a
+/* gpu-alloc's two configurations as initialisers, which share buddy chunks: one for little device memory, and one for a
    start. */
 #define WT_CONFIG_POTATO { 32768, 1024, 131072, 8192, 131072, 1, 8192, WT_BUDDY }
 #define WT_CONFIG_PROTOTYPING { 33554432, 1048576, 134217728, 8388608, 134217728, 1024, 8388608, WT_BUDDY }
 
-/* What a block has to be. Zero it before you fill it, as by WT_REQUEST_INIT, so that each field that you do not know
-   is 0: that of a later version then asks for nothing. */
+/* A request for a block. Zero it before you fill it, for instance with WT_REQUEST_INIT, so that each field that you do
+   not know is 0: a field of a later version then asks for nothing. */
 typedef struct wt_request {
     uint64_t size;         /* at least 1 */
     uint64_t align_mask;   /* the alignment less 1 */
@@ -254,7 +256,7 @@ typedef struct wt_request {
     uint32_t memory_types; /* bit i: memory type i is permitted (VkMemoryRequirements::memoryTypeBits) */
     uint32_t dedicated;    /* WT_SHARED, WT_PREFERRED or WT_REQUIRED */
     uint32_t flags;        /* bits: WT_OPTIMAL, WT_HELD_ONLY */
-    uint64_t user;         /* a value of the caller's, which stands with the block: any number, a pointer as well */
+    uint64_t user;         /* the caller's own value, kept with the block: any number, or a pointer */
 } wt_request;
 
 /* A zeroed request: wt_request request = WT_REQUEST_INIT; */
@@ -262,26 +264,26 @@ typedef struct wt_request {
 
 /* A question to the device, with its answer. */
 typedef struct wt_question {
-    uint64_t object; /* WT_MAP: the name of the object; else 0 */
-    uint64_t offset; /* WT_MAP and WT_MAP_MADE; else 0 */
+    uint64_t object; /* WT_MAP: the name of the object; otherwise 0 */
+    uint64_t offset; /* WT_MAP and WT_MAP_MADE; otherwise 0 */
     uint64_t size;
     uint32_t kind;
-    uint32_t memory_type; /* WT_ALLOCATE; else 0 */
-    uint32_t flags;       /* WT_ALLOCATE: bits WT_ALLOCATE_..; else 0 */
-    uint32_t answer;      /* the caller's to write. A question comes with an invalid one, so that none is forgotten */
+    uint32_t memory_type; /* WT_ALLOCATE; otherwise 0 */
+    uint32_t flags;       /* WT_ALLOCATE: bits WT_ALLOCATE_..; otherwise 0 */
+    uint32_t answer;      /* the caller writes it. A question comes with an invalid one, so that none is forgotten */
 } wt_question;
 
-/* A block. Its key is never 0. Objects are named by numbers that rise, none of them twice. */
+/* A block. Its key is never 0. Objects are named by rising numbers, none of them twice. */
 typedef struct wt_block {
     uint64_t key;
     uint64_t object;
     uint64_t offset;
-    uint64_t size; /* at least what was asked for */
+    uint64_t size; /* at least wt_block.asked */
     uint32_t memory_type;
-    uint32_t fresh; /* wt_alloc: 1 where the object is the one that was made for it, and else 0. Elsewhere 0 */
-    uint64_t user;  /* the value of wt_request.user, or of the last wt_set_user. That of an import is 0 at first */
-    uint64_t asked; /* wt_request.size; of an import its size */
-    uint32_t flags; /* WT_OPTIMAL as the request had it, and else 0. An import counts as linear */
+    uint32_t fresh; /* wt_alloc: 1 where the object was made for it, otherwise 0. Other calls: 0 */
+    uint64_t user;  /* the value of wt_request.user, or of the last wt_set_user. An import's starts as 0 */
+    uint64_t asked; /* wt_request.size; for an import its size */
+    uint32_t flags; /* WT_OPTIMAL if the request had it, otherwise 0. An import counts as linear */
     uint32_t reserved; /* 0 */
 } wt_block;
 
@@ -293,29 +295,29 @@ typedef struct wt_range {
 } wt_range;
 
 typedef struct wt_counts {
-    uint64_t blocks;    /* live ones */
-    uint64_t unread;    /* names of objects to free that wt_gone has not read yet */
+    uint64_t blocks;    /* live blocks */
+    uint64_t unread;    /* names of released objects that wt_gone has not read yet */
     uint32_t held;      /* objects */
-    uint32_t remaining; /* objects that may be held beside those */
+    uint32_t remaining; /* how many more objects may be held */
 } wt_counts;
 
 typedef struct wt_heap_counts {
-    uint64_t used;      /* what the held objects of the heap count, its lower 64 bits */
-    uint64_t used_high; /* the upper 64 bits, which imports alone can make other than 0 */
+    uint64_t used;      /* how many bytes the held objects of the heap count: the lower 64 bits */
+    uint64_t used_high; /* the upper 64 bits, which only imports can make other than 0 */
     uint64_t budget;    /* how many bytes may still be asked of it: limit less used, or 0 */
     uint64_t limit;     /* the lesser of its size and what wt_set_heap_limit set last */
 } wt_heap_counts;
 
-/* Sums over the objects of a memory type that are held for one purpose. A sum of bytes is its lower 64 bits, and its
-   upper ones, which imports alone can make other than 0. */
+/* Sums over the objects of a memory type that are held for one purpose. A sum of bytes comes as its lower and its upper
+   64 bits. Only imports can make the upper ones other than 0. */
 typedef struct wt_kind_statistics {
     uint64_t objects;
-    uint64_t blocks;          /* live ones in them */
-    uint64_t live_bytes;      /* the sizes of those */
+    uint64_t blocks;          /* live blocks in them */
+    uint64_t live_bytes;      /* the sizes of those blocks */
     uint64_t live_bytes_high;
     uint64_t free_bytes;      /* the sizes of their free ranges */
     uint64_t free_bytes_high;
-    uint64_t largest_free;    /* the size of the largest of those, or 0 */
+    uint64_t largest_free;    /* the size of the largest free range, or 0 */
 } wt_kind_statistics;
 
 typedef struct wt_type_statistics {
@@ -326,127 +328,130 @@ typedef struct wt_type_statistics {
     wt_kind_statistics fit;       /* objects whose blocks are as long as asked (WT_FIT) */
 } wt_type_statistics;
 
-/* The library's version: WT_VERSION of its header. */
+/* The library's version: WT_VERSION of the header that it was built with. */
 uint32_t wt_version(void);
 
 /* Opens a closed allocator for a device that offers these.
-   WT_ALREADY_OPEN, WT_BAD_PROPERTIES, WT_OUT_OF_HOST_MEMORY: it is as before. */
+   WT_ALREADY_OPEN, WT_BAD_PROPERTIES, WT_OUT_OF_HOST_MEMORY: it is unchanged. */
 uint32_t wt_open(wt_allocator *a, const wt_memory_type *types, size_t types_len, const uint64_t *heap_sizes,
                  size_t heaps_len, const wt_limits *limits, const wt_config *config);
 
-/* Closes it, and gives all of its memory back to free (tested under valgrind, since no contract can say so).
-   WT_NOT_OPEN, WT_STILL_HELD, WT_UNREAD_NAMES: it is as before. */
+/* Closes it, and frees all of its memory (tested under valgrind, since no contract can say so).
+   WT_NOT_OPEN, WT_STILL_HELD, WT_UNREAD_NAMES: it is unchanged. */
 uint32_t wt_close(wt_allocator *a);
 
 /* Allocates a block.
-   WT_OK: *block says where it lies. Where it is fresh, its object is the one that the last WT_GRANTED to
-   WT_ALLOCATE that counts made, which has the name block->object from then on. Any other object that was made for
-   this request is the caller's to free: one whose mapping failed, or one that is not needed any more since another
-   call came between. Answers that are left over count nowhere, but have to be answers.
-   WT_ASK: *question is the next one, to be answered and appended. It may lie behind the asked ones in their array.
+   WT_OK: *block says where it lies. Where it is fresh, its object was made by the last WT_GRANTED answer to WT_ALLOCATE
+   that counts, and has the name block->object from then on. Any other object that was made for this request is the
+   caller's to free: its mapping failed, or another call came between and it is no longer needed. Answers that are left
+   over do not count, but must be valid.
+   WT_ASK: *question is the next one, to be answered and appended. It may stand right after the asked ones in their
+   array.
    Any other status ends the request: WT_OUT_OF_DEVICE_MEMORY to WT_TOO_MANY_OBJECTS, WT_WOULD_ASK; WT_NOT_OPEN,
-   WT_BAD_SIZE, WT_BAD_ALIGNMENT, WT_BAD_USAGE, WT_BAD_DEDICATED, WT_BAD_FLAGS, WT_NO_DEVICE_ADDRESS, WT_BAD_ANSWER,
-   or WT_OTHER_QUESTION, as where another call came between and something else is asked now. Nothing is changed then,
-   and each object that was made for this request is the caller's to free.
-   With WT_HELD_ONLY nothing is asked: WT_ASK, WT_TOO_MANY_OBJECTS and WT_OTHER_QUESTION never come, answers count
-   nowhere, and WT_OUT_OF_DEVICE_MEMORY says that the size is over the limit.
-   Of several misuses the first of these is told: closed, usage, dedicated, flags, an answer, and then the others. */
+   WT_BAD_SIZE, WT_BAD_ALIGNMENT, WT_BAD_USAGE, WT_BAD_DEDICATED, WT_BAD_FLAGS, WT_NO_DEVICE_ADDRESS, WT_BAD_ANSWER, or
+   WT_OTHER_QUESTION, for instance where another call came between and something else is asked now. Nothing is changed
+   then, and each object that was made for this request is the caller's to free.
+   With WT_HELD_ONLY nothing is asked. WT_ASK, WT_TOO_MANY_OBJECTS and WT_OTHER_QUESTION never come, answers do not
+   count, and WT_OUT_OF_DEVICE_MEMORY means that the size is over the limit.
+   Of several misuses the first in this order is reported: closed, usage, dedicated, flags, an answer, and then the
+   others. */
 uint32_t wt_alloc(wt_allocator *a, const wt_request *request, const wt_question *asked, size_t asked_len,
                   wt_block *block, wt_question *question);
 
-/* Takes a range of an object of the caller's as a block. The object has object_size bytes and is not mapped; it is
-   the allocator's from then on, under the name block->object, and reported by wt_gone once the block is freed. Its
-   heap counts the block's size for it, and not the object's.
+/* Imports a range of the caller's own object as a block. The object has object_size bytes and is not mapped. It is the
+   allocator's from then on, under the name block->object, and wt_gone reports it once the block is freed. Its heap
+   counts the block's size for it, not the object's.
    WT_NOT_OPEN, WT_BAD_MEMORY_TYPE, WT_BAD_SIZE, WT_BAD_RANGE, WT_BAD_IMPORT_END, WT_NO_REMAINING,
    WT_OUT_OF_HOST_MEMORY: nothing is changed, and the object stays the caller's. */
 uint32_t wt_import(wt_allocator *a, uint32_t memory_type, uint64_t object_size, uint64_t offset, uint64_t size,
                    wt_block *block);
 
-/* Says again where a block lies. WT_NOT_OPEN, WT_UNKNOWN_KEY. */
+/* Reports again where a block lies. WT_NOT_OPEN, WT_UNKNOWN_KEY. */
 uint32_t wt_block_of(wt_allocator *a, uint64_t key, wt_block *block);
 
-/* Sets a block's value of the caller's (wt_block.user), and changes nothing else. WT_NOT_OPEN, WT_UNKNOWN_KEY. */
+/* Sets the caller's value of a block (wt_block.user), and changes nothing else. WT_NOT_OPEN, WT_UNKNOWN_KEY. */
 uint32_t wt_set_user(wt_allocator *a, uint64_t key, uint64_t user);
 
-/* Walks the live blocks, in the order of their keys' places: writes as many as there are and as fit in room. *count is
-   how many it wrote; fewer than room: there are no more. after is 0 for the first call, and then the key of the last
-   block written. It counts by its place alone (the lower 32 bits of a key), and may have been freed meanwhile. A walk
-   without other calls between writes each live block exactly once; one with calls between writes each block that lived
-   all along exactly once. With room 0 nothing is written. WT_NOT_OPEN. */
+/* Walks the live blocks, in the order of their keys' places. It writes as many as there are and as fit in room. *count
+   is how many it wrote; where that is less than room, there are no more. after is 0 for the first call, and then the
+   key of the last block written. Only its place counts (the lower 32 bits of a key); its block may have been freed
+   meanwhile. A walk without other calls between writes each live block exactly once. A walk with calls between writes
+   each block that lived all along exactly once. With room 0 nothing is written. WT_NOT_OPEN. */
 uint32_t wt_blocks(wt_allocator *a, uint64_t after, wt_block *blocks, size_t room, size_t *count);
 
-/* The memory types that would serve a request with this usage and these permitted types, the best one first, for
-   imports and for objects that the program makes: as many as fit in room. *count is how many there are in all, at most
-   32; none is no error. WT_NOT_OPEN, WT_BAD_USAGE, WT_NO_DEVICE_ADDRESS, WT_OUT_OF_HOST_MEMORY. */
+/* The memory types that would serve a request with this usage and these permitted types, the best one first, as many as
+   fit in room: for imports and for objects that the program makes. *count is how many there are in all, at most 32, and
+   may be 0. WT_NOT_OPEN, WT_BAD_USAGE, WT_NO_DEVICE_ADDRESS, WT_OUT_OF_HOST_MEMORY. */
 uint32_t wt_candidates(wt_allocator *a, uint32_t usage, uint32_t memory_types, uint32_t *types, size_t room,
                        size_t *count);
 
 /* Maps size bytes of a block from offset on, counted from its start.
-   WT_OK: *mapped says where they lie in the object. A block of a shared object asks nothing, as that was mapped
-   whole when it was made (WT_MAP_MADE). Where asked (WT_ASK, as of wt_alloc), the range of the question covers
-   them, where the memory is not coherent in whole atoms, cut at the block's end. WT_NOT_OPEN, WT_UNKNOWN_KEY,
-   WT_BAD_SIZE, WT_BAD_RANGE, WT_NON_HOST_VISIBLE, WT_ALREADY_MAPPED, WT_BAD_ANSWER, WT_OTHER_QUESTION, and what
-   the device answered: nothing is changed, and what was mapped for it is the caller's to unmap. */
+   WT_OK: *mapped says where they lie in the object. A block of a shared object needs no question, as the object was
+   mapped whole when it was made (WT_MAP_MADE). For any other (WT_ASK, as for wt_alloc), the question's range covers
+   them; where the memory is not coherent, in whole atoms, cut at the block's end.
+   WT_NOT_OPEN, WT_UNKNOWN_KEY, WT_BAD_SIZE, WT_BAD_RANGE, WT_NON_HOST_VISIBLE, WT_ALREADY_MAPPED, WT_BAD_ANSWER,
+   WT_OTHER_QUESTION, and the device's answers: nothing is changed, and what was mapped for it is the caller's to
+   unmap. */
 uint32_t wt_map(wt_allocator *a, uint64_t key, uint64_t offset, uint64_t size, const wt_question *asked,
                 size_t asked_len, wt_range *mapped, wt_question *question);
 
-/* Ends a block's mapping, if it has one. *object is the name of the object to unmap (vkUnmapMemory), or 0 where
-   nothing has to be unmapped: a shared object stays mapped. WT_NOT_OPEN, WT_UNKNOWN_KEY. */
+/* Unmaps a block. *object is the name of the object to unmap (vkUnmapMemory), or 0 where nothing must be unmapped: the
+   block was not mapped, or its object is shared and stays mapped. WT_NOT_OPEN, WT_UNKNOWN_KEY. */
 uint32_t wt_unmap(wt_allocator *a, uint64_t key, uint64_t *object);
 
-/* The range to flush once the host wrote size bytes of a block from offset on, or to invalidate before it reads
-   them: whole atoms, cut at the block's end. Its size is 0 where nothing has to be: the memory is coherent, or
-   size is 0. That of an import may begin before the block, by less than an atom. WT_NOT_OPEN, WT_UNKNOWN_KEY,
-   WT_BAD_RANGE, WT_NON_HOST_VISIBLE. */
+/* The range to flush after the host wrote size bytes of a block from offset on, or to invalidate before it reads them:
+   whole atoms, cut at the block's end. Its size is 0 where no flush is needed: the memory is coherent, or size is 0.
+   The range of an import may begin before the block, by less than an atom. WT_NOT_OPEN, WT_UNKNOWN_KEY, WT_BAD_RANGE,
+   WT_NON_HOST_VISIBLE. */
 uint32_t wt_range_of(wt_allocator *a, uint64_t key, uint64_t offset, uint64_t size, wt_range *range);
 
-/* Takes a block back, mapped or not. The device must be done with it. Its object goes with it where it was the last
-   block there, but for one chunk of a free list, and one fit chunk of a memory type, which wait for wt_cleanup; wt_gone
-   reports what goes. The key is refused from then on. WT_NOT_OPEN, WT_UNKNOWN_KEY. */
+/* Frees a block, mapped or not. The device must be done with it. Its object is released with it where no other block is
+   in it. Only one chunk of a free list, and one fit chunk of a memory type, wait for wt_cleanup. wt_gone reports what
+   is released. The key is invalid from then on. WT_NOT_OPEN, WT_UNKNOWN_KEY. */
 uint32_t wt_free(wt_allocator *a, uint64_t key);
 
-/* Lets the last free chunk of each free list, and of each memory type's fit chunks, go too; wt_gone reports them. After
-   it no object is held without a live block. WT_NOT_OPEN. */
+/* Releases the last unused chunk of each free list, and of each memory type's fit chunks, too; wt_gone reports them. No
+   object is then held without a live block. WT_NOT_OPEN. */
 uint32_t wt_cleanup(wt_allocator *a);
 
-/* Reads names of objects that are the caller's to free (vkFreeMemory): as many as there are and as fit in room,
-   *count. Each is read once, in no certain order; the others wait. WT_NOT_OPEN. */
+/* Reads names of released objects, which are the caller's to free (vkFreeMemory): as many as there are and as fit in
+   room. *count is how many. Each is read once, in no particular order; the others wait. WT_NOT_OPEN. */
 uint32_t wt_gone(wt_allocator *a, uint64_t *names, size_t room, size_t *count);
 
-/* How many blocks are live, and so on. WT_NOT_OPEN. */
+/* How many blocks, unread names and objects there are. WT_NOT_OPEN. */
 uint32_t wt_count(wt_allocator *a, wt_counts *counts);
 
 /* What is held of a heap, and what may still be asked of it. WT_NOT_OPEN, WT_BAD_HEAP. */
 uint32_t wt_heap(wt_allocator *a, uint32_t heap, wt_heap_counts *counts);
 
-/* From now on no question asks for more of a heap than is left of limit bytes, by all that is held of it: a memory type
-   whose heap has not so much left is passed, not asked. It is for what VK_EXT_memory_budget says
-   of a heap at run time, and may be set at any time, also between two answers to one request. One at or over the heap's
-   size is none, as at first. One below what is held refuses new objects and takes nothing away: blocks stay, and free
-   bytes of held objects are given out. Imports count, and are never refused for it. When an object is made, and how
-   large a shared one is, goes on by the heap's size: no smaller one is tried. WT_NOT_OPEN, WT_BAD_HEAP. */
+/* Sets a heap's limit, in bytes. From now on no question asks for more of the heap than the limit leaves, given all
+   that is held of it: a memory type whose heap has too little left is passed over, not asked. Use it with what
+   VK_EXT_memory_budget reports of a heap at run time. It may be set at any time, even between two answers to one
+   request. A limit at or above the heap's size removes the limit. One below what is held refuses new objects and takes
+   nothing away: blocks stay, and free bytes of held objects are given out. Imports count, and are never refused for it.
+   When an object is made, and how large a shared one is, still depends on the heap's size: no smaller one is tried.
+   WT_NOT_OPEN, WT_BAD_HEAP. */
 uint32_t wt_set_heap_limit(wt_allocator *a, uint32_t heap, uint64_t limit);
 
-/* From now on this many objects may be held beside those that are. WT_NOT_OPEN, WT_TOO_MANY_REMAINING. */
+/* Sets how many more objects may be held, on top of those that are. WT_NOT_OPEN, WT_TOO_MANY_REMAINING. */
 uint32_t wt_set_remaining(wt_allocator *a, uint32_t remaining);
 
-/* The free ranges of a memory type's shared objects, in the order of their objects and offsets: those from the one of
-   number first on, as many as fit in room. *count is how many there are in all. WT_NOT_OPEN, WT_BAD_MEMORY_TYPE,
-   WT_OUT_OF_HOST_MEMORY. */
+/* The free ranges of a memory type's shared objects, sorted by object and offset: from index first on, as many as fit
+   in room. *count is how many there are in all. WT_NOT_OPEN, WT_BAD_MEMORY_TYPE, WT_OUT_OF_HOST_MEMORY. */
 uint32_t wt_free_ranges(wt_allocator *a, uint32_t memory_type, size_t first, wt_range *ranges, size_t room,
                         size_t *count);
 
-/* What is held of a memory type, by what it is held for. As wt_report, it takes memory and time for all that is held.
+/* What is held of a memory type, by what it is held for. Like wt_report, it takes memory and time for all that is held.
    WT_NOT_OPEN, WT_BAD_MEMORY_TYPE, WT_OUT_OF_HOST_MEMORY. */
 uint32_t wt_statistics(wt_allocator *a, uint32_t memory_type, wt_type_statistics *statistics);
 
 /* A report of all that is held, as JSON: heaps, memory types, sums by type and kind, and each object with its live
-   blocks (by key and user) and free ranges; scripts/picture of the repository draws it. At most room bytes are written,
-   the first of the text, with no 0 behind them. *length is the length of all of it, so that a call with room 0 tells
-   how much room it wants. WT_NOT_OPEN, WT_OUT_OF_HOST_MEMORY. */
+   blocks (by key and user) and free ranges. scripts/picture of the repository draws it. At most room bytes are written,
+   from the start of the text, without a terminating 0. *length is the length of the whole text, so a call with room 0
+   returns how much room is needed. WT_NOT_OPEN, WT_OUT_OF_HOST_MEMORY. */
 uint32_t wt_report(wt_allocator *a, char *text, size_t room, size_t *length);
 
-/* What a status means, in a line with no full stop. */
+/* What a status means, in a line without a full stop. */
 static inline const char *wt_text(uint32_t status) {
     switch (status) {
     case WT_OK: return "Done";

@@ -1,27 +1,27 @@
-/* Wallthyme over Vulkan, for C++ (C++11 and later): objects that own their memory and free it themselves. It is a
- * header alone, over wallthyme_vulkan.h, whose structs, rules and results it shares.
+/* Wallthyme over Vulkan, for C++ (C++11 and later): objects that own their memory and free it themselves. It needs only
+ * this header and wallthyme_vulkan.h, whose structs, rules and results it shares.
  *
  *     wallthyme::Allocator memory = wallthyme::Allocator::create(info);
  *     wallthyme::Buffer buffer = memory.create_buffer(buffer_info, wallthyme::request(WT_USAGE_UPLOAD));
  *     buffer.write(0, bytes, size);
  *
- * Errors. A call that fails throws wallthyme::Error, which carries the VkResult, and nothing has changed. Which results
- * there are stands at the call of wallthyme_vulkan.h that is named; each call of an empty object adds
+ * Errors. A call that fails throws wallthyme::Error, which carries the VkResult, and nothing has changed. The results
+ * are listed at the call of wallthyme_vulkan.h that is named; each call of an empty object adds
  * VK_ERROR_VALIDATION_FAILED_EXT. Where exceptions are off, or with WALLTHYME_NO_EXCEPTIONS, a call returns its result:
  * Returned<T> is a Result<T> then, with a value and a VkResult, and Done is a VkResult. Files of both forms may be
  * linked into one program. Moves and destructors never fail.
  *
- * Ownership. Each object can be moved, and not copied. One that was moved from is empty, as one that was created
- * without arguments: it may be assigned, reset or destroyed. Objects may end in any order: each of them keeps the
- * C allocator alive, which ends with the last one. That costs 8 bytes an object, and an atomic operation at its start
- * and its end. The program sees to these:
+ * Ownership. Each object can be moved, and not copied. One that was moved from is empty, like one that was created
+ * without arguments: it may be assigned, reset or destroyed. Objects may end in any order: each keeps the C
+ * allocator alive, which ends with the last one. That costs 8 bytes per object, and an atomic operation at its start
+ * and its end. The program must ensure:
  * - The VkDevice ends after all of them.
- * - The device is done with a buffer, image or block before it ends; what was bound to a Block is destroyed before.
- * - What it makes by calls of wallthyme_vulkan.h with get(), it frees before the last object ends. Else the C allocator
- *   stays as it is, with its memory objects.
+ * - The device is done with a buffer, image or block before it ends; what was bound to a Block is destroyed first.
+ * - What it makes by calls of wallthyme_vulkan.h with get(), it frees before the last object ends. Otherwise the C
+ *   allocator stays as it is, with its memory objects.
  *
- * Threads. As wallthyme_vulkan.h: different objects may be used by different threads at once, unless the allocator has
- * WTV_CREATE_NO_LOCK. One object is used by one thread at a time where it is moved, assigned, reset or destroyed.
+ * Threads. As in wallthyme_vulkan.h: different threads may use different objects at once, unless the allocator has
+ * WTV_CREATE_NO_LOCK. While an object is moved, assigned, reset or destroyed, only one thread may use it.
  *
  * Handles are Vulkan's own, so those of vulkan.hpp go in and come out by its conversions. Sizes and offsets are bytes.
  */
@@ -59,8 +59,8 @@
 
 namespace wallthyme {
 
-/* The name of a result, as "VK_ERROR_DEVICE_LOST", where wallthyme_vulkan.h names it or drivers return it from the
-   calls that are made; of another one "a VkResult". */
+/* The name of a result, such as "VK_ERROR_DEVICE_LOST", where wallthyme_vulkan.h names it or drivers return it from the
+   calls that are made; for any other "a VkResult". */
 inline const char *name_of(VkResult result) noexcept {
     switch (result) {
     case VK_SUCCESS: return "VK_SUCCESS";
@@ -79,7 +79,7 @@ inline const char *name_of(VkResult result) noexcept {
     }
 }
 
-/* A request for memory of a usage (WT_USAGE_..), with a value of the program's; its other fields are defaults. */
+/* A request for memory of a usage (WT_USAGE_..), with the program's own value; its other fields are defaults. */
 inline wtv_request request(uint32_t usage, uint64_t user = 0) noexcept {
     wtv_request made = wtv_request();
     made.usage = usage;
@@ -87,7 +87,7 @@ inline wtv_request request(uint32_t usage, uint64_t user = 0) noexcept {
     return made;
 }
 
-/* What an allocator is created over; its other fields are defaults. */
+/* The parameters of an allocator; its other fields are defaults. */
 inline wtv_create_info create_info(VkInstance instance, VkPhysicalDevice physical_device, VkDevice device,
                                    PFN_vkGetInstanceProcAddr get_instance_proc_addr, uint32_t api_version) noexcept {
     wtv_create_info made = wtv_create_info();
@@ -130,7 +130,7 @@ template <class T> Returned<T> returned(VkResult result, T &value, const char *)
 #else
 inline namespace with_exceptions {
 
-/* What a call throws. Where memory lacks for its text, std::bad_alloc is thrown in its place. */
+/* What a call throws. Where there is no memory for its text, std::bad_alloc is thrown in its place. */
 class Error : public std::runtime_error {
 public:
     Error(VkResult result, const char *call)
@@ -158,7 +158,7 @@ template <class T> Returned<T> returned(VkResult result, T &value, const char *c
 
 namespace detail {
 
-/* Keeps a C allocator alive, or nothing. */
+/* Keeps a C allocator alive, if it has one. */
 class Keeper {
 public:
     Keeper() noexcept : kept_(nullptr) {}
@@ -200,7 +200,7 @@ private:
     Kept *kept_;
 };
 
-/* A call of the C interface, where there is an allocator to make it with. */
+/* A call of the C interface, if there is an allocator to make it with. */
 template <class... Parameters, class... Arguments>
 VkResult call(VkResult (*function)(wtv_allocator *, Parameters...), const Keeper &keeper, Arguments... arguments) {
     return keeper.get() != nullptr ? function(keeper.get(), arguments...) : VK_ERROR_VALIDATION_FAILED_EXT;
@@ -231,7 +231,7 @@ public:
 
     explicit operator bool() const noexcept { return bytes_ != nullptr; }
 
-    /* The block's first byte, as long as block and mapping live; null of an empty mapping. */
+    /* The block's first byte, as long as block and mapping live; null for an empty mapping. */
     void *get() const noexcept { return bytes_; }
     template <class T> T *as() const noexcept { return static_cast<T *>(bytes_); }
 
@@ -268,17 +268,17 @@ public:
     /* Whether it is not empty. */
     explicit operator bool() const noexcept { return allocation_ != 0; }
 
-    /* Its name for calls of wallthyme_vulkan.h; 0 of an empty one. */
+    /* Its name for calls of wallthyme_vulkan.h; 0 for an empty one. */
     wtv_allocation allocation() const noexcept { return allocation_; }
 
-    /* Where the block lies, and what it is: wtv_block_of. */
+    /* Reports the block: wtv_block_of. */
     Returned<wtv_block> info() const {
         wtv_block block = wtv_block();
         const VkResult result = detail::call(wtv_block_of, keeper_, allocation_, &block);
         return detail::returned(result, block, "info");
     }
 
-    /* wtv_map. The mapping is to end before the block does. */
+    /* wtv_map. The mapping must end before the block does. */
     WALLTHYME_NODISCARD Returned<Mapping> map() const {
         Mapping made;
         const VkResult result = detail::call(wtv_map, keeper_, allocation_, &made.bytes_);
@@ -289,7 +289,7 @@ public:
         return detail::returned(result, made, "map");
     }
 
-    /* Copies bytes into the block from offset on, and flushes them: wtv_write. Or out, once invalidated: wtv_read. */
+    /* Copies bytes in from offset on, and flushes them: wtv_write; or invalidates, and copies out: wtv_read. */
     WALLTHYME_DONE write(VkDeviceSize offset, const void *bytes, std::size_t size) const {
         return detail::done(detail::call(wtv_write, keeper_, allocation_, offset, bytes, size), "write");
     }
@@ -297,7 +297,7 @@ public:
         return detail::done(detail::call(wtv_read, keeper_, allocation_, offset, bytes, size), "read");
     }
 
-    /* Sets the program's value of the block: wtv_set_user. */
+    /* Sets the program's own value of the block: wtv_set_user. */
     WALLTHYME_DONE set_user(uint64_t user) const {
         return detail::done(detail::call(wtv_set_user, keeper_, allocation_, user), "set_user");
     }
@@ -334,14 +334,14 @@ public:
     }
     ~Resource() { call(destroy, keeper_, handle_, allocation_); }
 
-    /* Vulkan's handle; null of an empty one. */
+    /* Vulkan's handle; null for an empty one. */
     Handle get() const noexcept { return handle_; }
 
     /* Ends it now: destroys the resource and frees its block. */
     void reset() noexcept { *this = Resource(); }
 
-    /* Leaves resource and block to the program, which destroys them by the C interface with get() and allocation() of
-       before. The object is empty then. */
+    /* Leaves resource and block to the program, which destroys them by the C interface with the earlier get() and
+       allocation(). The object is empty then. */
     void release() noexcept {
         allocation_ = 0;
         handle_ = Handle();
@@ -365,7 +365,7 @@ class Buffer : public detail::Resource<VkBuffer, wtv_destroy_buffer> {};
 /* An image with its memory. */
 class Image : public detail::Resource<VkImage, wtv_destroy_image> {};
 
-/* Memory without a resource of its own. What is bound to it is the program's, and destroyed before the block ends. */
+/* Memory without a resource of its own. What is bound to it is the program's, to be destroyed before the block ends. */
 class Block : public Allocation {
 public:
     Block() noexcept {}
@@ -380,13 +380,13 @@ public:
     /* Frees it now. */
     void reset() noexcept { *this = Block(); }
 
-    /* Leaves the block to the program, which frees it by wtv_free with allocation() of before. */
+    /* Leaves the block to the program, which frees it by wtv_free with the earlier allocation(). */
     void release() noexcept {
         allocation_ = 0;
         keeper_ = detail::Keeper();
     }
 
-    /* Binds a resource of the program's to the block, from offset on: wtv_bind_buffer, wtv_bind_image. */
+    /* Binds the program's own resource to the block, from offset on: wtv_bind_buffer, wtv_bind_image. */
     WALLTHYME_DONE bind_buffer(VkBuffer buffer, VkDeviceSize offset = 0) const {
         return detail::done(detail::call(wtv_bind_buffer, keeper_, allocation_, offset, buffer), "bind_buffer");
     }
@@ -416,7 +416,7 @@ public:
 
     explicit operator bool() const noexcept { return get() != nullptr; }
 
-    /* The C allocator, for calls of wallthyme_vulkan.h; null of an empty one. It lives as long as an object over it. */
+    /* The C allocator, for calls of wallthyme_vulkan.h; null for an empty one. It lives as long as objects over it. */
     wtv_allocator *get() const noexcept { return keeper_.get(); }
 
     /* Gives up its share: what it made lives on. */
@@ -432,7 +432,7 @@ public:
         return resource<Image>(wtv_create_image, info, request, "create_image");
     }
 
-    /* Allocates memory: wtv_allocate. With the second and third, for a resource of the program's, and binds it:
+    /* Allocates memory: wtv_allocate. The second and third do so for the program's own resource, and bind it:
        wtv_allocate_for_buffer, wtv_allocate_for_image. */
     WALLTHYME_NODISCARD Returned<Block> allocate(const VkMemoryRequirements &requirements,
                                                  const wtv_request &request = wtv_request()) const {
@@ -447,7 +447,7 @@ public:
         return block("allocate_for_image", wtv_allocate_for_image, image, &request);
     }
 
-    /* Takes a range of a memory object of the program's as a block: wtv_import. */
+    /* Imports a range of the program's own memory object as a block: wtv_import. */
     WALLTHYME_NODISCARD Returned<Block> import_memory(VkDeviceMemory memory, uint32_t memory_type,
                                                       VkDeviceSize object_size, VkDeviceSize offset,
                                                       VkDeviceSize size) const {

@@ -1,8 +1,8 @@
 /* Wallthyme over Vulkan, for C (C99 and later) and C++ (C++11 and later): buffers and images with their memory.
  *
- * wallthyme.h decides where each block lies, and that is proved. This side makes the calls of Vulkan that those
- * decisions want. It is tested, not proved. It does not link to libvulkan: the program hands in vkGetInstanceProcAddr,
- * or a table of functions. Any device serves from Vulkan 1.0 on.
+ * wallthyme.h decides where each block lies, and that is proved. This side makes the Vulkan calls that those decisions
+ * need. It is tested, not proved. It does not link to libvulkan: the program passes in vkGetInstanceProcAddr, or a
+ * table of functions. It works with any device, from Vulkan 1.0 on.
  *
  *     wtv_create_info info = {.instance = instance, .physical_device = physical_device, .device = device};
  *     info.get_instance_proc_addr = vkGetInstanceProcAddr;
@@ -11,31 +11,31 @@
  *     wtv_create_buffer(allocator, &buffer_info, &request, &buffer, &allocation, NULL);
  *     wtv_write(allocator, allocation, 0, bytes, size);
  *
- * Results. A call returns VK_SUCCESS, or an error and then nothing has changed. These mean the same everywhere:
+ * Results. A call returns VK_SUCCESS, or an error, after which nothing has changed. These mean the same everywhere:
  * - VK_ERROR_OUT_OF_HOST_MEMORY, VK_ERROR_OUT_OF_DEVICE_MEMORY, VK_ERROR_MEMORY_MAP_FAILED, VK_ERROR_DEVICE_LOST: as
- *   the driver returned them. VK_ERROR_OUT_OF_DEVICE_MEMORY also stands for a request that is larger than the device
- *   allows, or than every permitted heap's limit leaves, or that needs an object with WT_HELD_ONLY;
- *   VK_ERROR_OUT_OF_HOST_MEMORY for memory that this side or the library lacks.
+ *   the driver returned them. VK_ERROR_OUT_OF_DEVICE_MEMORY is also for a request that is larger than the device allows
+ *   or than every permitted heap's limit leaves, or that needs an object with WT_HELD_ONLY. VK_ERROR_OUT_OF_HOST_MEMORY
+ *   is also for memory that this side or the library lacks.
  * - VK_ERROR_TOO_MANY_OBJECTS: as many memory objects are held as the device allows.
  * - VK_ERROR_FEATURE_NOT_PRESENT: no permitted memory type serves the usage, or the resource is sparse or disjoint.
- * - VK_ERROR_VALIDATION_FAILED_EXT: an argument that the call forbids, as an unknown allocation or a range that passes
- *   the end of its block.
- * Any other error is the driver's. How driver errors end or continue a request stands at wtv_create_buffer.
+ * - VK_ERROR_VALIDATION_FAILED_EXT: an argument that the call forbids, such as an unknown allocation or a range that
+ *   ends past its block.
+ * Any other error is the driver's. wtv_create_buffer says which driver errors end a request and which do not.
  *
- * Threads. Calls may come from any thread: each takes the allocator's lock, and keeps it until its request or return
- * has ended, the driver's calls for memory objects included. Buffers and images are created and bound without it.
- * WTV_CREATE_NO_LOCK leaves the lock out; the program then makes one call at a time. wtv_destroy wants no other call
- * beside it. VkAllocationCallbacks must not call the allocator they serve.
+ * Threads. Calls may come from any thread. Each takes the allocator's lock and keeps it until its request or its free
+ * has ended, including the driver's calls for memory objects. Buffers and images are created and bound without it.
+ * WTV_CREATE_NO_LOCK leaves the lock out; the program then makes one call at a time. No other call may run during
+ * wtv_destroy. VkAllocationCallbacks must not call the allocator that they serve.
  *
- * Memory. It takes its own from malloc: bounded by the most blocks and objects that were held at once.
+ * Memory. It takes its own memory from malloc. The most blocks and objects that were held at once bound how much.
  *
  * What the host writes and reads. Two rules of Vulkan concern every program:
- * - What the host wrote reaches the device once it is flushed, where the memory is not coherent, and commands are
+ * - The host's writes reach the device once they are flushed, where the memory is not coherent, and commands are
  *   submitted after that. wtv_write flushes by itself; after writes through a pointer call wtv_flush.
- * - What the device wrote reaches the host once a barrier made it available to VK_PIPELINE_STAGE_HOST_BIT with
- *   VK_ACCESS_HOST_READ_BIT, a fence was waited for, and the range was invalidated, where the memory is not coherent.
+ * - The device's writes reach the host once a barrier made them available to VK_PIPELINE_STAGE_HOST_BIT with
+ *   VK_ACCESS_HOST_READ_BIT, a fence was waited for, and, where the memory is not coherent, the range was invalidated.
  *   wtv_read invalidates by itself; before reads through a pointer call wtv_invalidate.
- * A flush writes whole atoms (nonCoherentAtomSize). Where the device wrote beside the host's bytes in one block,
+ * A flush writes whole atoms (nonCoherentAtomSize). Where the device wrote next to the host's bytes in one block,
  * invalidate before the host writes. Blocks of shared objects never share an atom (proved).
  *
  * Sizes and offsets are bytes.
@@ -52,7 +52,7 @@ extern "C" {
 
 typedef struct wtv_allocator wtv_allocator;
 
-/* A live block: wt_block.key. 0 is none. A freed one is refused as unknown, also where its place is used again. */
+/* A live block: wt_block.key. 0 is no block. A freed one is refused as unknown, even after its place is used again. */
 typedef uint64_t wtv_allocation;
 
 /* The functions that are called. */
@@ -79,17 +79,17 @@ typedef struct wtv_functions {
     PFN_vkBindImageMemory bind_image_memory;
 } wtv_functions;
 
-/* wtv_create_info.flags. The first four say what the program enabled; api_version 1.1 implies the first two. */
+/* wtv_create_info.flags. The first four say what the program has enabled; api_version 1.1 implies the first two. */
 enum {
     WTV_CREATE_PROPERTIES2 = 0x01,           /* VK_KHR_get_physical_device_properties2, of the instance, and
                                                 VK_KHR_maintenance3 */
     WTV_CREATE_DEDICATED_ALLOCATION = 0x02,  /* VK_KHR_get_memory_requirements2 and VK_KHR_dedicated_allocation */
-    WTV_CREATE_MEMORY_BUDGET = 0x04,         /* VK_EXT_memory_budget; wants properties2 */
+    WTV_CREATE_MEMORY_BUDGET = 0x04,         /* VK_EXT_memory_budget; needs properties2 */
     WTV_CREATE_DEVICE_ADDRESS = 0x08,        /* the feature bufferDeviceAddress */
     WTV_CREATE_NO_LOCK = 0x10                /* the program makes one call at a time */
 };
 
-/* What an allocator is created over. Zeros are defaults, but for the three handles and for one of the two ways to the
+/* The parameters of an allocator. Zeros are defaults, except for the three handles and for one of the two ways to the
    functions. */
 typedef struct wtv_create_info {
     VkInstance instance;
@@ -97,29 +97,29 @@ typedef struct wtv_create_info {
     VkDevice device;
     uint32_t flags;       /* WTV_CREATE_.. */
     uint32_t api_version; /* the lesser of what the instance was created for and what the device offers; 0: 1.0 */
-    PFN_vkGetInstanceProcAddr get_instance_proc_addr; /* loads the functions; null where the table has them all */
-    const wtv_functions *functions;         /* taken instead of loaded ones, but where null; copied. Or null */
-    const VkAllocationCallbacks *callbacks; /* go to each call of Vulkan that takes them; copied. Or null */
-    const wt_config *config;                /* null: what wtv_default_config says, with WT_FIT. One that is given says by
-                                               its own sharing how requests share objects: zeros there mean WT_BUDDY */
-    uint32_t other_objects; /* at most so many memory objects does the program make itself, beside this allocator */
+    PFN_vkGetInstanceProcAddr get_instance_proc_addr; /* loads the functions; may be null where the table has all */
+    const wtv_functions *functions;         /* each that is not null replaces the loaded one; copied. Or null */
+    const VkAllocationCallbacks *callbacks; /* passed to each Vulkan call that takes them; copied. Or null */
+    const wt_config *config;                /* null: that of wtv_default_config, with WT_FIT. Any other says by its own
+                                               sharing how requests share objects: zero there means WT_BUDDY */
+    uint32_t other_objects; /* how many memory objects the program makes itself at most, outside this allocator */
 } wtv_create_info;
 
 /* What memory a resource gets. Zeros are defaults. */
 typedef struct wtv_request {
-    uint32_t usage;        /* WT_USAGE_..; 0 is WT_USAGE_FAST_DEVICE_ACCESS. A buffer whose own usage has the shader's
+    uint32_t usage;        /* WT_USAGE_..; 0 means WT_USAGE_FAST_DEVICE_ACCESS. A buffer whose own usage has the shader
                               device address gets WT_USAGE_DEVICE_ADDRESS by itself */
-    uint32_t memory_types; /* bit i permits memory type i; 0 permits all. Those of the resource's requirements that the
-                              library knows remain of it */
+    uint32_t memory_types; /* bit i permits memory type i; 0 permits all. Types that the requirements exclude,
+                              or that the library does not know, are left out */
     uint32_t dedicated;    /* WT_SHARED, WT_PREFERRED or WT_REQUIRED; raised to what the driver asks for */
     uint32_t flags;        /* for wtv_allocate and wtv_allocate_for_image: WT_OPTIMAL for an image whose tiling is not
-                              linear. WT_HELD_ONLY: no memory object is made; VK_ERROR_OUT_OF_DEVICE_MEMORY where none
-                              that is held has a place, so always where the driver requires a dedicated one */
-    uint64_t user;         /* a value of the program's, which stands with the block */
-    const void *next;      /* chained to VkMemoryAllocateInfo exactly where the object holds this block alone: a
-                              priority, an export. It stays the program's. A structure that has to be chained wants
+                              linear. WT_HELD_ONLY: no memory object is made; VK_ERROR_OUT_OF_DEVICE_MEMORY where no
+                              held one has a place, so always where the driver requires a dedicated one */
+    uint64_t user;         /* the program's own value, kept with the block */
+    const void *next;      /* chained to VkMemoryAllocateInfo exactly where the object holds only this block: a
+                              priority, an export. It stays the program's. A structure that must be chained needs
                               WT_REQUIRED. Neither VkMemoryDedicatedAllocateInfo nor VkMemoryAllocateFlagsInfo may be in
-                              it: this side chains them */
+                              it: this side chains those */
 } wtv_request;
 
 /* A block. */
@@ -127,59 +127,59 @@ typedef struct wtv_block {
     wtv_allocation allocation;
     VkDeviceMemory memory;
     VkDeviceSize offset;   /* in memory */
-    VkDeviceSize size;     /* at least what was asked for */
-    VkDeviceSize asked;    /* what was asked for: bind nothing behind these bytes */
-    void *mapped;          /* its first byte, where it is mapped now. A block of a shared object of host-visible memory
+    VkDeviceSize size;     /* at least asked */
+    VkDeviceSize asked;    /* the requested size: bind nothing past these bytes */
+    void *mapped;          /* its first byte while it is mapped, otherwise null. A block of a shared host-visible object
                               is mapped as long as it lives */
     uint64_t user;
     uint32_t memory_type;
     VkMemoryPropertyFlags properties; /* of its memory type */
     uint32_t flags;        /* WT_OPTIMAL, or 0 */
-    uint32_t dedicated;    /* 1 where its memory object holds this block alone, 0 where it is shared */
+    uint32_t dedicated;    /* 1 where its memory object holds only this block, 0 where it is shared */
 } wtv_block;
 
 /* Bytes of a block. */
 typedef struct wtv_range {
     wtv_allocation allocation;
-    VkDeviceSize offset; /* from the block's first byte on */
+    VkDeviceSize offset; /* from the block's first byte */
     VkDeviceSize size;   /* VK_WHOLE_SIZE: up to its end */
 } wtv_range;
 
 /* ---- Allocators. ---- */
 
-/* Creates an allocator. VK_ERROR_OUT_OF_HOST_MEMORY. VK_ERROR_INITIALIZATION_FAILED, where one of these is so:
+/* Creates an allocator. VK_ERROR_OUT_OF_HOST_MEMORY. VK_ERROR_INITIALIZATION_FAILED in any of these cases:
    - instance, physical_device or device is null, or flags has an unknown bit;
-   - api_version is not 0 and no version of Vulkan, as 11 instead of VK_API_VERSION_1_1;
-   - a function is missing: get_instance_proc_addr is null, or does not have one of api_version or of an extension in
-     flags (it is higher than what the instance was created for);
-   - WTV_CREATE_MEMORY_BUDGET without properties2;
-   - the device's properties are not as Vulkan has them (an atom or a granularity that is no power of two);
+   - api_version is neither 0 nor a version of Vulkan, for instance 11 instead of VK_API_VERSION_1_1;
+   - a function is missing: get_instance_proc_addr is null, or does not have a function of api_version or of an
+     extension in flags (it is higher than what the instance was created for);
+   - WTV_CREATE_MEMORY_BUDGET is set without properties2;
+   - the device's properties are not valid in Vulkan (an atom or a granularity that is not a power of two);
    - config has a sharing that is neither WT_BUDDY nor WT_FIT;
    - header and library have different versions. */
 VkResult wtv_create(const wtv_create_info *info, wtv_allocator **allocator);
 
 /* Frees all memory objects, and the allocator itself; null does nothing. Where blocks are live it frees nothing, and
    lists them: VK_ERROR_VALIDATION_FAILED_EXT, *count is their number, and live has the first of them, at most room. So
-   look at its result: the VkDevice must not be destroyed before. live may be null where room is 0, and count may be
-   null. */
+   check its result: the VkDevice must not be destroyed before it succeeds. live may be null where room is 0, and count
+   may be null. */
 VkResult wtv_destroy(wtv_allocator *a, wtv_block *live, size_t room, size_t *count);
 
-/* The configuration of an allocator that is given none. With H the size of the largest device-local heap (of the
-   largest heap, where none is), and U = H / 1024, rounded down to a power of two, at least 64 KiB and at most 8 MiB:
-   requests share fit chunks (WT_FIT) of U to 4 U, and get objects of their own over U (from U / 8 on where preferred, and
-   16 U for transient ones); free lists' chunks from U to 16 U. From 8 GiB on that is WT_CONFIG_PROTOTYPING with WT_FIT.
-   With sharing set to WT_BUDDY: buddy chunks from U on, in blocks of at least 1 KiB, and objects of their own from 4 U
-   on. */
+/* The configuration of an allocator that is given none. H is the size of the largest device-local heap (of the largest
+   heap, where none is device-local). U is H / 1024, rounded down to a power of two, at least 64 KiB and at most 8 MiB.
+   Requests share fit chunks (WT_FIT) of U to 4 U. They get objects of their own over U (from U / 8 on where preferred,
+   and from 16 U on for transient ones). Free lists' chunks grow from U to 16 U. From 8 GiB on this is
+   WT_CONFIG_PROTOTYPING with WT_FIT. With sharing set to WT_BUDDY, there are buddy chunks from U on, with blocks of at
+   least 1 KiB, and objects of their own from 4 U on. */
 void wtv_default_config(const VkPhysicalDeviceMemoryProperties *memory, wt_config *config);
 
 /* ---- Buffers and images. ---- */
 
 /* Creates a buffer, allocates memory for it and binds it. *block is what wtv_block_of returns; block may be null, and
-   request too: all zeros.
+   so may request: it is then all zeros.
    Not for sparse buffers (VK_ERROR_FEATURE_NOT_PRESENT).
    Where the driver refuses an object with VK_ERROR_OUT_OF_DEVICE_MEMORY or VK_ERROR_TOO_MANY_OBJECTS, the next memory
-   type is tried. Any other error ends the request. Whatever was made is destroyed then. Where the bind is refused, the
-   block is freed as by wtv_free: a free chunk of transient blocks, or a free fit chunk, may stay. */
+   type is tried. Any other error ends the request, and whatever was made is destroyed. Where the bind is refused, the
+   block is freed as by wtv_free: an unused chunk of transient blocks, or an unused fit chunk, may stay. */
 VkResult wtv_create_buffer(wtv_allocator *a, const VkBufferCreateInfo *info, const wtv_request *request,
                            VkBuffer *buffer, wtv_allocation *allocation, wtv_block *block);
 
@@ -187,8 +187,8 @@ VkResult wtv_create_buffer(wtv_allocator *a, const VkBufferCreateInfo *info, con
 VkResult wtv_create_image(wtv_allocator *a, const VkImageCreateInfo *info, const wtv_request *request, VkImage *image,
                           wtv_allocation *allocation, wtv_block *block);
 
-/* Destroys a buffer or an image, and frees its block. The device has to be done with it. A null handle with allocation
-   0 does nothing. VK_ERROR_VALIDATION_FAILED_EXT: the allocation is unknown, and nothing is destroyed. */
+/* Destroys a buffer or an image, and frees its block. The device must be done with it. A null handle with allocation 0
+   does nothing. VK_ERROR_VALIDATION_FAILED_EXT: the allocation is unknown, and nothing is destroyed. */
 VkResult wtv_destroy_buffer(wtv_allocator *a, VkBuffer buffer, wtv_allocation allocation);
 VkResult wtv_destroy_image(wtv_allocator *a, VkImage image, wtv_allocation allocation);
 
@@ -198,8 +198,8 @@ VkResult wtv_destroy_image(wtv_allocator *a, VkImage image, wtv_allocation alloc
 VkResult wtv_allocate(wtv_allocator *a, const VkMemoryRequirements *requirements, const wtv_request *request,
                       wtv_allocation *allocation, wtv_block *block);
 
-/* Allocates a block for a buffer or an image of the program's, and binds it. Of an image that is not of linear tiling
-   the request has WT_OPTIMAL, and of a buffer whose address is used WT_USAGE_DEVICE_ADDRESS. */
+/* Allocates a block for the program's own buffer or image, and binds it. For an image whose tiling is not linear the
+   request has WT_OPTIMAL, and for a buffer whose address is used WT_USAGE_DEVICE_ADDRESS. */
 VkResult wtv_allocate_for_buffer(wtv_allocator *a, VkBuffer buffer, const wtv_request *request,
                                  wtv_allocation *allocation, wtv_block *block);
 VkResult wtv_allocate_for_image(wtv_allocator *a, VkImage image, const wtv_request *request,
@@ -209,68 +209,70 @@ VkResult wtv_allocate_for_image(wtv_allocator *a, VkImage image, const wtv_reque
 VkResult wtv_bind_buffer(wtv_allocator *a, wtv_allocation allocation, VkDeviceSize offset, VkBuffer buffer);
 VkResult wtv_bind_image(wtv_allocator *a, wtv_allocation allocation, VkDeviceSize offset, VkImage image);
 
-/* Frees a block, mapped or not. The device has to be done with it, and what was bound to it destroyed. 0 does nothing.
-   Its memory object is freed with it where no other block needs it; of each memory type one free chunk of transient
-   blocks, and one free fit chunk (WT_FIT), stay until wtv_cleanup. */
+/* Frees a block, mapped or not. The device must be done with it, and what was bound to it destroyed. 0 does nothing.
+   Its memory object is freed with it where no other block needs it. Of each memory type one unused chunk of transient
+   blocks, and one unused fit chunk (WT_FIT), stay until wtv_cleanup. */
 VkResult wtv_free(wtv_allocator *a, wtv_allocation allocation);
 
-/* Takes a range of a memory object of the program's as a block. The object has object_size bytes, is not mapped, and
-   belongs to the allocator from then on. Where it fails, it stays the program's. wtv_candidates writes the memory types
+/* Imports a range of the program's own memory object as a block. The object has object_size bytes, is not mapped, and
+   belongs to the allocator from then on. On an error it stays the program's. wtv_candidates writes the memory types
    that serve a usage, the best one first, at most 32, and their number. */
 VkResult wtv_import(wtv_allocator *a, VkDeviceMemory memory, uint32_t memory_type, VkDeviceSize object_size,
                     VkDeviceSize offset, VkDeviceSize size, wtv_allocation *allocation, wtv_block *block);
 VkResult wtv_candidates(wtv_allocator *a, uint32_t usage, uint32_t memory_type_bits, uint32_t types[32],
                         uint32_t *count);
 
-/* What a block is. */
+/* Reports a block. */
 VkResult wtv_block_of(wtv_allocator *a, wtv_allocation allocation, wtv_block *block);
 
 /* Writes the live blocks, in the order of their places, as many as fit in room, and their number to *count. after is 0,
-   or the allocation of the last block of the part before. */
+   or the allocation of the last block that the call before wrote. */
 VkResult wtv_blocks(wtv_allocator *a, wtv_allocation after, wtv_block *blocks, size_t room, size_t *count);
 
-/* Sets a block's value of the program's. */
+/* Sets the program's own value of a block. */
 VkResult wtv_set_user(wtv_allocator *a, wtv_allocation allocation, uint64_t user);
 
 /* ---- The host's side. ---- */
 
-/* Maps a block: *bytes is its first byte. Calls nest: each wtv_map wants its wtv_unmap, and the pointer is the same.
-   VK_ERROR_MEMORY_MAP_FAILED: the host does not see the memory, or the driver refused. Unmapping flushes nothing.
+/* Maps a block: *bytes is its first byte. Calls nest: each wtv_map needs its wtv_unmap, and the pointer is the same.
+   VK_ERROR_MEMORY_MAP_FAILED: the memory is not host-visible, or the driver refused. Unmapping flushes nothing.
    wtv_unmap of a block that is not mapped is refused. */
 VkResult wtv_map(wtv_allocator *a, wtv_allocation allocation, void **bytes);
 VkResult wtv_unmap(wtv_allocator *a, wtv_allocation allocation);
 
-/* Copies size bytes into a block, from offset on, and flushes them; or copies them out, once they are invalidated. The
-   host has to see the memory: ask for WT_USAGE_UPLOAD, WT_USAGE_DOWNLOAD or WT_USAGE_HOST_ACCESS, since with
-   WT_USAGE_FAST_DEVICE_ACCESS alone it may not (VK_ERROR_MEMORY_MAP_FAILED). The block need not be mapped. The bytes
-   may lie behind those that were asked for (wtv_block.asked), up to the block's end. An error of a flush leaves each
-   byte the old one or the new one. */
+/* wtv_write copies size bytes into a block, from offset on, and flushes them. wtv_read invalidates them and copies them
+   out. The memory must be host-visible: ask for WT_USAGE_UPLOAD, WT_USAGE_DOWNLOAD or WT_USAGE_HOST_ACCESS. With
+   WT_USAGE_FAST_DEVICE_ACCESS alone it may not be (VK_ERROR_MEMORY_MAP_FAILED). The block need not be mapped. The bytes
+   may lie past those that were requested (wtv_block.asked), up to the block's end. After an error of a flush each byte
+   is the old one or the new one. */
 VkResult wtv_write(wtv_allocator *a, wtv_allocation allocation, VkDeviceSize offset, const void *bytes, size_t size);
 VkResult wtv_read(wtv_allocator *a, wtv_allocation allocation, VkDeviceSize offset, void *bytes, size_t size);
 
-/* Flushes or invalidates ranges of mapped blocks, in at most one call of the driver: none where all of their memory is
-   coherent. VK_ERROR_VALIDATION_FAILED_EXT: a block is not mapped. */
+/* Flushes or invalidates ranges of mapped blocks, in at most one call of the driver, or none where all of their memory
+   is coherent. VK_ERROR_VALIDATION_FAILED_EXT: a block is not mapped. */
 VkResult wtv_flush(wtv_allocator *a, const wtv_range *ranges, size_t count);
 VkResult wtv_invalidate(wtv_allocator *a, const wtv_range *ranges, size_t count);
 
 /* ---- How much is held. ---- */
 
-/* Reads the budgets of VK_EXT_memory_budget and limits each heap by its own: to heapBudget less what the process holds
-   beside this allocator (heapUsage less what is held, at least 0), at least 0. Call it once a frame or so. A limit
-   below what is held refuses new objects and frees nothing. VK_ERROR_EXTENSION_NOT_PRESENT: without
-   WTV_CREATE_MEMORY_BUDGET, or where the driver fills in no budget, as one without the extension. */
+/* Reads the budgets of VK_EXT_memory_budget and limits each heap by its own. The limit is heapBudget less what the
+   process holds outside this allocator (heapUsage less what the allocator holds, at least 0), at least 0. Call it about
+   once a frame. A limit below what is held refuses new objects and frees nothing. VK_ERROR_EXTENSION_NOT_PRESENT:
+   without WTV_CREATE_MEMORY_BUDGET, or where the driver fills in no budget, for instance because it lacks the
+   extension. */
 VkResult wtv_update_budget(wtv_allocator *a);
 
-/* Sets one heap's limit by hand; at or over the heap's size there is none. What is held of a heap, and its limit. */
+/* wtv_set_heap_limit sets one heap's limit by hand; a value at or above the heap's size removes it. wtv_heap reports
+   what is held of a heap, and its limit. */
 VkResult wtv_set_heap_limit(wtv_allocator *a, uint32_t heap, VkDeviceSize limit);
 VkResult wtv_heap(wtv_allocator *a, uint32_t heap, wt_heap_counts *counts);
 
-/* Blocks and objects; and the sums of one memory type. */
+/* How many blocks and objects there are; and the sums of one memory type. */
 VkResult wtv_count(wtv_allocator *a, wt_counts *counts);
 VkResult wtv_statistics(wtv_allocator *a, uint32_t memory_type, wt_type_statistics *statistics);
 
-/* All that is held, as JSON that ends in a 0: the sums of each heap and memory type, or a report of each object too,
-   which scripts/picture of the repository draws. *text is the program's, to be freed by wtv_free_text. */
+/* All that is held, as JSON that ends in a 0: the sums of each heap and memory type, or a report that also has each
+   object, which scripts/picture of the repository draws. *text is the program's, which frees it with wtv_free_text. */
 VkResult wtv_statistics_text(wtv_allocator *a, char **text);
 VkResult wtv_report_text(wtv_allocator *a, char **text);
 void wtv_free_text(char *text);
@@ -278,7 +280,7 @@ void wtv_free_text(char *text);
 /* Frees the memory objects that no block needs. */
 VkResult wtv_cleanup(wtv_allocator *a);
 
-/* What a result of these calls means, in a line with no full stop. */
+/* What a result of these calls means, in a line without a full stop. */
 static inline const char *wtv_text(VkResult result) {
     switch (result) {
     case VK_SUCCESS: return "Done";

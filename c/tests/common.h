@@ -1,4 +1,4 @@
-/* What the tests share: how they fail, drawn numbers, the device that they play, and the loops of the calls that ask. */
+/* What the tests share: failing, drawn numbers, the device that they play, the loops of calls that ask. */
 #ifndef COMMON_H
 #define COMMON_H
 

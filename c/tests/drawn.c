@@ -1,6 +1,6 @@
 /* Drawn calls over a device that may refuse each question, with books of what has to be so after each step.
  *
- *     drawn SEED STEPS PERCENT SHARING      PERCENT: how many of a hundred questions are refused; SHARING: buddy, fit */
+ *     drawn SEED STEPS PERCENT SHARING    PERCENT: how many of a hundred questions are refused; SHARING: buddy, fit */
 #include "common.h"
 
 #include <string.h>
@@ -115,7 +115,8 @@ static void check_own(const wt_question *question) {
     int is_own = (question->flags & WT_ALLOCATE_OWN) != 0;
     uint64_t served = served_size(serving);
     expect(!is_own || question->size == serving->size, "an object of its own has another size than its request");
-    expect(is_own == (served >= own_from(serving, question->memory_type)), "an object of its own is told as shared, or not");
+    expect(is_own == (served >= own_from(serving, question->memory_type)),
+           "an object of its own is told as shared, or not");
 }
 
 static void check_allocate(const wt_question *question) {
@@ -127,13 +128,15 @@ static void check_allocate(const wt_question *question) {
     heap = memory_types[question->memory_type].heap;
     expect(question->size > 0 && question->size <= heap_counts_of(&allocator, heap).budget,
            "an object is wanted that is over the heap's budget");
-    expect(heap_counts_of(&allocator, heap).used + question->size <= limit_of(heap), "an object passes the heap's limit");
+    expect(heap_counts_of(&allocator, heap).used + question->size <= limit_of(heap),
+           "an object passes the heap's limit");
     expect(counts_of(&allocator).unread > 0 || counted_of(heap) + question->size <= limit_of(heap),
            "with what is held an object passes the heap's limit");
 }
 
 static void check_map_made(const wt_question *question) {
-    expect(question->object == 0 && question->memory_type == 0 && question->flags == 0, "a field of a mapping is not 0");
+    expect(question->object == 0 && question->memory_type == 0 && question->flags == 0,
+           "a field of a mapping is not 0");
     expect(has_pending && !pending.is_mapped_whole, "an object is to be mapped that was not made, or twice");
     expect(is_host_visible(pending.memory_type), "an object is to be mapped that the host does not see");
     expect(question->offset == 0 && question->size == pending.size, "a shared object is not mapped whole");
@@ -245,7 +248,8 @@ static void check_granted(const wt_request *request, const questions *talk, cons
     expect(!of->is_imported, "a block lies in an imported object");
     expect(given->user == request->user && given->asked == request->size, "it is told otherwise than asked");
     expect(given->flags == request->flags && given->reserved == 0, "its flags are others");
-    if (is_host_visible(of->memory_type)) expect(of->is_own != of->is_mapped_whole, "a shared object is of its own, or none");
+    if (is_host_visible(of->memory_type))
+        expect(of->is_own != of->is_mapped_whole, "a shared object is of its own, or none");
     if (of->is_own)
         expect(given->fresh && given->offset == 0 && given->size == of->size && of->size == request->size,
                "an object of its own is no whole block");
@@ -266,7 +270,8 @@ static void check_granted(const wt_request *request, const questions *talk, cons
 static void check_order(const wt_request *request, const questions *talk) {
     uint32_t types[TYPES];
     size_t count, at = 0;
-    expect(wt_candidates(&allocator, request->usage, request->memory_types, types, TYPES, &count) == WT_OK, "no candidates");
+    expect(wt_candidates(&allocator, request->usage, request->memory_types, types, TYPES, &count) == WT_OK,
+           "no candidates");
     for (size_t i = 0; i < talk->len; i++) {
         if (talk->asked[i].kind != WT_ALLOCATE) continue;
         while (at < count && types[at] != talk->asked[i].memory_type) at++;
@@ -449,7 +454,8 @@ static void step_candidates(void) {
     expect(status == WT_OK, "candidates are refused");
     check_candidates(&request, types, count);
     for (size_t i = 0; i <= TYPES; i++) some[i] = UINT32_MAX;
-    expect(wt_candidates(&allocator, request.usage, request.memory_types, some, room, &again) == WT_OK && again == count,
+    expect(wt_candidates(&allocator, request.usage, request.memory_types, some, room, &again) == WT_OK
+           && again == count,
            "other candidates are told where there is less room");
     for (size_t i = 0; i <= TYPES; i++)
         expect(some[i] == (i < room && i < count ? types[i] : UINT32_MAX), "candidates pass their room, or are others");
@@ -459,8 +465,8 @@ static void step_candidates(void) {
 static void step_set_heap_limit(void) {
     uint32_t heap = (uint32_t)draw(HEAPS);
     uint64_t used = heap_counts_of(&allocator, heap).used, before = free_space(&allocator);
-    const uint64_t drawn[] = { UINT64_MAX, heaps[heap], draw(heaps[heap] + 1), draw(used + 1), used + draw(64 * KIBIBYTE),
-                               UINT64_MAX };
+    const uint64_t drawn[] = { UINT64_MAX, heaps[heap], draw(heaps[heap] + 1), draw(used + 1),
+                               used + draw(64 * KIBIBYTE), UINT64_MAX };
     heap_limits[heap] = drawn[draw(LENGTH(drawn))];
     expect(wt_set_heap_limit(&allocator, heap, heap_limits[heap]) == WT_OK, "a limit is refused");
     expect(wt_set_heap_limit(&allocator, HEAPS + (uint32_t)draw(3), 0) == WT_BAD_HEAP, "a limit of no heap is taken");
@@ -517,7 +523,8 @@ static void step_map(void) {
         map_unmapped(of, offset, size);
     } else {
         uint32_t status = wt_map(&allocator, of->at.key, offset, size, NULL, 0, &mapped, &question);
-        expect(status == (of->is_mapped ? WT_ALREADY_MAPPED : WT_NON_HOST_VISIBLE), "a block is mapped that may not be");
+        expect(status == (of->is_mapped ? WT_ALREADY_MAPPED : WT_NON_HOST_VISIBLE),
+               "a block is mapped that may not be");
     }
 }
 
@@ -556,7 +563,8 @@ static void step_range(void) {
         expect(status == WT_NON_HOST_VISIBLE, "a range is told of what the host does not see");
     } else {
         expect(status == WT_OK, "a range is not told");
-        if (size == 0 || !is_non_coherent(of->at.memory_type)) expect(range.size == 0, "bytes are told that need no flush");
+        if (size == 0 || !is_non_coherent(of->at.memory_type))
+            expect(range.size == 0, "bytes are told that need no flush");
         else check_range(of, of->at.offset + offset, size, &range);
     }
 }
@@ -565,7 +573,8 @@ static void check_imported(object own, uint64_t offset, uint64_t size, const wt_
     add_object(own, given->object);
     expect(given->offset == offset && given->size == size, "an import is another range");
     expect(given->fresh == 0, "an import is told as fresh");
-    expect(given->user == 0 && given->asked == size && given->flags == 0 && given->reserved == 0, "an import is told as asked");
+    expect(given->user == 0 && given->asked == size && given->flags == 0 && given->reserved == 0,
+           "an import is told as asked");
     check_place(given, &objects[objects_len - 1]);
     remember(given);
     made++;
@@ -633,7 +642,8 @@ static void check_filled(const object *of, uint64_t free_bytes) {
 static void check_free_range(const wt_range *range, const wt_range *before, uint32_t memory_type) {
     const object *in = find_object(range->object);
     expect(in->memory_type == memory_type, "a free range is of another memory type");
-    expect(range->size > 0 && range->offset + range->size <= in->size, "a free range is empty or passes its object's end");
+    expect(range->size > 0 && range->offset + range->size <= in->size,
+           "a free range is empty or passes its object's end");
     expect(range->object > before->object
                || (range->object == before->object && range->offset >= before->offset + before->size),
            "free ranges are out of order");
@@ -741,7 +751,8 @@ static void step_report(void) {
     static char text[MOST * 128], some[MOST * 128];
     char words[80];
     size_t length = SIZE_MAX, again = SIZE_MAX, room;
-    expect(wt_report(&allocator, NULL, 0, &length) == WT_OK && length < sizeof text, "a report is refused, or too long");
+    expect(wt_report(&allocator, NULL, 0, &length) == WT_OK && length < sizeof text,
+           "a report is refused, or too long");
     text[length] = 'x';
     expect(wt_report(&allocator, text, length, &again) == WT_OK && again == length, "a report has another length");
     expect(text[length] == 'x', "a report passes its room");
@@ -759,7 +770,8 @@ static void step_report(void) {
     }
     expect(times_written(text, "{\"key\":") - times_written(text, "{\"key\":null,") == blocks_len,
            "other blocks are reported than are live");
-    expect(times_written(text, "{\"object\":") == counts_of(&allocator).held, "other objects are reported than are held");
+    expect(times_written(text, "{\"object\":") == counts_of(&allocator).held,
+           "other objects are reported than are held");
 }
 
 static void take_step(void) {
@@ -770,8 +782,8 @@ static void take_step(void) {
         { step_allocate, 40 }, { step_abandon, 3 }, { step_free, 22 },   { step_old_key, 3 },     { step_other_key, 2 },
         { step_map, 8 },       { step_unmap, 6 },   { step_range, 6 },   { step_import, 3 },      { step_gone, 8 },
         { step_cleanup, 1 },   { step_set_remaining, 1 },                { step_free_ranges, 3 },
-        { step_set_user, 3 },  { step_walk, 2 },    { step_walk_and_change, 2 },                  { step_candidates, 2 },
-        { step_set_heap_limit, 3 },                 { step_statistics, 2 },                       { step_report, 1 },
+        { step_set_user, 3 },  { step_walk, 2 },    { step_walk_and_change, 2 },                 { step_candidates, 2 },
+        { step_set_heap_limit, 3 },                 { step_statistics, 2 },                      { step_report, 1 },
     };
     unsigned sum = 0;
     uint64_t drawn;
@@ -855,8 +867,8 @@ int main(int argc, char **argv) {
     }
     finish();
     close_other();
-    printf("drawn %s %s %s %s: %llu granted, %llu refused, %llu questions, %llu objects made and freed\n", argv[1], argv[2],
-           argv[3], argv[4], (unsigned long long)granted, (unsigned long long)refused, (unsigned long long)asked,
-           (unsigned long long)made);
+    printf("drawn %s %s %s %s: %llu granted, %llu refused, %llu questions, %llu objects made and freed\n",
+           argv[1], argv[2], argv[3], argv[4], (unsigned long long)granted, (unsigned long long)refused,
+           (unsigned long long)asked, (unsigned long long)made);
     return 0;
 }

@@ -239,7 +239,8 @@ static void check_heap_counts(wt_allocator *a) {
 
 /* The sums of each kind, all of them others, and past 64 bits by imports. */
 static void check_statistics(wt_allocator *a) {
-    const wt_request own = request_of(5000, 0, DEVICE_SIDE, WT_REQUIRED), buddy = request_of(300, 0, DEVICE_SIDE, WT_SHARED);
+    const wt_request own = request_of(5000, 0, DEVICE_SIDE, WT_REQUIRED);
+    const wt_request buddy = request_of(300, 0, DEVICE_SIDE, WT_SHARED);
     const wt_request transient = request_of(640, WT_USAGE_TRANSIENT, DEVICE_SIDE, WT_SHARED);
     wt_type_statistics told;
     wt_block blocks[8];
@@ -251,13 +252,15 @@ static void check_statistics(wt_allocator *a) {
     blocks[4] = granted(a, &transient, &talk);
     chunk = talk.asked[0].size;
     blocks[5] = granted(a, &transient, &talk);
-    for (size_t i = 6; i < 8; i++) expect(wt_import(a, DEVICE_SIDE, UINT64_MAX, 0, UINT64_MAX, &blocks[i]) == WT_OK, "no import");
+    for (size_t i = 6; i < 8; i++)
+        expect(wt_import(a, DEVICE_SIDE, UINT64_MAX, 0, UINT64_MAX, &blocks[i]) == WT_OK, "no import");
     expect(wt_statistics(a, DEVICE_SIDE, &told) == WT_OK, "they are not told");
     expect(told.dedicated.objects == 1 && told.dedicated.blocks == 1 && told.dedicated.live_bytes == 5000, "dedicated");
     expect(told.imported.objects == 2 && told.imported.blocks == 2, "imported");
     expect(told.imported.live_bytes == UINT64_MAX - 1 && told.imported.live_bytes_high == 1, "imported: its bytes");
     expect(told.buddy.objects == 1 && told.buddy.blocks == 3 && told.buddy.live_bytes == 3 * 512, "buddy");
-    expect(told.buddy.free_bytes == 32 * KIBIBYTE - 3 * 512 && told.buddy.free_bytes_high == 0, "buddy: its free bytes");
+    expect(told.buddy.free_bytes == 32 * KIBIBYTE - 3 * 512 && told.buddy.free_bytes_high == 0,
+           "buddy: its free bytes");
     expect(told.buddy.largest_free == 16 * KIBIBYTE, "buddy: its largest free range");
     expect(told.free_list.objects == 1 && told.free_list.blocks == 2 && told.free_list.live_bytes == 1280, "free_list");
     expect(told.free_list.free_bytes == chunk - 1280 && told.free_list.largest_free == chunk - 1280,
@@ -280,7 +283,8 @@ static void check_fit(wt_allocator *a) {
     other = granted(a, &request, &talk);
     expect(one.size == 512 && other.size == 512 && one.object == other.object, "a block is not as long as asked");
     expect(wt_statistics(a, DEVICE_SIDE, &told) == WT_OK, "they are not told");
-    expect(told.fit.objects == 1 && told.fit.blocks == 2 && told.fit.live_bytes == 1024 && told.fit.live_bytes_high == 0, "fit");
+    expect(told.fit.objects == 1 && told.fit.blocks == 2 && told.fit.live_bytes == 1024
+           && told.fit.live_bytes_high == 0, "fit");
     expect(told.fit.free_bytes == 8 * KIBIBYTE - 1024 && told.fit.free_bytes_high == 0, "fit: its free bytes");
     expect(told.fit.largest_free == 8 * KIBIBYTE - 1024, "fit: its largest free range");
     expect(told.buddy.objects == 0 && told.free_list.objects == 0, "buddy or free_list");

@@ -1,7 +1,7 @@
-/* Requests that ask for nothing, drawn. Two allocators make the same calls over a device that refuses some questions, and
- * are alike. One is then asked with WT_HELD_ONLY, and the other one memory type at a time, without the flag and without an
- * answer: the first type in rank that serves so has to be the one that served there, by the same block; and where it would
- * ask, none serves so. */
+/* Requests that ask for nothing, drawn. Two allocators make the same calls over a device that refuses some questions,
+ * and are alike. One is then asked with WT_HELD_ONLY, and the other one memory type at a time, without the flag and
+ * without an answer. The first type in rank that serves so has to be the one that served there, by the same block.
+ * Where the first would ask, no type of the second serves so. */
 #include "common.h"
 
 enum { BLOCKS = 120, STEPS = 4000, SEEDS = 8 };
@@ -12,8 +12,8 @@ static wt_allocator held, twin;
 static wt_block blocks[BLOCKS]; /* of key 0 where there is none */
 static uint64_t percent;        /* how many of a hundred questions are refused */
 
-/* How often such a request was served, of a memory type behind one that would ask, with nothing remaining; would ask; and
- * was refused. */
+/* How often such a request was served; was served by a memory type behind one that would ask; was served with nothing
+ * remaining; would ask; was refused. */
 static unsigned long served, behind, spent, would, refused;
 
 static uint32_t answer(const wt_question *question) {
@@ -78,7 +78,8 @@ static void set_remaining(void) {
 static void set_limit(void) {
     uint32_t heap = (uint32_t)draw(HEAPS);
     uint64_t limit = draw(2) ? UINT64_MAX : draw(heap_sizes[heap]);
-    expect(wt_set_heap_limit(&held, heap, limit) == WT_OK && wt_set_heap_limit(&twin, heap, limit) == WT_OK, "no limit");
+    expect(wt_set_heap_limit(&held, heap, limit) == WT_OK && wt_set_heap_limit(&twin, heap, limit) == WT_OK,
+           "no limit");
 }
 
 /* ---- A request that asks for nothing ---- */
@@ -174,8 +175,8 @@ static void run_all(uint64_t sharing, const char *name) {
     served = behind = spent = would = refused = 0;
     for (uint64_t seed = 1; seed <= SEEDS; seed++) run(seed, sharing);
     expect(behind > 0 && spent > 0 && would > 0 && refused > 0, "a case was never drawn");
-    printf("held, %s: %lu served, %lu of them behind a memory type that would ask, %lu with nothing remaining; %lu would"
-           " ask, %lu refused\n", name, served, behind, spent, would, refused);
+    printf("held, %s: %lu served, %lu of them behind a memory type that would ask, %lu with nothing remaining;"
+           " %lu would ask, %lu refused\n", name, served, behind, spent, would, refused);
 }
 
 int main(void) {

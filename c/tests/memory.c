@@ -5,8 +5,8 @@
 #define OBJECTS 64
 #define MOST_KIBIBYTES 1024
 
-/* The most memory that the process ever had since it began, or -1 where the system does not tell. (getrusage would count
- * what its parent had.) */
+/* The most memory that the process had since it began, or -1 where the system does not say. (getrusage would count what
+ * its parent had.) */
 static long peak_kibibytes(void) {
     char line[256];
     long peak = -1;

@@ -1,5 +1,5 @@
-/* Each refusal and each misuse, one at a time, over an allocator with some blocks: the status is the one that the header
- * tells, and nothing is changed. */
+/* Each refusal and each misuse, one at a time, over an allocator with some blocks: the status is the one in the header,
+ * and nothing is changed. */
 #include "common.h"
 
 #include <string.h>
@@ -234,7 +234,9 @@ static uint32_t map_with(world *w, size_t of, uint64_t offset, uint64_t size, an
     return map(&w->allocator, w->blocks[of].key, offset, size, answer, &talk, &mapped);
 }
 
-static uint32_t map_host(world *w, const test_case *c) { return map_with(w, HOST_BLOCK, 0, 1, c->answer ? c->answer : grants); }
+static uint32_t map_host(world *w, const test_case *c) {
+    return map_with(w, HOST_BLOCK, 0, 1, c->answer ? c->answer : grants);
+}
 static uint32_t map_shared(world *w, const test_case *c) { (void)c; return map_with(w, SHARED_BLOCK, 0, 1, grants); }
 static uint32_t map_local(world *w, const test_case *c) { (void)c; return map_with(w, LOCAL_BLOCK, 0, 1, grants); }
 static uint32_t map_nothing(world *w, const test_case *c) { (void)c; return map_with(w, HOST_BLOCK, 0, 0, grants); }
@@ -316,7 +318,8 @@ static uint32_t refused_everywhere(world *w, uint64_t key) {
 
 static uint32_t use_key(world *w, const test_case *c) {
     uint64_t live = w->blocks[LOCAL_BLOCK].key;
-    const uint64_t wrong[] = { w->freed_key, live + ((uint64_t)1 << 32), live - ((uint64_t)1 << 32), live + 1000, UINT64_MAX };
+    const uint64_t wrong[] = { w->freed_key, live + ((uint64_t)1 << 32), live - ((uint64_t)1 << 32), live + 1000,
+                               UINT64_MAX };
     return refused_everywhere(w, wrong[c->which]);
 }
 
@@ -430,7 +433,8 @@ static uint32_t makes_and_fails_to_map(const wt_question *q) { return makes_and(
 #define OF_OWN REQUEST(1000, 0, 0, ONLY(LOCAL_TYPE), WT_REQUIRED)
 #define OF_NEW_CHUNK REQUEST(100, 0, WT_USAGE_UPLOAD | WT_USAGE_TRANSIENT, ONLY(CACHED_TYPE), WT_SHARED)
 #define OF_EITHER_HEAP REQUEST(7 * MEBIBYTE, 0, 0, ONLY(LOCAL_TYPE) | ONLY(COHERENT_TYPE), WT_REQUIRED)
-#define WITH_FLAGS(size, align_mask, usage, types, dedicated, flags) { size, align_mask, usage, types, dedicated, flags, 0 }
+#define WITH_FLAGS(size, align_mask, usage, types, dedicated, flags) \
+    { size, align_mask, usage, types, dedicated, flags, 0 }
 
 static const test_case cases[] = {
     { "a request over the limit is served", WT_OUT_OF_DEVICE_MEMORY, NULL, request,
@@ -449,7 +453,8 @@ static const test_case cases[] = {
       makes_and_maps_without_host, 0 },
     { "a shared object that was not mapped is used", WT_OUT_OF_HOST_MEMORY, NULL, request, OF_NEW_CHUNK,
       makes_and_fails_to_map, 0 },
-    { "a request over its heap's limit is asked", WT_OUT_OF_DEVICE_MEMORY, limit_heap, request, OF_OWN, is_never_asked, 0 },
+    { "a request over its heap's limit is asked", WT_OUT_OF_DEVICE_MEMORY, limit_heap, request,
+      OF_OWN, is_never_asked, 0 },
     { "a request is asked where as much is held as the limit", WT_OUT_OF_DEVICE_MEMORY, limit_heap, request, OF_OWN,
       is_never_asked, 1 },
     { "a request is asked where more is held than the limit", WT_OUT_OF_DEVICE_MEMORY, limit_heap, request, OF_OWN,
@@ -468,7 +473,8 @@ static const test_case cases[] = {
     { "a failed mapping ends otherwise", WT_MAP_FAILED, NULL, map_host, OF_OWN, map_failed, 0 },
     { "a mapping without device memory ends otherwise", WT_OUT_OF_DEVICE_MEMORY, NULL, map_host, OF_OWN,
       no_device_memory, 0 },
-    { "a mapping without host memory ends otherwise", WT_OUT_OF_HOST_MEMORY, NULL, map_host, OF_OWN, no_host_memory, 0 },
+    { "a mapping without host memory ends otherwise", WT_OUT_OF_HOST_MEMORY, NULL, map_host,
+      OF_OWN, no_host_memory, 0 },
 
     { "a closed one allocates", WT_NOT_OPEN, shut, any_call, OF_OWN, NULL, 0 },
     { "a closed one imports", WT_NOT_OPEN, shut, any_call, OF_OWN, NULL, 1 },
@@ -519,14 +525,18 @@ static const test_case cases[] = {
     { "the largest number is taken as a key", WT_UNKNOWN_KEY, NULL, use_key, OF_OWN, NULL, 4 },
     { "another's key is taken", WT_UNKNOWN_KEY, NULL, use_keys_of_another, OF_OWN, NULL, 0 },
 
-    { "an answer about another size counts", WT_OTHER_QUESTION, begin_request, answer_with_another_field, OF_OWN, NULL, 0 },
-    { "an answer of another kind counts", WT_OTHER_QUESTION, begin_request, answer_with_another_field, OF_OWN, NULL, 1 },
-    { "an answer about another memory type counts", WT_OTHER_QUESTION, begin_request, answer_with_another_field, OF_OWN, NULL, 2 },
-    { "an answer about other flags counts", WT_OTHER_QUESTION, begin_request, answer_with_another_field, OF_OWN, NULL, 3 },
+    { "an answer about another size counts", WT_OTHER_QUESTION, begin_request, answer_with_another_field,
+      OF_OWN, NULL, 0 },
+    { "an answer of another kind counts", WT_OTHER_QUESTION, begin_request, answer_with_another_field,
+      OF_OWN, NULL, 1 },
+    { "an answer about another memory type counts", WT_OTHER_QUESTION, begin_request, answer_with_another_field,
+      OF_OWN, NULL, 2 },
+    { "an answer about other flags counts", WT_OTHER_QUESTION, begin_request, answer_with_another_field,
+      OF_OWN, NULL, 3 },
     { "an answer counts that is to the question before another call", WT_OTHER_QUESTION, begin_and_take_its_heap,
       answer_begun, OF_EITHER_HEAP, NULL, 0 },
-    { "an answer counts that is to the question before a limit", WT_OTHER_QUESTION, begin_and_limit_its_heap, answer_begun,
-      OF_EITHER_HEAP, NULL, 0 },
+    { "an answer counts that is to the question before a limit", WT_OTHER_QUESTION, begin_and_limit_its_heap,
+      answer_begun, OF_EITHER_HEAP, NULL, 0 },
     { "an answer about another object maps", WT_OTHER_QUESTION, NULL, map_with_another_field, OF_OWN, NULL, 0 },
     { "an answer about another offset maps", WT_OTHER_QUESTION, NULL, map_with_another_field, OF_OWN, NULL, 1 },
     { "an answer about another size maps", WT_OTHER_QUESTION, NULL, map_with_another_field, OF_OWN, NULL, 2 },
@@ -543,10 +553,12 @@ static const test_case cases[] = {
     { "a mapping of no bytes", WT_BAD_SIZE, NULL, map_nothing, OF_OWN, NULL, 0 },
     { "an import of no bytes", WT_BAD_SIZE, NULL, import_wrongly, OF_OWN, NULL, 1 },
     { "an alignment of 3", WT_BAD_ALIGNMENT, NULL, request, REQUEST(1, 2, 0, ANY_TYPE, WT_SHARED), grants, 0 },
-    { "an alignment of 2^64", WT_BAD_ALIGNMENT, NULL, request, REQUEST(1, UINT64_MAX, 0, ANY_TYPE, WT_SHARED), grants, 0 },
+    { "an alignment of 2^64", WT_BAD_ALIGNMENT, NULL, request,
+      REQUEST(1, UINT64_MAX, 0, ANY_TYPE, WT_SHARED), grants, 0 },
     { "a usage without a name", WT_BAD_USAGE, NULL, request, REQUEST(1, 0, 0x40, ANY_TYPE, WT_SHARED), grants, 0 },
     { "a usage of 32 bits", WT_BAD_USAGE, NULL, request, REQUEST(1, 0, 0x100, ANY_TYPE, WT_SHARED), grants, 0 },
-    { "a wish of no name for an object of its own", WT_BAD_DEDICATED, NULL, request, REQUEST(1, 0, 0, ANY_TYPE, 3), grants, 0 },
+    { "a wish of no name for an object of its own", WT_BAD_DEDICATED, NULL, request, REQUEST(1, 0, 0, ANY_TYPE, 3),
+      grants, 0 },
     { "candidates for a usage without a name", WT_BAD_USAGE, NULL, candidates_for,
       REQUEST(1, 0, 0x40, ANY_TYPE, WT_SHARED), NULL, 0 },
     { "candidates for a usage of 32 bits", WT_BAD_USAGE, NULL, candidates_for,
@@ -561,11 +573,13 @@ static const test_case cases[] = {
     { "flags without a name", WT_BAD_FLAGS, NULL, request, WITH_FLAGS(1, 0, 0, ANY_TYPE, WT_SHARED, 4), grants, 0 },
     { "a flag without a name beside one with it", WT_BAD_FLAGS, NULL, request,
       WITH_FLAGS(1, 0, 0, ANY_TYPE, WT_SHARED, WT_OPTIMAL | WT_HELD_ONLY | 4), grants, 0 },
-    { "the highest flag", WT_BAD_FLAGS, NULL, request, WITH_FLAGS(1, 0, 0, ANY_TYPE, WT_SHARED, 0x80000000), grants, 0 },
+    { "the highest flag", WT_BAD_FLAGS, NULL, request,
+      WITH_FLAGS(1, 0, 0, ANY_TYPE, WT_SHARED, 0x80000000), grants, 0 },
     { "all flags", WT_BAD_FLAGS, NULL, request, WITH_FLAGS(1, 0, 0, ANY_TYPE, WT_SHARED, UINT32_MAX), grants, 0 },
     { "flags without a name, and a usage", WT_BAD_USAGE, NULL, request, WITH_FLAGS(1, 0, 0x40, ANY_TYPE, WT_SHARED, 4),
       grants, 0 },
-    { "flags without a name, and a wish", WT_BAD_DEDICATED, NULL, request, WITH_FLAGS(1, 0, 0, ANY_TYPE, 3, 4), grants, 0 },
+    { "flags without a name, and a wish", WT_BAD_DEDICATED, NULL, request,
+      WITH_FLAGS(1, 0, 0, ANY_TYPE, 3, 4), grants, 0 },
     { "flags without a name, and an answer that is none", WT_BAD_FLAGS, NULL, request_with_a_bad_answer,
       WITH_FLAGS(1, 0, 0, ANY_TYPE, WT_SHARED, 4), NULL, 0 },
     { "an optimal request, and an answer that is none", WT_BAD_ANSWER, NULL, request_with_a_bad_answer,
@@ -583,9 +597,11 @@ static const test_case cases[] = {
     { "nothing may be asked, and no object is held", WT_WOULD_ASK, free_and_clean_alone, request,
       WITH_FLAGS(1, 0, 0, ANY_TYPE, WT_SHARED, WT_HELD_ONLY), is_never_asked, 0 },
     { "nothing may be asked, and no type's object has a place", WT_WOULD_ASK, NULL, request,
-      WITH_FLAGS(100, 0, WT_USAGE_TRANSIENT, ANY_TYPE & ~ONLY(COHERENT_TYPE), WT_SHARED, WT_HELD_ONLY), is_never_asked, 0 },
+      WITH_FLAGS(100, 0, WT_USAGE_TRANSIENT, ANY_TYPE & ~ONLY(COHERENT_TYPE), WT_SHARED, WT_HELD_ONLY),
+      is_never_asked, 0 },
     { "nothing may be asked for an object of its own", WT_WOULD_ASK, NULL, request,
-      WITH_FLAGS(100, 0, WT_USAGE_UPLOAD | WT_USAGE_TRANSIENT, ONLY(COHERENT_TYPE), WT_REQUIRED, WT_HELD_ONLY), is_never_asked, 0 },
+      WITH_FLAGS(100, 0, WT_USAGE_UPLOAD | WT_USAGE_TRANSIENT, ONLY(COHERENT_TYPE), WT_REQUIRED, WT_HELD_ONLY),
+      is_never_asked, 0 },
     { "nothing may be asked for one where none remains", WT_WOULD_ASK, allow_no_more, request,
       WITH_FLAGS(100, 0, 0, ANY_TYPE, WT_REQUIRED, WT_HELD_ONLY), is_never_asked, 0 },
     { "nothing may be asked for whole pages of a large object", WT_WOULD_ASK, NULL, request,
@@ -617,7 +633,8 @@ static const test_case cases[] = {
     { "free ranges of no memory type", WT_BAD_MEMORY_TYPE, NULL, ranges_of_no_type, OF_OWN, NULL, 0 },
     { "statistics of no memory type", WT_BAD_MEMORY_TYPE, NULL, statistics_of_no_type, OF_OWN, NULL, 0 },
     { "statistics of the type behind the last", WT_BAD_MEMORY_TYPE, NULL, statistics_of_no_type, OF_OWN, NULL, 1 },
-    { "statistics of the type of the largest number", WT_BAD_MEMORY_TYPE, NULL, statistics_of_no_type, OF_OWN, NULL, 2 },
+    { "statistics of the type of the largest number", WT_BAD_MEMORY_TYPE, NULL, statistics_of_no_type,
+      OF_OWN, NULL, 2 },
     { "a heap that is not there is counted", WT_BAD_HEAP, NULL, look_at_no_heap, OF_OWN, NULL, 0 },
     { "a heap that is not there gets a limit", WT_BAD_HEAP, NULL, limit_no_heap, OF_OWN, NULL, 0 },
     { "a heap behind the last gets a limit", WT_BAD_HEAP, NULL, limit_no_heap, OF_OWN, NULL, 1 },
@@ -663,7 +680,8 @@ static void check_answers_left_over(void) {
     expect(!w.blocks[SHARED_BLOCK].fresh, "its object is the one that was made");
     expect(w.blocks[SHARED_BLOCK].object == w.blocks[EXTRA_BLOCK].object, "it lies in another object");
     answered = (wt_question){ w.blocks[EXTRA_BLOCK].object, 0, 1, WT_MAP, 0, 0, WT_GRANTED };
-    expect(wt_map(&w.allocator, w.blocks[EXTRA_BLOCK].key, 0, 1, &answered, 1, &mapped, &question) == WT_OK, "not mapped");
+    expect(wt_map(&w.allocator, w.blocks[EXTRA_BLOCK].key, 0, 1, &answered, 1, &mapped, &question) == WT_OK,
+           "not mapped");
     end_world(&w);
 }
 

@@ -4,7 +4,8 @@
 
 enum { BLOCKS = 400, STEPS = 3000 };
 
-static const wt_memory_type types[] = { { 0, WT_DEVICE_LOCAL }, { 0, WT_DEVICE_LOCAL | WT_HOST_VISIBLE | WT_HOST_COHERENT } };
+static const wt_memory_type types[] = { { 0, WT_DEVICE_LOCAL },
+                                        { 0, WT_DEVICE_LOCAL | WT_HOST_VISIBLE | WT_HOST_COHERENT } };
 static const uint64_t heap = 4096 * MEBIBYTE;
 static wt_config config = WT_CONFIG_PROTOTYPING;
 static const uint64_t granularities[] = { 1, 1024, 4096, 65536, 1048576 };
@@ -82,8 +83,8 @@ static void draw_run(run *r, uint64_t seed) {
     current_step = 0;
 }
 
-/* The half of an optimal block's last page, as if a linear block were there; and an optimal block as if it were asked for
- * half a page more than its pages, which a linear one has. */
+/* The half of an optimal block's last page, as if a linear block were there; and an optimal block as if it were asked
+ * for half a page more than its pages, which a linear one has. */
 static void find_planted(run *r) {
     uint64_t page = r->granularity, last, asked;
     size_t optimal = 0, empty = 0, before;

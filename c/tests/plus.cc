@@ -31,14 +31,18 @@ int main() {
         asked.push_back(question);
     }
     if (status != WT_OK || asked.size() != 1 || block.fresh != 1) return wrong("no block of a new object was granted");
-    if (wt_block_of(&allocator, block.key, &told) != WT_OK || told.size != block.size) return wrong("the block is not told");
+    if (wt_block_of(&allocator, block.key, &told) != WT_OK || told.size != block.size)
+        return wrong("the block is not told");
     if (told.flags != WT_OPTIMAL || told.asked != 100) return wrong("what was asked is not told");
     if (wt_set_user(&allocator, block.key, 7) != WT_OK) return wrong("no value is set");
-    if (wt_blocks(&allocator, 0, &told, 1, &count) != WT_OK || count != 1 || told.user != 7) return wrong("no block is walked");
+    if (wt_blocks(&allocator, 0, &told, 1, &count) != WT_OK || count != 1 || told.user != 7)
+        return wrong("no block is walked");
     if (wt_set_heap_limit(&allocator, 0, 1) != WT_OK) return wrong("no limit is set");
-    if (wt_free(&allocator, block.key) != WT_OK || wt_free(&allocator, block.key) != WT_UNKNOWN_KEY) return wrong("not freed once");
+    if (wt_free(&allocator, block.key) != WT_OK || wt_free(&allocator, block.key) != WT_UNKNOWN_KEY)
+        return wrong("not freed once");
     if (wt_cleanup(&allocator) != WT_OK) return wrong("it is not cleaned up");
-    if (wt_gone(&allocator, names, 2, &count) != WT_OK || count != 1 || names[0] != block.object) return wrong("the object is not told");
+    if (wt_gone(&allocator, names, 2, &count) != WT_OK || count != 1 || names[0] != block.object)
+        return wrong("the object is not told");
     if (wt_close(&allocator) != WT_OK) return wrong("it is not closed");
     std::printf("plus: a block came and went\n");
     return 0;

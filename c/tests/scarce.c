@@ -125,7 +125,8 @@ static void call_with_little_memory(uint32_t (*call)(void)) {
     if (status == WT_OK) return;
     expect(status == WT_OUT_OF_HOST_MEMORY && refusals > refused_before, "a call fails for another cause than memory");
     after_status = wt_count(&allocator, &after);
-    expect(before_status == after_status && memcmp(&before, &after, sizeof before) == 0, "a refused call changed something");
+    expect(before_status == after_status && memcmp(&before, &after, sizeof before) == 0,
+           "a refused call changed something");
     expect(call() == WT_OK, "a call fails though there is memory again");
 }
 
@@ -138,7 +139,8 @@ static void end_without_memory(void) {
     expect(wt_set_user(&allocator, blocks[0].key, 1) == WT_OK, "setting a value takes memory");
     expect(wt_blocks(&allocator, 0, walked, BLOCKS, &count) == WT_OK && count == blocks_len, "a walk takes memory");
     expect(wt_set_heap_limit(&allocator, HOST_HEAP, 0) == WT_OK, "setting a limit takes memory");
-    expect(wt_unmap(&allocator, blocks[0].key, &object) == WT_OK && object == blocks[0].object, "an unmapping takes memory");
+    expect(wt_unmap(&allocator, blocks[0].key, &object) == WT_OK && object == blocks[0].object,
+           "an unmapping takes memory");
     while (blocks_len) expect(wt_free(&allocator, blocks[--blocks_len].key) == WT_OK, "a return takes memory");
     expect(wt_cleanup(&allocator) == WT_OK, "a cleanup takes memory");
     expect(wt_gone(&allocator, names, LENGTH(names), &count) == WT_OK, "reading names takes memory");

@@ -1,4 +1,4 @@
-//! The allocator: requests go in, blocks come out and go back.
+//! The allocator: requests go in, blocks come out and are returned.
 
 use crate::block::{Memory, MemoryBlock, Parts, Place, Shared, Start};
 use crate::config::{Config, Sharing};
@@ -17,42 +17,42 @@ use std::sync::atomic::{AtomicU64, Ordering};
 use std::sync::Arc;
 use std::thread::panicking;
 
-/// Why there is a panic over a heap.
+/// Why a call panics over a heap.
 const NO_HEAP: &str = "`heap` has to be the index of one of the device's heaps";
 
 /// How many allocators were made. Each keeps its number, by which it knows its blocks.
 static MADE: AtomicU64 = AtomicU64::new(0);
 
-/// A memory allocator for Vulkan and what is like it. `M` is the type of a memory object's handle.
+/// A memory allocator for Vulkan and similar devices. `M` is the type of a memory object's handle.
 ///
-/// It decides by the proved library which memory type serves a request and where the block lies, and asks a
-/// [`MemoryDevice`] for memory objects. One that is dropped while it holds memory objects is reported on standard
-/// error: give each block back, and call [`cleanup`](GpuAllocator::cleanup), before.
+/// The proved library decides which memory type serves a request and where the block lies. A [`MemoryDevice`] makes the
+/// memory objects. An allocator that is dropped while it holds memory objects is reported on standard error: first
+/// return each block, and call [`cleanup`](GpuAllocator::cleanup).
 pub struct GpuAllocator<M> {
     library: Library,
     objects: Objects<M>,
-    /// Names of objects that went, and that the device was not asked yet to take back.
+    /// Names of released objects that the device has not freed yet.
     gone: Vec<u64>,
-    /// Those of these objects that no other block was in. Which name is whose does not matter: all of them go.
+    /// Those of these objects in which no other block was. Which name belongs to which does not matter: all are freed.
     own: Vec<M>,
     number: u64,
     memory_types: Box<[MemoryType]>,
     atom_mask: u64,
     max_allocation_size: u64,
     heap_sizes: Box<[u64]>,
-    /// Of each heap, as the library has it, so that it is told without a call: at most the heap's size.
+    /// Of each heap, as the library has it, so that no call is needed to report it: at most the heap's size.
     heap_limits: Box<[u64]>,
-    /// As the library counts it, so that it is told without a call.
+    /// As the library counts it, so that no call is needed to report it.
     remaining: u32,
 }
 
 impl<M> GpuAllocator<M> {
-    /// Makes an allocator for a device that offers `props`, which holds no memory objects. See
-    /// [`try_new`](GpuAllocator::try_new) for one that may be refused.
+    /// Makes an allocator for a device that offers `props`, which holds no memory objects.
+    /// [`try_new`](GpuAllocator::try_new) returns an error where this panics.
     ///
     /// # Panics
     ///
-    /// Where `try_new` refuses.
+    /// Where `try_new` returns an error.
     #[track_caller]
     pub fn new(config: Config, props: DeviceProperties<'_>) -> Self {
         match GpuAllocator::try_new(config, props) {
@@ -65,7 +65,7 @@ impl<M> GpuAllocator<M> {
     ///
     /// # Errors
     ///
-    /// [`NewError`] says which. Nothing is held then.
+    /// [`NewError`] says why. Nothing is held then.
     pub fn try_new(config: Config, props: DeviceProperties<'_>) -> Result<Self, NewError> {
         GpuAllocator::with_granularity(config, props, 1)
     }
@@ -78,7 +78,7 @@ impl<M> GpuAllocator<M> {
     ///
     /// # Errors
     ///
-    /// [`NewError`] says which: for another granularity `BadProperties`. Nothing is held then.
+    /// [`NewError`] says why; it is `BadProperties` for any other granularity. Nothing is held then.
     ///
     /// [`alloc_optimal`]: GpuAllocator::alloc_optimal
     /// [`alloc`]: GpuAllocator::alloc
@@ -86,13 +86,13 @@ impl<M> GpuAllocator<M> {
         GpuAllocator::with_sharing(config, props, granularity, Sharing::Buddy)
     }
 
-    /// As [`with_granularity`](GpuAllocator::with_granularity), with the choice how requests that are not
-    /// [`UsageFlags::TRANSIENT`](crate::UsageFlags::TRANSIENT) share memory objects. (The other three share buddy chunks,
-    /// as `gpu-alloc` does.)
+    /// As [`with_granularity`](GpuAllocator::with_granularity), with a choice how requests that are not
+    /// [`UsageFlags::TRANSIENT`](crate::UsageFlags::TRANSIENT) share memory objects. (The other three share buddy
+    /// chunks, as `gpu-alloc` does.)
     ///
     /// # Errors
     ///
-    /// [`NewError`] says which. Nothing is held then.
+    /// [`NewError`] says why. Nothing is held then.
     pub fn with_sharing(
         config: Config,
         props: DeviceProperties<'_>,
@@ -116,16 +116,17 @@ impl<M> GpuAllocator<M> {
         })
     }
 
-    /// Allocates a block, of a memory object of its own where its size says so.
+    /// Allocates a block, in a memory object of its own where its size calls for one.
     ///
     /// # Errors
     ///
-    /// [`AllocationError`] says which. The allocator and the device then hold what they held before.
+    /// [`AllocationError`] says why. The allocator and the device then hold what they held before.
     ///
     /// # Panics
     ///
-    /// Where `request.align_mask` is not one less than a power of two, a bit of `request.usage` has no name, or [`UsageFlags::DEVICE_ADDRESS`] is
-    /// asked for without [`DeviceProperties::buffer_device_address`]. Nothing is changed.
+    /// Where `request.align_mask + 1` is not a power of two, a bit of `request.usage` has no name, or
+    /// [`UsageFlags::DEVICE_ADDRESS`] is asked for without [`DeviceProperties::buffer_device_address`]. Nothing is
+    /// changed.
     ///
     /// [`UsageFlags::DEVICE_ADDRESS`]: crate::UsageFlags::DEVICE_ADDRESS
     ///
@@ -142,7 +143,7 @@ impl<M> GpuAllocator<M> {
         unsafe { self.grant(device, request.with(None, false)) }
     }
 
-    /// As [`alloc`](GpuAllocator::alloc), with a word on whether the block has to be a memory object of its own.
+    /// As [`alloc`](GpuAllocator::alloc), with a hint that the block wants a memory object of its own.
     ///
     /// # Errors
     ///
@@ -165,14 +166,14 @@ impl<M> GpuAllocator<M> {
         unsafe { self.grant(device, request.with(Some(dedicated), false)) }
     }
 
-    /// As [`alloc`](GpuAllocator::alloc), for an optimal resource: an image of `VK_IMAGE_TILING_OPTIMAL`. With `dedicated`
-    /// as [`alloc_with_dedicated`](GpuAllocator::alloc_with_dedicated).
+    /// As [`alloc`](GpuAllocator::alloc), for an optimal resource: an image of `VK_IMAGE_TILING_OPTIMAL`. With
+    /// `dedicated` it is as [`alloc_with_dedicated`](GpuAllocator::alloc_with_dedicated).
     ///
     /// No page of the granularity ([`with_granularity`](GpuAllocator::with_granularity)) has one of the block's first
-    /// `request.size` bytes and a byte of a linear block. So bind nothing to the bytes behind those: their page may be a
-    /// linear block's too. The request is served as one whose size is rounded up to the granularity and that is aligned
-    /// to it at least. By that size it gets an object of its own, but such an object has the very size of the request.
-    /// Where the granularity is 1 the block is the one that the other two calls give.
+    /// `request.size` bytes and a byte of a linear block. So bind nothing past those bytes: a linear block may share
+    /// that page. The request is served as one whose size is rounded up to the granularity and that is aligned to it at
+    /// least. That size decides whether it gets an object of its own, but such an object has exactly the request's
+    /// size. Where the granularity is 1, the block is the one that the other two calls give.
     ///
     /// # Errors
     ///
@@ -195,24 +196,24 @@ impl<M> GpuAllocator<M> {
         unsafe { self.grant(device, request.with(dedicated, true)) }
     }
 
-    /// Takes `size` bytes of a memory object of the caller's from `offset` on as a block. The object is the
-    /// allocator's from then on, counts as one that it holds, with `size` bytes of its heap, and goes back to the
+    /// Imports `size` bytes of the caller's own memory object from `offset` on as a block. The object is the
+    /// allocator's from then on. It counts as one that it holds, with `size` bytes of its heap, and goes back to the
     /// device with its block.
     ///
     /// # Panics
     ///
-    /// Where no objects remain ([`remaining_allocations`](GpuAllocator::remaining_allocations)), there is no such
-    /// memory type, `size` is 0, `offset + size` passes 64 bits, or the host has too little memory. The allocator is
-    /// then as before, and `memory` is dropped.
+    /// Where no more objects may be held ([`remaining_allocations`](GpuAllocator::remaining_allocations)), there is no
+    /// such memory type, `size` is 0, `offset + size` exceeds 64 bits, or the host has too little memory. The allocator
+    /// is then unchanged, and `memory` is dropped.
     ///
     /// # Safety
     ///
-    /// * The object is of the device of all calls of this allocator and its blocks, is of that memory type, not
-    ///   mapped, and no other's to give back.
+    /// * The object is of the device of all calls of this allocator and its blocks, is of that memory type, is not
+    ///   mapped, and nobody else frees it.
     /// * `props` are the properties of the memory type, or fewer. (`HOST_COHERENT` is taken from the type: what is
     ///   coherent is never flushed.)
-    /// * `offset .. offset + size` lies in the object. Where the memory is host-visible and not host-coherent, it
-    ///   ends at a multiple of [`DeviceProperties::non_coherent_atom_size`], or where the object ends.
+    /// * `offset .. offset + size` lies in the object. Where the memory is host-visible and not host-coherent, it ends
+    ///   at a multiple of [`DeviceProperties::non_coherent_atom_size`], or at the object's end.
     #[track_caller]
     pub unsafe fn import_memory(
         &mut self,
@@ -222,8 +223,8 @@ impl<M> GpuAllocator<M> {
         offset: u64,
         size: u64,
     ) -> MemoryBlock<M> {
-        // The library is told that the object ends with the block. It asks for that to see that the block ends well,
-        // which the caller has said.
+        // For the library the object ends with the block. It needs the size to check that the block ends well, which
+        // the caller has promised.
         let end = offset.checked_add(size).expect("an import's `offset + size` has to fit 64 bits");
         let block = match self.library.import(memory_type, end, offset, size) {
             Ok(block) => block,
@@ -234,12 +235,12 @@ impl<M> GpuAllocator<M> {
         self.block(block, props | coherent, Memory::Own(memory))
     }
 
-    /// Takes a block back, mapped or not. Memory objects that no block needs go back to the device, but for the last of a
-    /// free list and one fit chunk of a memory type, which [`cleanup`](GpuAllocator::cleanup) gives back.
+    /// Returns a block, mapped or not. Memory objects that no block needs are freed. Only the last one of a free list,
+    /// and one fit chunk of a memory type, stay until [`cleanup`](GpuAllocator::cleanup).
     ///
     /// # Panics
     ///
-    /// Where the block is another allocator's. Nothing is changed, but the block is dropped.
+    /// Where the block is another allocator's. The block is dropped, and nothing else changes.
     ///
     /// # Safety
     ///
@@ -251,7 +252,7 @@ impl<M> GpuAllocator<M> {
         let (key, memory) = block.into_parts();
         let own = match memory {
             Memory::Own(memory) => Some(memory),
-            // Not `_`, which would keep it to the end: an object that goes has one handle left, the allocator's.
+            // Not `_`, which would keep it to the end: a released object has one handle left, the allocator's.
             Memory::Shared(shared) => {
                 drop(shared);
                 None
@@ -272,12 +273,12 @@ impl<M> GpuAllocator<M> {
         self.max_allocation_size
     }
 
-    /// How many memory objects may be held beside those that are.
+    /// How many more memory objects may be held.
     pub fn remaining_allocations(&self) -> u32 {
         self.remaining
     }
 
-    /// Lets this many memory objects be held beside those that are, from now on.
+    /// Sets how many more memory objects may be held, on top of those that are.
     ///
     /// # Panics
     ///
@@ -293,7 +294,7 @@ impl<M> GpuAllocator<M> {
         self.remaining = remaining;
     }
 
-    /// How many bytes of a heap may be held for what is asked: the lesser of its size and the limit that was set last.
+    /// The limit of a heap in bytes: the lesser of its size and the limit that was set last.
     ///
     /// # Panics
     ///
@@ -303,13 +304,13 @@ impl<M> GpuAllocator<M> {
         *self.heap_limits.get(heap as usize).expect(NO_HEAP)
     }
 
-    /// Lets at most `limit` bytes of a heap be held for what is asked, from now on: the device is asked for no more than
-    /// is left of it, and a memory type whose heap has too little left is passed, not asked. It is for what
-    /// `VK_EXT_memory_budget` says of a heap at run time.
+    /// Sets a heap's limit in bytes: from now on the device is asked for no more than the limit leaves, and a memory
+    /// type whose heap has too little left is passed over, not asked. Use it with what `VK_EXT_memory_budget` reports
+    /// of a heap at run time.
     ///
-    /// A limit at or over the heap's size is none, as at first. One below what is held refuses new objects and takes
-    /// nothing away: blocks stay, and free bytes of held objects are given out. Imports count, and are never refused for
-    /// it. When an object is made, and how large a shared one is, goes on by the heap's size.
+    /// A limit at or above the heap's size removes the limit. One below what is held refuses new objects and takes
+    /// nothing away: blocks stay, and free bytes of held objects are given out. Imports count, and are never refused
+    /// for it. When an object is made, and how large a shared one is, still depends on the heap's size.
     ///
     /// # Panics
     ///
@@ -323,7 +324,7 @@ impl<M> GpuAllocator<M> {
         }
     }
 
-    /// How many bytes the held objects of a heap count: 2^64 - 1 where imports make it more than fits.
+    /// How many bytes the held objects of a heap count: 2^64 - 1 where imports bring it above that.
     pub(crate) fn heap_used(&mut self, heap: u32) -> u64 {
         assert!((heap as usize) < self.heap_sizes.len(), "{NO_HEAP}");
         let counts = self.library.heap_counts(heap);
@@ -351,8 +352,8 @@ impl<M> GpuAllocator<M> {
         Ok(String::from_utf8(text).expect("a report has to be text"))
     }
 
-    /// Gives each memory object back to the device that no block needs. Where all blocks were given back none is held
-    /// after it, and the allocator can be dropped, or used on.
+    /// Frees each memory object that no block needs. After all blocks are returned none is held, and the allocator can
+    /// be dropped, or used further.
     ///
     /// # Safety
     ///
@@ -386,7 +387,7 @@ impl<M> GpuAllocator<M> {
         Ok(self.block(block, props, memory))
     }
 
-    /// Takes a new object in: into the books, or for its block alone.
+    /// Takes in a new object: into the books, or for its block alone.
     fn keep(&mut self, name: u64, made: Made<M>) -> Memory<M> {
         if made.own {
             return Memory::Own(made.memory);
@@ -409,8 +410,8 @@ impl<M> GpuAllocator<M> {
         MemoryBlock::new(parts, memory)
     }
 
-    /// Gives the objects that went back to the device, one by one. Where it panics over one, that one alone is lost to
-    /// it: the others stay in `gone`, and the next call of this goes on with them.
+    /// Frees the released objects, one by one. Where the device panics over one, only that one is lost to it: the
+    /// others stay in `gone`, and the next call of this goes on with them.
     ///
     /// # Safety
     ///
@@ -423,7 +424,7 @@ impl<M> GpuAllocator<M> {
         while let Some(name) = self.gone.pop() {
             let memory = self.objects.take(name).or_else(|| self.own.pop());
             let memory = memory.expect("an object that went has to be known, or a block's own");
-            // SAFETY: the library tells each object once, when no block is in it. The device is its, as the caller
+            // SAFETY: the library reports each object once, when no block is in it. The device is its, as the caller
             // says.
             unsafe { device.deallocate_memory(memory) };
         }
@@ -437,7 +438,7 @@ impl<M> GpuAllocator<M> {
 impl<M> Drop for GpuAllocator<M> {
     fn drop(&mut self) {
         let counts = self.library.counts();
-        // Some may have gone, and wait since the device panicked.
+        // Some may be released, and wait since the device panicked.
         let objects = counts.held as usize + self.gone.len();
         if counts.blocks > 0 {
             report(&format!("an allocator was dropped, with blocks that were not given back: {}", counts.blocks));
@@ -445,7 +446,7 @@ impl<M> Drop for GpuAllocator<M> {
             report(&format!("an allocator was dropped without `cleanup`, with memory objects: {objects}"));
         }
         // The memory objects are lost to the device, and dropped as values. So that the library's memory is not lost
-        // too, where no block is live, it lets them go.
+        // too, it releases them where no block is live.
         self.library.cleanup();
         self.library.read_gone(&mut self.gone);
         self.library.close();
@@ -471,10 +472,10 @@ struct Made<M> {
     own: bool,
 }
 
-/// The device as it is asked for a request. However the request ends, an object that was made for it and not taken goes
-/// back: where it is refused, and also where this crate panics, or the device does.
+/// The device of a request. However the request ends, an object that was made for it and not taken is freed: after a
+/// refusal, and also where this crate or the device panics.
 struct Asked<'a, M, D: MemoryDevice<M>> {
-    /// The device of each question, which has to be right for it.
+    /// The device of each question, which must be right for it.
     device: &'a D,
     made: Option<Made<M>>,
 }
@@ -555,7 +556,7 @@ impl<M, D: MemoryDevice<M>> Asked<'_, M, D> {
         }
     }
 
-    /// Gives an object that was made back to the device, if there is one.
+    /// Frees an object that was made, if there is one.
     ///
     /// # Safety
     ///
@@ -568,7 +569,7 @@ impl<M, D: MemoryDevice<M>> Asked<'_, M, D> {
     }
 }
 
-/// Why a request was refused, or a panic where it could not be asked.
+/// Why a request was refused, or a panic where it is invalid.
 fn refusal(status: u32) -> AllocationError {
     match status {
         ffi::OUT_OF_DEVICE_MEMORY => AllocationError::OutOfDeviceMemory,
@@ -604,7 +605,7 @@ mod tests {
 
     const PROPS: MemoryPropertyFlags = MemoryPropertyFlags::HOST_VISIBLE;
 
-    /// Grants all, and keeps no bytes. It counts what was made less what went back.
+    /// Grants all, and keeps no bytes. It counts what was made less what was freed.
     #[derive(Default)]
     struct Grants {
         held: Cell<u64>,
@@ -642,7 +643,7 @@ mod tests {
         GpuAllocator::new(Config::i_am_potato(), offered)
     }
 
-    /// The range that this crate flushes for bytes of a block is the one that the library tells.
+    /// The range that this crate flushes for bytes of a block is the library's.
     fn compare(allocator: &mut GpuAllocator<()>, block: &MemoryBlock<()>) {
         let size = block.size();
         for offset in [0, 1, 63, 64, 65, size / 2, size.saturating_sub(1)] {
@@ -693,7 +694,7 @@ mod tests {
         ffi::Question { kind, offset, size: 1, ..ffi::Question::default() }
     }
 
-    /// A question that there is not: what was made before goes back.
+    /// A question that does not exist: what was made before is freed.
     #[test]
     fn a_fault_of_the_librarys_loses_nothing() {
         for wrong in [question(9, 0), question(ffi::MAP_MADE, 1)] {
@@ -712,7 +713,7 @@ mod tests {
         }
     }
 
-    /// A block that the library does not know: its own object goes back.
+    /// A block that the library does not know: its own object is freed.
     #[test]
     fn a_block_that_the_library_forgot() {
         let device = Grants::default();
@@ -727,7 +728,7 @@ mod tests {
         assert_eq!(device.held.get(), 0);
     }
 
-    /// Limits as they are told here are the library's.
+    /// Limits as this crate reports them are the library's.
     #[test]
     fn limits_are_the_librarys() {
         let size = 1 << 40;
@@ -740,7 +741,7 @@ mod tests {
         }
     }
 
-    /// More objects go at once than are read at once.
+    /// More objects are released at once than are read at once.
     #[test]
     fn all_names_are_read() {
         let device = Grants::default();
@@ -749,7 +750,7 @@ mod tests {
         // SAFETY: there is one device, which grants all that the allocator asks.
         let blocks: Vec<_> = (0..200).map(|_| unsafe { allocator.alloc(&device, request) }.unwrap()).collect();
         for block in blocks {
-            // The library alone is told, so that what went waits to be read.
+            // Only the library is called, so that what is released waits to be read.
             let (key, _memory) = block.into_parts();
             allocator.library.free(key).unwrap();
         }

@@ -1,11 +1,11 @@
 //! Blocks, and the host's access to their bytes.
 //!
-//! The library can keep a block's mapping (`wt_map`, `wt_unmap`), but a block of this crate is mapped without its
-//! allocator, and on any thread, so that it would have to share the allocator under a lock. Here the block keeps its
-//! mapping itself: it holds what the calls need, which is its own memory object, or the address where its shared one
-//! was mapped when it was made. The library then believes each block unmapped, which it may: it takes a block back
-//! mapped or not, and tells nothing by it. What is left to this file is the rounding of ranges to atoms,
-//! [`MemoryBlock::whole_atoms`]; a test compares it with the library's (`wt_range_of`).
+//! The library can keep a block's mapping (`wt_map`, `wt_unmap`). But a block of this crate is mapped without its
+//! allocator, and on any thread, so it would have to share the allocator under a lock. Here the block keeps its mapping
+//! itself. It holds what the calls need: its own memory object, or the address where its shared one was mapped when it
+//! was made. To the library each block is then unmapped, which is harmless: it frees mapped and unmapped blocks alike.
+//! What is left to this file is the rounding of ranges to atoms, [`MemoryBlock::whole_atoms`]; a test compares it with
+//! the library's (`wt_range_of`).
 
 use crate::error::MapError;
 use crate::report::report;
@@ -18,7 +18,7 @@ use std::sync::Arc;
 #[derive(Clone, Copy, Debug)]
 pub(crate) struct Start(pub(crate) NonNull<u8>);
 
-// SAFETY: it is an address. What is reached through it is for the unsafe calls that do so to say.
+// SAFETY: it is an address. The unsafe calls that use it say what may be reached through it.
 unsafe impl Send for Start {}
 
 // SAFETY: as above.
@@ -28,7 +28,7 @@ unsafe impl Sync for Start {}
 #[derive(Debug)]
 pub(crate) struct Shared<M> {
     pub(crate) memory: Arc<M>,
-    /// Where it is mapped, which it is as long as it is held, if the host sees it.
+    /// Where it is mapped, if it is host-visible. It stays mapped as long as it is held.
     pub(crate) start: Option<Start>,
 }
 
@@ -64,14 +64,14 @@ impl Drop for Unreturned {
     }
 }
 
-/// A range of a memory object, to be given back by [`GpuAllocator::dealloc`](crate::GpuAllocator::dealloc). One that is
+/// A range of a memory object, to be returned by [`GpuAllocator::dealloc`](crate::GpuAllocator::dealloc). One that is
 /// dropped is reported on standard error, and its memory stays taken.
 #[derive(Debug)]
 pub struct MemoryBlock<M> {
     place: Place,
     offset: u64,
     size: u64,
-    /// The alignment less 1 of what is flushed and invalidated; 0 where nothing has to be.
+    /// The alignment less 1 of what is flushed and invalidated; 0 where no flush is needed.
     atom_mask: u64,
     memory_type: u32,
     props: MemoryPropertyFlags,
@@ -80,7 +80,7 @@ pub struct MemoryBlock<M> {
     unreturned: Unreturned,
 }
 
-/// What a block is made of, beside its memory object.
+/// What a block is made of, apart from its memory object.
 pub(crate) struct Parts {
     pub(crate) place: Place,
     pub(crate) offset: u64,
@@ -115,7 +115,7 @@ impl<M> MemoryBlock<M> {
         self.mapped
     }
 
-    /// Ends the block, for its allocator to take it back.
+    /// Ends the block, so that its allocator can free it.
     pub(crate) fn into_parts(self) -> (u64, Memory<M>) {
         std::mem::forget(self.unreturned);
         (self.place.key, self.memory)
@@ -154,18 +154,18 @@ impl<M> MemoryBlock<M> {
         self.memory_type
     }
 
-    /// Maps `size` bytes of the block from `offset` on, both counted in bytes from its start, and gives the address
-    /// of the first of them. A `size` of 0 counts as 1. The address is good until [`unmap`](MemoryBlock::unmap), or
-    /// until the block is given back.
+    /// Maps `size` bytes of the block from `offset` on, both counted in bytes from its start, and returns the address
+    /// of the first of them. A `size` of 0 counts as 1. The address is valid until [`unmap`](MemoryBlock::unmap), or
+    /// until the block is returned.
     ///
-    /// Where the memory is not host-coherent, what is written has to be flushed, and what is read invalidated before,
-    /// in ranges of whole atoms that end at the block's end at most. [`write_bytes`](MemoryBlock::write_bytes) and
+    /// Where the memory is not host-coherent, flush what you wrote, and invalidate before you read, in ranges of whole
+    /// atoms that end at the block's end at most. [`write_bytes`](MemoryBlock::write_bytes) and
     /// [`read_bytes`](MemoryBlock::read_bytes) do so.
     ///
     /// # Errors
     ///
-    /// [`MapError::NonHostVisible`], [`MapError::AlreadyMapped`], or what the device answered. The block is then
-    /// mapped or not as before.
+    /// [`MapError::NonHostVisible`], [`MapError::AlreadyMapped`], or the device's answer. Whether the block is mapped
+    /// is then unchanged.
     ///
     /// # Panics
     ///
@@ -174,7 +174,7 @@ impl<M> MemoryBlock<M> {
     /// # Safety
     ///
     /// * `device` is the one that the block was allocated from, or that its memory was imported from.
-    /// * Through the address those bytes alone are reached, and none that the device may be writing, or, to write,
+    /// * Through the address only those bytes are reached, and none that the device may be writing, or, for a write,
     ///   reading: rounded to whole atoms where the memory is not host-coherent.
     #[inline]
     #[track_caller]
@@ -193,8 +193,8 @@ impl<M> MemoryBlock<M> {
         let distance = usize::try_from(self.offset + offset - base).expect("a mapping has to fit the host's memory");
         let start = match &mut self.memory {
             // SAFETY: the device is the object's, as the caller says. The object is host-visible, and not mapped, as
-            // this block alone maps it. The range lies in the block, or begins less than an atom before it, inside
-            // the object.
+            // only this block maps it. The range lies in the block, or begins less than an atom before it, inside the
+            // object.
             Memory::Own(memory) => unsafe { device.map_memory(memory, range.start, range.end - range.start) }?,
             Memory::Shared(shared) => shared.start.ok_or(MapError::NonHostVisible)?.0,
         };
@@ -204,7 +204,7 @@ impl<M> MemoryBlock<M> {
         Ok(unsafe { start.add(distance) })
     }
 
-    /// Ends the block's mapping, and tells whether it had one.
+    /// Unmaps the block, and returns whether it was mapped.
     ///
     /// # Safety
     ///
@@ -223,12 +223,12 @@ impl<M> MemoryBlock<M> {
     }
 
     /// Writes bytes into the block from `offset` on, counted in bytes from its start: maps them, copies them, flushes
-    /// them where the memory is not host-coherent, and unmaps them. No bytes ask nothing of the device.
+    /// them where the memory is not host-coherent, and unmaps them. With no bytes the device is not called.
     ///
     /// # Errors
     ///
-    /// As for [`map`](MemoryBlock::map), with nothing written; or what the device answered to the flush: the bytes
-    /// are then written, but the device may not see them. The block is mapped or not as before.
+    /// As for [`map`](MemoryBlock::map), with nothing written; or the device's answer to the flush: the bytes are then
+    /// written, but the device may not see them. Whether the block is mapped is unchanged.
     ///
     /// # Panics
     ///
@@ -250,10 +250,10 @@ impl<M> MemoryBlock<M> {
         if data.is_empty() {
             return self.reaches(offset);
         }
-        // SAFETY: the device is the block's, as the caller says; the address is used for `data`'s length below alone.
+        // SAFETY: the device is the block's, as the caller says; the address is used only for `data`'s length below.
         let start = unsafe { self.map(device, offset, data.len()) }?;
-        // SAFETY: as many bytes as `data` has were mapped, for writes too. `data` cannot overlap them: it is
-        // borrowed, and they are reached through a mapping alone, which the block did not have before.
+        // SAFETY: as many bytes as `data` has were mapped, for writes too. `data` cannot overlap them: it is borrowed,
+        // and they are reached only through a mapping, which the block did not have before.
         unsafe { copy_nonoverlapping(data.as_ptr(), start.as_ptr(), data.len()) };
         let range = self.to_flush(offset, data.len() as u64);
         // SAFETY: the range is of whole atoms or ends with the block, and is mapped.
@@ -264,12 +264,12 @@ impl<M> MemoryBlock<M> {
     }
 
     /// Reads bytes of the block from `offset` on, counted in bytes from its start: maps them, invalidates them where
-    /// the memory is not host-coherent, copies them, and unmaps them. No bytes ask nothing of the device.
+    /// the memory is not host-coherent, copies them, and unmaps them. With no bytes the device is not called.
     ///
     /// # Errors
     ///
-    /// As for [`map`](MemoryBlock::map), or what the device answered to the invalidate. `data` is then unchanged, and
-    /// the block is mapped or not as before.
+    /// As for [`map`](MemoryBlock::map), or the device's answer to the invalidate. `data` is then unchanged, and so is
+    /// whether the block is mapped.
     ///
     /// # Panics
     ///
@@ -290,14 +290,14 @@ impl<M> MemoryBlock<M> {
         if data.is_empty() {
             return self.reaches(offset);
         }
-        // SAFETY: the device is the block's, as the caller says; the address is used for `data`'s length below alone.
+        // SAFETY: the device is the block's, as the caller says; the address is used only for `data`'s length below.
         let start = unsafe { self.map(device, offset, data.len()) }?;
         let range = self.to_flush(offset, data.len() as u64);
         // SAFETY: the range is of whole atoms or ends with the block, and is mapped.
         let seen = range.map_or(Ok(()), |range| unsafe { device.invalidate_memory_ranges(&[range]) });
         if seen.is_ok() {
             // SAFETY: as many bytes as `data` has were mapped, for reads too. `data` cannot overlap them: it is
-            // borrowed, and they are reached through a mapping alone, which the block did not have before.
+            // borrowed, and they are reached only through a mapping, which the block did not have before.
             unsafe { copy_nonoverlapping(start.as_ptr(), data.as_mut_ptr(), data.len()) };
         }
         // SAFETY: the device is the block's, as the caller says.
@@ -305,7 +305,7 @@ impl<M> MemoryBlock<M> {
         seen.map_err(OutOfMemory::into)
     }
 
-    /// What writing and reading no bytes at `offset` answers.
+    /// The result of writing or reading no bytes at `offset`.
     fn reaches(&self, offset: u64) -> Result<(), MapError> {
         assert!(offset <= self.size, "`offset` has to be at most the block's size");
         self.may_be_mapped()
@@ -321,7 +321,7 @@ impl<M> MemoryBlock<M> {
         Ok(())
     }
 
-    /// The range to flush or to invalidate for these bytes of the block; none where the memory is host-coherent.
+    /// The range to flush or to invalidate for these bytes of the block; `None` where the memory is host-coherent.
     pub(crate) fn to_flush(&self, offset: u64, size: u64) -> Option<MappedMemoryRange<'_, M>> {
         if self.props.contains(MemoryPropertyFlags::HOST_COHERENT) {
             return None;
@@ -330,8 +330,8 @@ impl<M> MemoryBlock<M> {
         Some(MappedMemoryRange { memory: self.memory(), offset: range.start, size: range.end - range.start })
     }
 
-    /// The atoms of the memory object that have these bytes of the block, cut at the block's end. There ends an atom,
-    /// but in an object of the block's own, which may end inside one.
+    /// The atoms of the memory object that have these bytes of the block, cut at the block's end. An atom ends there,
+    /// except in an object of the block's own, which may end inside one.
     pub(crate) fn whole_atoms(&self, offset: u64, size: u64) -> Range<u64> {
         let start = self.offset + offset;
         let end = start + size;

@@ -1,11 +1,10 @@
-//! The sizes by which the allocator decides, and how requests share memory objects.
+//! The sizes that steer the allocator, and how requests share memory objects.
 
-/// The sizes by which the allocator decides, in bytes. Any values serve: the allocator cuts them to what a heap can
-/// hold.
+/// The sizes that steer the allocator, in bytes. Any values serve: the allocator cuts them to what a heap can hold.
 #[derive(Clone, Copy, Debug, PartialEq, Eq)]
 pub struct Config {
-    /// A request of this size or more gets a memory object of its own. A smaller value costs more objects, of which a
-    /// device allows few, and their making is slow.
+    /// From this size on a request gets a memory object of its own. A smaller value costs more objects, of which a
+    /// device allows few, and which are slow to make.
     pub dedicated_threshold: u64,
 
     /// As `dedicated_threshold`, for requests that prefer an object of their own
@@ -23,20 +22,20 @@ pub struct Config {
     /// The size that the memory objects of a free list grow to.
     pub final_free_list_chunk: u64,
 
-    /// The size of the smallest block of a buddy allocator, rounded up to a power of two. A greater one counts as the
-    /// 1,024th part of its heap.
+    /// The size of the smallest block of a buddy allocator: at most the 1,024th part of its heap, rounded up to a power
+    /// of two.
     pub minimal_buddy_size: u64,
 
-    /// The least size of a buddy allocator's first memory object, rounded up to a power of two. Where it is less than
-    /// `minimal_buddy_size`, that counts.
+    /// The least size of a buddy allocator's first memory object, rounded up to a power of two. A value below
+    /// `minimal_buddy_size` counts as that one.
     pub initial_buddy_dedicated_size: u64,
 }
 
 impl Config {
     /// Sizes to start with on a desktop GPU: those of [`i_am_potato`](Config::i_am_potato) 1,024 times.
     ///
-    /// Their names say why they are no `Default`: the right sizes depend on the device and on what it is used for,
-    /// and these may not serve where heaps are small.
+    /// Their names say why neither is a `Default`: the right sizes depend on the device and its use, and these may not
+    /// serve where heaps are small.
     pub fn i_am_prototyping() -> Self {
         let potato = Config::i_am_potato();
         Config {
@@ -64,21 +63,23 @@ impl Config {
     }
 }
 
-/// How requests that are not of transient use ([`UsageFlags::TRANSIENT`](crate::UsageFlags::TRANSIENT)), and get no memory
-/// object of their own, share objects ([`GpuAllocator::with_sharing`](crate::GpuAllocator::with_sharing)).
+/// How requests share objects if they are not of transient use
+/// ([`UsageFlags::TRANSIENT`](crate::UsageFlags::TRANSIENT)) and get no memory object of their own
+/// ([`GpuAllocator::with_sharing`](crate::GpuAllocator::with_sharing)).
 #[derive(Clone, Copy, Debug, Default, PartialEq, Eq, Hash)]
 pub enum Sharing {
-    /// In buddy chunks, as in `gpu-alloc`: each block has a power of two of bytes and starts at a multiple of its size. Of
-    /// each memory type that it tries a call looks at 63 lengths at most, however many blocks are live.
+    /// In buddy chunks, as in `gpu-alloc`: each block has a power of two of bytes and starts at a multiple of its size.
+    /// For each memory type that it tries, a call looks at 63 lengths at most, however many blocks are live.
     #[default]
     Buddy,
 
-    /// In fit chunks: each block is as long as asked, in whole grains (256 bytes, or the non-coherent atom where that is
-    /// larger). They hold less memory for the same requests. Where its lists show no place, a call looks at all blocks and
-    /// free runs in the fit chunks of each memory type that it tries, before a chunk is asked for.
+    /// In fit chunks: each block is as long as asked, in whole grains (256 bytes, or the non-coherent atom where that
+    /// is larger). They hold less memory for the same requests. Where its lists show no place, a call looks at all
+    /// blocks and free runs in the fit chunks of each memory type that it tries, before it asks for a chunk.
     ///
-    /// Requests over the size of the first chunk ([`Config::starting_free_list_chunk`], at most a 32nd of the heap) get an
-    /// object of their own: all of them, where that is less than a grain. Later chunks grow up to four times the first. Of each memory type at most one fit chunk stays
-    /// without a live block, until [`GpuAllocator::cleanup`](crate::GpuAllocator::cleanup).
+    /// Requests over the size of the first chunk ([`Config::starting_free_list_chunk`], at most a 32nd of the heap) get
+    /// an object of their own; where that is less than a grain, all requests do. Later chunks grow up to four times the
+    /// first, and no larger than a free list's largest. Of each memory type at most one fit chunk stays without a live
+    /// block, until [`GpuAllocator::cleanup`](crate::GpuAllocator::cleanup).
     Fit,
 }

@@ -1,4 +1,4 @@
-//! What is refused, and why.
+//! Errors: what is refused, and why.
 
 use crate::types::{DeviceMapError, OutOfMemory};
 use std::error::Error;
@@ -7,8 +7,8 @@ use std::fmt::{Display, Formatter, Result};
 /// Why an allocation was refused. The allocator and the device then hold what they held before.
 #[derive(Clone, Copy, Debug, PartialEq, Eq, Hash)]
 pub enum AllocationError {
-    /// The device, or each heap that could serve, has too little memory left of its size or of its limit, or the request
-    /// is larger than
+    /// The device, or each heap that could serve, has too little memory left of its size or of its limit, or the
+    /// request is larger than
     /// [`DeviceProperties::max_memory_allocation_size`](crate::DeviceProperties::max_memory_allocation_size).
     OutOfDeviceMemory,
 
@@ -106,15 +106,15 @@ impl Error for MapError {}
 #[derive(Clone, Copy, Debug, PartialEq, Eq, Hash)]
 #[non_exhaustive]
 pub enum NewError {
-    /// There are more than 32 memory types, one is of a heap that is not there, or
-    /// [`DeviceProperties::non_coherent_atom_size`](crate::DeviceProperties::non_coherent_atom_size) is no power of
+    /// There are more than 32 memory types, one is of a heap that does not exist, or
+    /// [`DeviceProperties::non_coherent_atom_size`](crate::DeviceProperties::non_coherent_atom_size) is not a power of
     /// two of at most 2^62.
     BadProperties,
 
     /// The host has too little memory.
     OutOfHostMemory,
 
-    /// The library that was linked is of another version than this crate.
+    /// The linked library is of another version than this crate.
     OtherVersion,
 }
 

@@ -1,12 +1,12 @@
 //! The calls of `wallthyme.h` that this crate makes, with its types, as C sees them.
 //!
-//! Each constant and each struct is declared by a macro, which notes its name in C, its value, its size and its offsets
-//! for the test below: that compares all of them with what the library tells. So none can be left out.
+//! Each constant and each struct is declared by a macro, which notes its name in C, its value, its size and its
+//! offsets. The test below compares all of them with the library's. So none can be left out.
 
 use std::ffi::c_void;
 use std::ptr::null_mut;
 
-/// Declares constants of the header. There their names begin by `WT_`.
+/// Declares constants of the header. There their names begin with `WT_`.
 macro_rules! constants {
     ($( $NAME:ident: $Type:ty = $value:expr; )*) => {
         $( pub(crate) const $NAME: $Type = $value; )*
@@ -16,7 +16,7 @@ macro_rules! constants {
     };
 }
 
-/// Declares structs of the header, each behind its name there. Fields have the same names here and there.
+/// Declares structs of the header, each after its name there. Fields have the same names in both.
 macro_rules! structs {
     ($( $(#[$attribute:meta])* struct $c_name:ident $Name:ident { $( $field:ident: $Type:ty, )* } )*) => {
         $(
@@ -128,7 +128,7 @@ structs! {
         answer: u32,
     }
 
-    /// Its last four fields nothing here reads.
+    /// Nothing here reads its last four fields.
     #[allow(dead_code)]
     #[derive(Default)]
     struct wt_block Block {
@@ -152,7 +152,7 @@ structs! {
         remaining: u32,
     }
 
-    /// Its last two fields tests alone read.
+    /// Only tests read its last two fields.
     #[allow(dead_code)]
     #[derive(Default)]
     struct wt_heap_counts HeapCounts {
@@ -173,7 +173,7 @@ structs! {
 }
 
 impl Allocator {
-    /// What the header calls zeroed.
+    /// A zeroed allocator, as the header wants it.
     pub(crate) const CLOSED: Allocator = Allocator { full: 0, state: null_mut() };
 }
 
@@ -225,9 +225,9 @@ mod tests {
     use crate::{MemoryPropertyFlags, UsageFlags};
     use std::collections::BTreeMap;
 
-    /// The numbers of the rows of `layout.h`, by what they tell: `WT_OK`, `sizeof(wt_block)`,
-    /// `offsetof(wt_block, key)`. There is no second list of them. A released archive has that file beside the crate's
-    /// library, Wallthyme's repository in `c/`.
+    /// The numbers of the rows of `layout.h`, by what they give: `WT_OK`, `sizeof(wt_block)`, `offsetof(wt_block,
+    /// key)`. There is no second list of them. A released archive has that file next to the crate's library,
+    /// Wallthyme's repository in `c/`.
     fn numbers() -> BTreeMap<String, u32> {
         let released = concat!(env!("CARGO_MANIFEST_DIR"), "/lib/layout.h");
         let path = concat!(env!("CARGO_MANIFEST_DIR"), "/../c/layout.h");

@@ -36,12 +36,12 @@ macro_rules! flags {
 
             const NAMED: &'static [(&'static str, Self)] = &[$( (stringify!($FLAG), Self::$FLAG) ),*];
 
-            /// No flag.
+            /// The empty set.
             pub const fn empty() -> Self {
                 Self(0)
             }
 
-            /// Each flag that has a name.
+            /// All named flags.
             pub const fn all() -> Self {
                 Self(0 $( | $value )*)
             }
@@ -51,7 +51,7 @@ macro_rules! flags {
                 self.0
             }
 
-            /// The flags of these bits; `None` where one of them has no name.
+            /// The flags of these bits; `None` where a bit has no name.
             pub const fn from_bits(bits: u8) -> Option<Self> {
                 if bits & !Self::all().0 == 0 {
                     Some(Self(bits))
@@ -60,57 +60,57 @@ macro_rules! flags {
                 }
             }
 
-            /// The flags of these bits, without those that have no name.
+            /// The flags of these bits, without unnamed bits.
             pub const fn from_bits_truncate(bits: u8) -> Self {
                 Self(bits & Self::all().0)
             }
 
-            /// The flags of these bits, with those that have no name.
+            /// The flags of these bits, with unnamed bits.
             pub const fn from_bits_retain(bits: u8) -> Self {
                 Self(bits)
             }
 
-            /// The flag of this name, written as its constant is.
+            /// The flag of this name, written like its constant.
             pub fn from_name(name: &str) -> Option<Self> {
                 Self::NAMED.iter().find(|named| named.0 == name).map(|named| named.1)
             }
 
-            /// Whether there is no flag.
+            /// Whether no flag is set.
             pub const fn is_empty(&self) -> bool {
                 self.0 == 0
             }
 
-            /// Whether each flag that has a name is here.
+            /// Whether each named flag is set.
             pub const fn is_all(&self) -> bool {
                 self.contains(Self::all())
             }
 
-            /// Whether a flag is in both.
+            /// Whether a flag is set in both.
             pub const fn intersects(&self, other: Self) -> bool {
                 self.0 & other.0 != 0
             }
 
-            /// Whether each of the other flags is here.
+            /// Whether each of the other flags is set.
             pub const fn contains(&self, other: Self) -> bool {
                 self.0 & other.0 == other.0
             }
 
-            /// Adds the other flags.
+            /// Sets the other flags.
             pub fn insert(&mut self, other: Self) {
                 self.0 |= other.0;
             }
 
-            /// Takes the other flags away.
+            /// Clears the other flags.
             pub fn remove(&mut self, other: Self) {
                 self.0 &= !other.0;
             }
 
-            /// Takes away those of the other flags that are here, and adds the rest of them.
+            /// Flips the other flags: clears those that are set here, and sets the rest of them.
             pub fn toggle(&mut self, other: Self) {
                 self.0 ^= other.0;
             }
 
-            /// Adds the other flags where `value`, and else takes them away.
+            /// Sets the other flags if `value`, and clears them otherwise.
             pub fn set(&mut self, other: Self, value: bool) {
                 if value {
                     self.insert(other);
@@ -137,24 +137,24 @@ macro_rules! flags {
                 Self(self.0 & !other.0)
             }
 
-            /// The flags that are in one of the two alone.
+            /// The flags that are in exactly one of the two.
             #[must_use]
             pub const fn symmetric_difference(self, other: Self) -> Self {
                 Self(self.0 ^ other.0)
             }
 
-            /// The flags with a name that are not here.
+            /// The named flags that are not set here.
             #[must_use]
             pub const fn complement(self) -> Self {
                 Self(!self.0 & Self::all().0)
             }
 
-            /// The flags that are here one by one, the lowest bit first, and then those without a name together.
+            /// The flags that are set, one by one, the lowest bit first, and then unnamed bits together.
             pub fn iter(&self) -> $crate::flags::Iter<Self> {
                 $crate::flags::Iter { left: self.0, named: Self::all().0, of: Self }
             }
 
-            /// The flags that are here and have a name, with it.
+            /// The named flags that are set, each with its name.
             pub fn iter_names(&self) -> impl Iterator<Item = (&'static str, Self)> {
                 let flags = *self;
                 Self::NAMED.iter().copied().filter(move |named| flags.contains(named.1))

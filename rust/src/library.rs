@@ -4,7 +4,7 @@ use crate::error::NewError;
 use crate::ffi;
 use crate::{Config, DeviceProperties, Sharing};
 
-/// For how many names there is room at least where they are read.
+/// The least room for names where they are read.
 pub(crate) const ROOM: usize = 32;
 
 /// An open allocator, until it is closed.
@@ -12,11 +12,11 @@ pub(crate) struct Library {
     state: Box<State>,
 }
 
-/// What has to stay in its place: the handle, which is never copied while it is open. Beside it what a call needs for
-/// its questions, so that no call clears it.
+/// What must stay in its place: the handle, which is never copied while it is open, and what a call needs for its
+/// questions, so that no call clears it.
 struct State {
     handle: ffi::Allocator,
-    /// One more than are ever asked: each call tells where the next question may be written.
+    /// One more than are ever asked: each call says where the next question may be written.
     asked: [ffi::Question; ffi::MAX_QUESTIONS + 1],
 }
 
@@ -50,8 +50,8 @@ impl Library {
             handle: ffi::Allocator::CLOSED,
             asked: [ffi::Question::default(); ffi::MAX_QUESTIONS + 1],
         });
-        // SAFETY: each pointer is to a value that lives until the call ends, or to as many as are told. The handle is
-        // zeroed.
+        // SAFETY: each pointer is to a value that lives until the call ends, or to as many as its length says. The
+        // handle is zeroed.
         let status = unsafe {
             ffi::wt_open(
                 &mut state.handle,
@@ -71,8 +71,8 @@ impl Library {
         }
     }
 
-    /// Allocates a block, with the device's answers to what is asked. Where it is refused the status tells why; it is
-    /// `ASK` where more is asked than ever should be.
+    /// Allocates a block, with the device's answers to what is asked. Otherwise it returns the status, which is `ASK`
+    /// where more is asked than ever should be.
     pub(crate) fn alloc(
         &mut self,
         request: &ffi::Request,
@@ -96,7 +96,7 @@ impl Library {
         Err(ffi::ASK)
     }
 
-    /// Takes a range of an object of this size as a block. Where it is refused the status tells why.
+    /// Imports a range of an object of this size as a block, or returns the status.
     pub(crate) fn import(&mut self, memory_type: u32, object: u64, offset: u64, size: u64) -> Result<ffi::Block, u32> {
         let mut block = ffi::Block::default();
         // SAFETY: the handle is open, and `block` lives until the call ends.
@@ -106,7 +106,7 @@ impl Library {
         }
     }
 
-    /// Takes a block back. Where no block has this key the status says so.
+    /// Frees a block, or returns the status where no block has this key.
     pub(crate) fn free(&mut self, key: u64) -> Result<(), u32> {
         // SAFETY: the handle is open.
         match unsafe { ffi::wt_free(&mut self.state.handle, key) } {
@@ -115,13 +115,13 @@ impl Library {
         }
     }
 
-    /// Lets each object go that no block needs.
+    /// Releases each object that no block needs.
     pub(crate) fn cleanup(&mut self) {
         // SAFETY: the handle is open.
         expect("wt_cleanup", unsafe { ffi::wt_cleanup(&mut self.state.handle) });
     }
 
-    /// Reads the names of all objects that went, behind those that are there.
+    /// Reads the names of all released objects, and appends them.
     pub(crate) fn read_gone(&mut self, names: &mut Vec<u64>) {
         loop {
             names.reserve(ROOM);
@@ -148,13 +148,13 @@ impl Library {
         counts
     }
 
-    /// Whether that many objects may be held beside those that are; else nothing is changed.
+    /// Sets how many more objects may be held. Returns `false` where that is too many; nothing is changed then.
     pub(crate) fn set_remaining(&mut self, remaining: u32) -> bool {
         // SAFETY: the handle is open.
         unsafe { ffi::wt_set_remaining(&mut self.state.handle, remaining) == ffi::OK }
     }
 
-    /// Sets the limit of a heap. Where there is no such heap the status says so, and nothing is changed.
+    /// Sets the limit of a heap. Where there is no such heap it returns the status, and nothing is changed.
     pub(crate) fn set_heap_limit(&mut self, heap: u32, limit: u64) -> Result<(), u32> {
         // SAFETY: the handle is open.
         match unsafe { ffi::wt_set_heap_limit(&mut self.state.handle, heap, limit) } {
@@ -163,7 +163,7 @@ impl Library {
         }
     }
 
-    /// What is held of a heap, which has to be one of the device's.
+    /// What is held of a heap, which must be one of the device's.
     pub(crate) fn heap_counts(&mut self, heap: u32) -> ffi::HeapCounts {
         let mut counts = ffi::HeapCounts::default();
         // SAFETY: the handle is open, and `counts` lives until the call ends.
@@ -181,8 +181,8 @@ impl Library {
         Some(text)
     }
 
-    /// Writes as much of a report as fits, and returns the length of all of it; `None` where the host has too little
-    /// memory.
+    /// Writes as much of a report as fits, and returns the length of the whole report; `None` where the host has too
+    /// little memory.
     fn report_into(&mut self, text: &mut [u8]) -> Option<usize> {
         let mut length = 0;
         // SAFETY: the handle is open, `text` has that much room, and both pointers are good until the call ends.
@@ -194,10 +194,10 @@ impl Library {
         }
     }
 
-    /// Gives the library's memory back, once no object is held and all names were read. Else it stays where it is: the
-    /// blocks that are live say that it is needed.
+    /// Frees the library's memory, once no object is held and all names were read. Otherwise it stays where it is,
+    /// since live blocks need it.
     pub(crate) fn close(&mut self) {
-        // SAFETY: the handle is open. It is not used after this: this is called by the drop of its owner alone.
+        // SAFETY: the handle is open. It is not used after this: only the drop of its owner calls this.
         unsafe { ffi::wt_close(&mut self.state.handle) };
     }
 
@@ -242,7 +242,7 @@ fn expect(call: &str, status: u32) {
     }
 }
 
-/// A status that a call never has where it is made as it is here.
+/// Panics over a status that a call never returns when it is made as it is here.
 #[cold]
 pub(crate) fn unexpected(call: &str, status: u32) -> ! {
     panic!("{call} answered {status}, which it never should: a fault of this crate or of the library")

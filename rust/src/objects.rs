@@ -1,4 +1,4 @@
-//! The memory objects that blocks share, by the names that the library gave them.
+//! The memory objects that blocks share, by the library's names for them.
 
 use crate::block::Shared;
 use std::collections::HashMap;
@@ -23,7 +23,7 @@ impl<M> Objects<M> {
         self.by_name.get(&name).expect("an object of the library's has to be known by its name")
     }
 
-    /// Takes out an object that went; `None` where it is with its block.
+    /// Takes out a released object; `None` where it is with its block.
     pub(crate) fn take(&mut self, name: u64) -> Option<M> {
         let shared = self.by_name.remove(&name)?;
         Some(Arc::into_inner(shared.memory).expect("an object goes when each of its blocks was given back"))
@@ -34,7 +34,7 @@ impl<M> Objects<M> {
     }
 }
 
-/// Spreads names. They are numbers that the library counts up, so that nobody can choose ones that meet.
+/// Spreads names. They are numbers that the library counts up, so nobody can choose ones that collide.
 #[derive(Default)]
 struct NameHasher(u64);
 

@@ -1,8 +1,8 @@
-//! Reports of what was dropped and should have been given back.
+//! Reports of what was dropped and should have been returned.
 
 use std::io::{stderr, Write};
 
-/// Prints a line on standard error. While the thread unwinds nothing is told: what is dropped then was not forgotten.
+/// Prints a line on standard error. It prints nothing while the thread unwinds: what is dropped then was not forgotten.
 #[cold]
 pub(crate) fn report(what: &str) {
     if !std::thread::panicking() {

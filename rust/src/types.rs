@@ -1,4 +1,4 @@
-//! What a device offers, and what is asked of it.
+//! What a device offers, and what it is asked for.
 
 use crate::flags::flags;
 use std::borrow::Cow;
@@ -19,7 +19,7 @@ flags! {
         /// The host's reads and writes go through its cache.
         const HOST_CACHED = 0x08;
 
-        /// It may be there only once the device writes it. The allocator serves no request from such a type.
+        /// The device may back it only when it first writes it. The allocator serves no request from such a type.
         const LAZILY_ALLOCATED = 0x10;
 
         /// It is for protected content. The allocator serves no request from such a type.
@@ -28,14 +28,14 @@ flags! {
 }
 
 flags! {
-    /// What a memory object has to be made with.
+    /// What a memory object must be made with.
     pub struct AllocationFlags {
-        /// The device address of what is bound to it can be fetched (`VK_MEMORY_ALLOCATE_DEVICE_ADDRESS_BIT`).
+        /// The device address of what is bound to it can be queried (`VK_MEMORY_ALLOCATE_DEVICE_ADDRESS_BIT`).
         const DEVICE_ADDRESS = 0x01;
 
-        /// The object will hold the block of this request alone, and its size is that of the request. So what belongs to
-        /// one resource may be chained to it (`VkMemoryDedicatedAllocateInfo`, a priority, an export). It is no bit of
-        /// Vulkan's, and not to be passed on to it.
+        /// The object will hold only this request's block, and has the request's size. So what belongs to one resource
+        /// may be chained to it (`VkMemoryDedicatedAllocateInfo`, a priority, an export). It is not a bit of Vulkan's,
+        /// and must not be passed on to it.
         const OWN = 0x80;
     }
 }
@@ -111,7 +111,7 @@ pub struct MappedMemoryRange<'a, M> {
     /// The object.
     pub memory: &'a M,
 
-    /// Where the range starts, counted from the object's start.
+    /// Where the range starts, in bytes from the object's start.
     pub offset: u64,
 
     /// How long it is.
@@ -120,14 +120,14 @@ pub struct MappedMemoryRange<'a, M> {
 
 /// A device that the allocator takes memory objects from, each a value of `M`.
 ///
-/// The allocator keeps what Vulkan asks for of the calls: ranges are inside their objects; what is flushed and
-/// invalidated is whole atoms, or ends where its object ends, and is mapped; an object is mapped once at a time; and
-/// one that goes back was not given back before. A mapped object may go back: it needs no `unmap_memory` before.
+/// The allocator keeps Vulkan's rules for these calls. Ranges lie inside their objects. What is flushed and invalidated
+/// is mapped, and has whole atoms or ends where its object ends. An object is mapped once at a time, and freed once. A
+/// mapped object may be freed: it needs no `unmap_memory` before.
 ///
 /// A call may panic: the allocator can be used and dropped after that. A panic of
-/// [`deallocate_memory`](MemoryDevice::deallocate_memory) loses the object that it was asked to take back, and no
-/// other: the allocator's next `dealloc` or `cleanup` goes on with the others. Where another call panics, what was made
-/// for the request goes back.
+/// [`deallocate_memory`](MemoryDevice::deallocate_memory) loses the object that it was freeing, and no other: the
+/// allocator's next `dealloc` or `cleanup` goes on with the others. Where another call panics, what was made for the
+/// request is freed.
 pub trait MemoryDevice<M> {
     /// Makes a memory object of `size` bytes of a memory type.
     ///
@@ -137,36 +137,36 @@ pub trait MemoryDevice<M> {
     /// [`DEVICE_ADDRESS`](AllocationFlags::DEVICE_ADDRESS) is there only where its feature is enabled.
     unsafe fn allocate_memory(&self, size: u64, memory_type: u32, flags: AllocationFlags) -> Result<M, OutOfMemory>;
 
-    /// Takes a memory object back, mapped or not.
+    /// Frees a memory object, mapped or not.
     ///
     /// # Safety
     ///
     /// It is of this device, which is done with it.
     unsafe fn deallocate_memory(&self, memory: M);
 
-    /// Maps a range of a memory object. The pointer is to the range's start, and valid for reads and writes of all
-    /// its bytes until the object is unmapped or given back.
+    /// Maps a range of a memory object. The pointer is to the range's start, and valid for reads and writes of all its
+    /// bytes until the object is unmapped or freed.
     ///
     /// # Safety
     ///
     /// The object is of this device, host-visible and not mapped, and `offset .. offset + size` lies in it.
     unsafe fn map_memory(&self, memory: &mut M, offset: u64, size: u64) -> Result<NonNull<u8>, DeviceMapError>;
 
-    /// Ends the mapping of a memory object.
+    /// Unmaps a memory object.
     ///
     /// # Safety
     ///
     /// The object is of this device, and mapped.
     unsafe fn unmap_memory(&self, memory: &mut M);
 
-    /// Makes what the device wrote into these ranges seen by the host.
+    /// Makes the device's writes to these ranges visible to the host.
     ///
     /// # Safety
     ///
-    /// They are of mapped objects of this device, in what is mapped, and of whole atoms or up to the object's end.
+    /// They are in the mapped parts of objects of this device, and have whole atoms or end where the object ends.
     unsafe fn invalidate_memory_ranges(&self, ranges: &[MappedMemoryRange<'_, M>]) -> Result<(), OutOfMemory>;
 
-    /// Makes what the host wrote into these ranges seen by the device.
+    /// Makes the host's writes to these ranges visible to the device.
     ///
     /// # Safety
     ///

@@ -14,7 +14,7 @@ def read(path):
         return file.read()
 
 
-def named(root, folder=FIRST):
+def edits_of(root, folder=FIRST):
     """Each edit of the repository in a crate's folder, as its crate and its name there."""
     for crate in sorted(os.listdir(f"{root}/crates")):
         place = f"{root}/crates/{crate}/{folder}"
@@ -22,16 +22,16 @@ def named(root, folder=FIRST):
         yield from ((crate, name) for name in names if name.endswith(".edit"))
 
 
-def unfit(root, folder):
+def unfit_edits(root, folder):
     """Says of each of those edits that cannot be applied why it can't."""
-    for crate, edit in named(root, folder):
+    for crate, edit in edits_of(root, folder):
         try:
-            applied(f"{root}/crates/{crate}/{folder}/{edit}", f"{root}/crates/{crate}")
+            apply_edit(f"{root}/crates/{crate}/{folder}/{edit}", f"{root}/crates/{crate}")
         except (AssertionError, KeyError, OSError, UnicodeDecodeError) as reason:
             yield f"{crate}/{folder}/{edit} cannot be applied: {reason}"
 
 
-def applied(edit, crate):
+def apply_edit(edit, crate):
     """Returns the functions that the edit names, and the texts of the crate's files as it leaves them, by their paths
     in the crate's folder."""
     functions, texts, path, old = [], {}, "", ""

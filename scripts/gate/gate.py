@@ -1,4 +1,4 @@
-"""Runs the merge gate, rt ci, as it is, and tells meanwhile what it does.
+"""Runs the merge gate, rt ci, as it is, and prints meanwhile what it does.
 
 rt ci prints what was said of a crate when its proof has ended, and of the edits and tests only at its end. What it is
 at shows in the processes that it starts, which are watched here: a check of a crate in the crate's own folder, a check
@@ -15,28 +15,28 @@ import tempfile
 import threading
 import time
 
-from edits import applied, named, read
+from edits import apply_edit, edits_of, read
 
 LAST = re.compile(r"\d+ passed, \d+ failed")
 BEGUN = time.monotonic()
-TELLING = threading.Lock()
+PRINTING = threading.Lock()
 RUNNER = ("runner",)
 UNKNOWN = ("", 0)
 # The most memory that a check of a crate is seen to take, and a little more.
 EACH = 3_500_000_000
-# What is told of a block in which something is not proved.
+# What is printed of a block in which something is not proved.
 REASON = re.compile(r"error|no proof|NOT|: not proved|^rt: (?!chose)")
 
 
-def tell(text, log=None):
+def print_timed(text, log=None):
     """Prints a line with the time since the start, and keeps it in the log where it is given."""
     line = f"{time.monotonic() - BEGUN:6.0f} s  {text}"
-    with TELLING:
+    with PRINTING:
         for to in (None, log) if log else (None,):
             print(line, file=to, flush=True)
 
 
-def jobs():
+def jobs_at_once():
     """How many checks run at once: one a processor, as many as memory holds."""
     found = len(os.sched_getaffinity(0))
     free = 1024 * int(re.search(r"MemAvailable:\s+(\d+)", read("/proc/meminfo"))[1])
@@ -53,9 +53,9 @@ def bodies(root):
     """The edits of each crate: the functions that they name and the texts that they leave. One that cannot be applied
     is for rt ci to refuse."""
     found = {}
-    for crate, edit in named(root):
+    for crate, edit in edits_of(root):
         try:
-            found[crate, edit] = applied(f"{root}/crates/{crate}/must-fail/{edit}", f"{root}/crates/{crate}")
+            found[crate, edit] = apply_edit(f"{root}/crates/{crate}/must-fail/{edit}", f"{root}/crates/{crate}")
         except (AssertionError, KeyError, OSError, UnicodeDecodeError):
             found[crate, edit] = [], {}
     return found
@@ -91,7 +91,7 @@ class Watch(threading.Thread):
             work, begun = self.running.pop(pid)
             self.took[work] = now - begun
             if work[:1] == ("edit",):
-                tell(f"{work[1]}/{work[2]}: its check took {now - begun:.0f} s", self.log)
+                print_timed(f"{work[1]}/{work[2]}: its check took {now - begun:.0f} s", self.log)
 
     def work_of(self, pid, parent):
         """Says what a process does: the proof of a crate or of its tests, the check of an edit, a test or the runner of
@@ -117,7 +117,7 @@ class Watch(threading.Thread):
 
 
 class Gate:
-    """One run of rt ci, with what it told."""
+    """One run of rt ci, with what it printed."""
 
     def __init__(self, root, log, jobs):
         self.log, self.block, self.is_reason = log, None, False
@@ -140,7 +140,7 @@ class Gate:
                 try:
                     for line in ran.stdout:
                         print(line, end="", file=log, flush=True)
-                        self.hear(line.rstrip("\n"))
+                        self.take_line(line.rstrip("\n"))
                 except BaseException:
                     ran.send_signal(signal.SIGTERM)
                     raise
@@ -150,7 +150,7 @@ class Gate:
         used = resource.getrusage(resource.RUSAGE_CHILDREN)
         self.minutes, self.processor = (time.monotonic() - begun) / 60, (used.ru_utime + used.ru_stime) / 60
 
-    def hear(self, line):
+    def take_line(self, line):
         """Tells what a line of rt ci says, where a reader wants it: what ended, and the reasons of what failed."""
         ended = re.fullmatch(r"rt: (\w+?)(: its tests are)? (NOT )?PROVED.*|rt: (\w+?)(: its tests are)? proved", line)
         # (rt ci says nothing of tests that it keeps, and runs them all the same)
@@ -163,7 +163,7 @@ class Gate:
             self.block = []
         elif ended:
             crate, of_tests = ended[1] or ended[4], ended[2] or ended[5]
-            tell(line[len("rt: "):] + self.watch.since("tests" if of_tests else "proof", crate))
+            print_timed(line[len("rt: "):] + self.watch.since("tests" if of_tests else "proof", crate))
             if ended[4] and not of_tests:
                 self.proved.add(crate)
             elif not ended[4]:
@@ -175,22 +175,22 @@ class Gate:
         elif line.startswith("rt: must-fail ") and ": refused, as it must be" in line:
             self.refused, self.is_reason = self.refused + 1, False
         elif line.startswith("rt: must-fail ") and "BAD EDIT" in line:
-            # (rt ci tells of an edit that it cannot apply, and passes all the same)
+            # (rt ci reports an edit that it cannot apply, and passes all the same)
             self.bad, self.is_reason = self.bad + 1, True
-            tell(line[len("rt: "):])
+            print_timed(line[len("rt: "):])
         elif re.match(r"test .* \.\.\. ", line):
             self.is_reason = not (line.endswith(" ok") or " ok - " in line)
             took = self.watch.took.get(("test", line.split(" ... ")[0][len("test "):]), 0)
-            tell(f"{line}, {f'{took:.1f} s' if took else 'under 0.5 s'}")
+            print_timed(f"{line}, {f'{took:.1f} s' if took else 'under 0.5 s'}")
             self.tests += not self.is_reason
         elif line.startswith("rt: "):
-            tell(line[len("rt: "):])
+            print_timed(line[len("rt: "):])
             self.ran, self.is_reason = self.ran + bool(re.search(r" ran\b.* wrote what", line)), "must-fail " in line
         elif line.startswith(("tests: ", "test result: ")):
             self.is_reason = False
         elif self.is_reason:
             # (the rest of what failed)
-            tell(line)
+            print_timed(line)
 
     def passed(self):
         """What passed, in one sentence, which is the same for the same sources."""

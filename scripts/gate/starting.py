@@ -29,7 +29,7 @@ def stop(status, why):
     sys.exit(status)
 
 
-def copied(name):
+def copy_of(name):
     """The script's text, in a file that can be read twice."""
     script = tempfile.TemporaryFile()
     try:
@@ -53,7 +53,7 @@ def run(command, script, replies, **how):
     return ran.returncode, said
 
 
-def unproved(program, words, script, replies):
+def run_unproved(program, words, script, replies):
     """Runs the program on the script without proof. Returns the program's status, or nothing where that run gave no
     answer."""
     say(f"this build is not proved, and keeps nothing: {NAME} --proved or scripts/test proves the program and keeps it")
@@ -108,14 +108,14 @@ def prove(program, words):
         return place
 
 
-def answer(program, words, proving, script, replies, wants_proof):
+def run_program(program, words, proving, script, replies, wants_proof):
     """Runs the program on the script as the first of these can: the kept one, one without proof, one that is proved
     now, in a run with the words `proving`."""
     place = program.place()
     if not os.path.exists(place) and not wants_proof:
         size = os.fstat(script.fileno()).st_size
         if size <= LARGEST[program]:
-            status = unproved(program, words, script, replies)
+            status = run_unproved(program, words, script, replies)
             if status is not None:
                 return status
         else:
@@ -151,9 +151,9 @@ def main(program, words, options, reports, asked):
         words = reports
     else:
         words = proving
-    with copied(names[0]) as script, tempfile.TemporaryFile() as replies:
+    with copy_of(names[0]) as script, tempfile.TemporaryFile() as replies:
         script.flush()
-        status = answer(program, words, proving, script, replies, wants_proof)
+        status = run_program(program, words, proving, script, replies, wants_proof)
         replies.seek(0)
         try:
             with open(1, "wb", closefd=False) as out:

@@ -1698,7 +1698,7 @@ static void check_config(VkDeviceSize local, VkDeviceSize other, uint64_t unit)
     }
 }
 
-/* How many bytes the first object has that small blocks share, and how it is shared, which the configuration decides. */
+/* The size of the first object that small blocks share, and how it is shared, which the configuration decides. */
 static VkDeviceSize first_chunk(const wt_config *config, uint64_t sharing)
 {
     const VkMemoryRequirements needs = {SMALL, 1, 1u << STUB_LOCAL};

@@ -5,4 +5,5 @@ pub mod Grants
 pub mod Returns
 pub mod Served
 pub mod Serving
+pub mod Small
 pub mod States

@@ -20,7 +20,7 @@ use Rattle.gpu_alloc_base.proofs.Maps.{own_inserted}
 use Rattle.gpu_alloc_base.proofs.Multiples.{mod_from_multiple, multiple_down, multiple_from_mod, multiple_min, multiple_of_lower, multiple_rest, multiple_times}
 use Rattle.gpu_alloc_base.proofs.PowersOfTwo.{greater_power, next_is_enough, power_of_bit}
 use Rattle.gpu_alloc_buddy.specs.Buddy.{Fits}
-use Rattle.gpu_alloc.specs.Allocation.{AllocatesBy, AloneIsTold, Decides, IsAloneWhereServed, IsCandidate, IsExact, IsGranted, Plan, candidates_of, fits_a_chunk, is_alone, plan, serves_alone, strategy}
+use Rattle.gpu_alloc.specs.Allocation.{AllocatesBy, AloneIsTold, Decides, ExactIsTold, IsAloneWhereServed, IsAsAsked, IsCandidate, IsExact, IsGranted, Plan, candidates_of, fits_a_chunk, is_alone, plan, serves_alone, strategy}
 use Rattle.gpu_alloc.specs.Atoms.{KeepsAtoms, IsNextFitChunk, IsNextListChunk}
 use Rattle.gpu_alloc.specs.BuddySharing.{IsPieceFront, buddy_question, buddy_size, front_of, with_span}
 use Rattle.gpu_alloc.specs.Candidates.{candidate}
@@ -359,12 +359,12 @@ pub record IsServedSo (w : Strategy) (s : State) (r : Request) (t : ℕ) (b : Bl
   pub of_type : b.memory_type ≡ t
   pub alone : is_alone w ≡ true → (b.kind ≡ DedicatedObject) × (b.size ≡ r.size)
   pub shared : is_alone w ≡ false → is_shared b.kind ≡ true
-  pub exact : b.kind ≡ FitChunk → b.size ≡ fit_size s r t
+  pub exact : b.kind ≡ FitChunk → IsAsAsked s r t b
 
 not_fit : {X : Type 0} (b : Block) {kind : Kind} → b.kind ≡ kind → (kind ≡ FitChunk → ⊥) → b.kind ≡ FitChunk → X
 not_fit b is other fit = absurd (other (sym is ∙ fit))
 
-in_chunk : {w : Strategy} {s : State} {r : Request} {t : ℕ} (b : Block) {kind : Kind} → b.memory_type ≡ t → b.kind ≡ kind → is_shared kind ≡ true → is_alone w ≡ false → (b.kind ≡ FitChunk → b.size ≡ fit_size s r t) → IsServedSo w s r t b
+in_chunk : {w : Strategy} {s : State} {r : Request} {t : ℕ} (b : Block) {kind : Kind} → b.memory_type ≡ t → b.kind ≡ kind → is_shared kind ≡ true → is_alone w ≡ false → (b.kind ≡ FitChunk → IsAsAsked s r t b) → IsServedSo w s r t b
 in_chunk b typed is chunk other exact = record {
   of_type = typed;
   alone = λ own. (let both = sym own ∙ other in absurd (cc));
@@ -384,8 +384,8 @@ served_so InBuddyChunk s r t es b new (inl gives) = in_chunk b (ap (λ (x : Bloc
 served_so InBuddyChunk s r t es b new (inr gives) = in_chunk b (ap (λ (x : Block). x.memory_type) gives.place.is) (ap (λ (x : Block). x.kind) gives.place.is) refl refl (not_fit b (ap (λ (x : Block). x.kind) gives.place.is) (λ same. cc))
 served_so InFreeList s r t es b new (inl gives) = in_chunk b (ap (λ (x : Block). x.memory_type) gives.place.is) (ap (λ (x : Block). x.kind) gives.place.is) refl refl (not_fit b (ap (λ (x : Block). x.kind) gives.place.is) (λ same. cc))
 served_so InFreeList s r t es b new (inr gives) = in_chunk b (ap (λ (x : Block). x.memory_type) gives.place.is) (ap (λ (x : Block). x.kind) gives.place.is) refl refl (not_fit b (ap (λ (x : Block). x.kind) gives.place.is) (λ same. cc))
-served_so InFitChunk s r t es b new (inl gives) = in_chunk b (ap (λ (x : Block). x.memory_type) gives.place.is) (ap (λ (x : Block). x.kind) gives.place.is) refl refl (λ fit. gives.place.fitting.exact)
-served_so InFitChunk s r t es b new (inr gives) = in_chunk b (ap (λ (x : Block). x.memory_type) gives.place.is) (ap (λ (x : Block). x.kind) gives.place.is) refl refl (λ fit. ap (λ (x : Block). x.size) gives.place.is)
+served_so InFitChunk s r t es b new (inl gives) = in_chunk b (ap (λ (x : Block). x.memory_type) gives.place.is) (ap (λ (x : Block). x.kind) gives.place.is) refl refl (λ fit. (gives.place.fitting.exact, gives.place.fitting.aligned))
+served_so InFitChunk s r t es b new (inr gives) = in_chunk b (ap (λ (x : Block). x.memory_type) gives.place.is) (ap (λ (x : Block). x.kind) gives.place.is) refl refl (λ fit. (ap (λ (x : Block). x.size) gives.place.is, (0, (let front : b.offset ≡ 0 = ap (λ (x : Block). x.offset) gives.place.is in omega (arith, front)))))
 
 -- in general: by what its memory type was asked
 pub record HasKind (s : State) (p : Plan) (b : Block) : Type 0 where
@@ -419,8 +419,9 @@ alone_is s r hint (Ok b) is = subst (λ t. IsTrue (serves_alone s r hint t) ↔ 
 
 -- In a fit chunk it is as long as asked.
 pub exact_is : (s : State) (r : Request) (hint : Option Dedicated) (answer : Result Block AllocationError) → IfOk answer (HasKind s (plan s r hint)) → IfOk answer (IsExact s r)
+unfolding IsExact
 exact_is s r hint (Err e) is = tt
-exact_is s r hint (Ok b) is = λ fit. is.so.exact fit ∙ ap (fit_size s r) (sym is.so.of_type)
+exact_is s r hint (Ok b) is = λ fit. subst (λ t. IsAsAsked s r t b) (sym is.so.of_type) (is.so.exact fit)
 
 -- A required grant has an object of its own.
 pub required_granted : (s : State) (r : Request) (hint : Dedicated) → hint ≡ Required → (answer : Result Block AllocationError) → IfOk answer (IsAloneWhereServed s r (Some hint)) → IfOk answer (λ b. b.kind ≡ DedicatedObject)
@@ -432,3 +433,8 @@ required_granted s r hint required (Ok b) is = is.0 (subst (λ d. IsTrue (serves
 pub alone_told : AloneIsTold
 unfolding IsAloneWhereServed
 alone_told s r hint b is = is
+
+-- and how long it is
+pub exact_told : ExactIsTold
+unfolding IsExact
+exact_told s r b is = is

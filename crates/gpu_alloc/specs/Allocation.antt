@@ -1,5 +1,5 @@
--- How an allocation is decided: what is asked of the device for each candidate, and what the first one that is not
--- passed answers.
+-- How an allocation is decided: what each candidate asks of the device, and what the first candidate that is not passed
+-- over answers.
 use Rattle.std.specs.Prelude.{◌≡◌, ◌≢◌, ◌⊎◌, ℕ, ◌+◌, ◌%◌, ◌/◌, ◌^◌, ◌<◌, ◌≤◌, ◌==◌, Bool, true, false, ◌&&◌, ◌||◌, List, [], ◌∷◌, ◌++◌, length}
 use Rattle.std.specs.Prelude.{Option, Some, None, Result, Ok, Err, IsTrue, ◌↔◌, cond, min, nat_lt, nat_le, nat_eq, MatchBool}
 use Rattle.std.specs.Int.{bit_at}
@@ -17,7 +17,7 @@ use Rattle.gpu_alloc_base.specs.declared.error.AllocationError.TheVariants.{OutO
 use Rattle.gpu_alloc_base.specs.declared.error.AllocationError.TheVariants.{NoCompatibleMemoryTypes, TooManyObjects}
 use Rattle.gpu_alloc_usage.specs.Ranking.{candidates, compatible, implied}
 use Rattle.gpu_alloc.specs.Candidates.{candidate}
-use Rattle.gpu_alloc.specs.FitSharing.{fit_size, fits_first}
+use Rattle.gpu_alloc.specs.FitSharing.{fit_alignment, fit_size, fits_first}
 use Rattle.gpu_alloc.specs.Request.{in_pages, is_required}
 use Rattle.gpu_alloc_block.specs.State.{HeldObject, Span, Block, span_of, State, IsLive, IsOwned, AreApart, is_shared}
 use Rattle.gpu_alloc.specs.declared.allocator.Ask.{Ask}
@@ -30,19 +30,19 @@ use Rattle.gpu_alloc.specs.declared.request.Request.{Request}
 use Rattle.gpu_alloc.specs.declared.request.Dedicated.{Dedicated}
 use Rattle.gpu_alloc.specs.declared.request.Dedicated.TheVariants.{Required, Preferred}
 
--- Which way a candidate is served.
+-- How a candidate is served.
 
--- the request is small against a threshold, and against the candidate's heap
+-- the request is below a threshold, and below a 32nd part of the candidate's heap
 abbrev pub is_small : State → Request → ℕ → ℕ → Bool
 is_small s r threshold t = nat_lt r.size (min threshold (heap_size s.properties t / 32))
 
--- in whole atoms it fits a largest free-list chunk
+-- in whole atoms it fits the largest free-list chunk
 abbrev pub fits_a_chunk : State → Request → ℕ → Bool
 fits_a_chunk s r t =
     let atom = atom_of s.properties t in
     nat_le (up r.size atom) (final_size s.config (heap_size s.properties t) atom)
 
--- the chunk that a small request which isn't transient shares, by choice: where fit chunks are chosen, it has to fit the
+-- how a small request that isn't transient shares an object, by choice: where fit chunks are chosen, it must fit the
 -- first one
 abbrev pub shares_by : Sharing → Bool → Strategy
 shares_by Buddy fits = InBuddyChunk
@@ -61,18 +61,18 @@ strategy s r None t = unhinted s r t
 
 -- What becomes of a candidate.
 
--- A candidate is passed: its heap is smaller than the request, or its way of being served passes it.
+-- A candidate is passed over: its heap is smaller than the request, or the way it would be served passes over it.
 abbrev pub IsPassed : State → Request → Option Dedicated → ℕ → List Event → Type 0
 IsPassed s r hint t es =
     ((heap_size s.properties t < r.size) × (es ≡ []))
     ⊎ ((r.size ≤ heap_size s.properties t) × case.IsPassed (candidate (strategy s r hint t) s r t) es)
 
--- It decides: its heap is no smaller than the request, and what its way of being served answers is the answer.
+-- A candidate decides: its heap is no smaller than the request, and the way it is served gives the answer.
 abbrev pub Decides : State → Request → Option Dedicated → ℕ → List Event → Result Block AllocationError → State → Type 0
 Decides s r hint t es answer new =
     (r.size ≤ heap_size s.properties t) × case.Decides (candidate (strategy s r hint t) s r t) es answer new
 
--- a refusal of a candidate: where there is no device memory it is passed
+-- a candidate's error: without device memory it is passed over
 abbrev pub passing : {T : Type 0} → AllocationError → Result (Option T) AllocationError
 passing OutOfDeviceMemory = Ok None
 passing OutOfHostMemory = Err OutOfHostMemory
@@ -84,22 +84,22 @@ abbrev pub TriesBy : Strategy → State → Request → ℕ → List Event → R
     → Type 0
 TriesBy w s r t es answer new = case.Tries (candidate w s r t) es answer new
 
--- One candidate was tried: it is passed, or it decides.
+-- One candidate was tried: it is passed over, or it decides.
 abbrev pub Tries : State → Request → Option Dedicated → ℕ → List Event → Result (Option Block) AllocationError → State
     → Type 0
 Tries s r hint t es (Ok None) new = IsPassed s r hint t es × (new ≡ s)
 Tries s r hint t es (Ok (Some b)) new = Decides s r hint t es (Ok b) new
 Tries s r hint t es (Err e) new = Decides s r hint t es (Err e) new
 
--- What a candidate is asked: each the same request, with a hint or none.
+-- What each candidate is asked: the same request, perhaps with a hint.
 abbrev pub ask : Request → Option Dedicated → ℕ → Ask
 ask r hint t = record { request = r; hint = hint }
 
--- one candidate was tried for what it is asked
+-- one candidate was tried for its request
 abbrev pub TriesAsked : State → (ℕ → Ask) → ℕ → List Event → Result (Option Block) AllocationError → State → Type 0
 TriesAsked s asked t es answer new = Tries s (asked t).request (asked t).hint t es answer new
 
--- In rank, the first candidate that is not passed decides. Where all are passed there is no device memory.
+-- In rank, the first candidate that is not passed over decides. Where all are, there is no device memory.
 abbrev pub TriesAll : State → (ℕ → Ask) → List ℕ → List Event → Result Block AllocationError → State → Type 0
 TriesAll s asked [] es answer new = (es ≡ []) × (answer ≡ Err OutOfDeviceMemory) × (new ≡ s)
 TriesAll s asked (t ∷ ts) es answer new =
@@ -122,7 +122,7 @@ pub record Plan : Type 0 where
   pub candidates : List ℕ
   pub asked : ℕ → Ask
 
--- the checks before any candidate in their order, and then the candidates
+-- the checks before any candidate, in order, and then the candidates
 abbrev pub AllocatesBy : State → Plan → List Event → Result Block AllocationError → State → Type 0
 AllocatesBy s p es answer new =
     MatchBool p.too_large (Refuses s OutOfDeviceMemory es answer new) (
@@ -147,9 +147,9 @@ plan s r hint = record {
 unfoldable pub Allocates : State → Request → Option Dedicated → List Event → Result Block AllocationError → State → Type 0
 Allocates s r hint es answer new = AllocatesBy s (plan s r hint) es answer new
 
--- Images that are not linear, apart from all else by whole pages of a granularity.
+-- Images that are not linear, which whole pages of a granularity keep apart from all else.
 
--- whether a candidate serves it by an object of its own
+-- whether it is by an object of its own
 abbrev pub is_alone : Strategy → Bool
 is_alone OwnObject = true
 is_alone InBuddyChunk = false
@@ -163,16 +163,17 @@ serves_alone s r hint t = is_alone (strategy s r hint t)
 unfoldable pub IsAloneWhereServed : State → Request → Option Dedicated → Block → Type 0
 IsAloneWhereServed s r hint b = IsTrue (serves_alone s r hint b.memory_type) ↔ (b.kind ≡ DedicatedObject)
 
--- what that says
+-- that clause, spelled out
 abbrev pub AloneIsTold : Type 0
 AloneIsTold = (s : State) (r : Request) (hint : Option Dedicated) (b : Block) → IsAloneWhereServed s r hint b
     → IsTrue (serves_alone s r hint b.memory_type) ↔ (b.kind ≡ DedicatedObject)
 
--- a candidate is asked for whole pages, or, where those would be an object of their own, for one of the size as asked
+-- a candidate is asked for whole pages, or for an object of the size as asked where the pages would get an object of
+-- their own
 abbrev pub ask_in_pages : State → Request → Option Dedicated → Request → ℕ → Ask
 ask_in_pages s r hint paged t = cond (serves_alone s paged hint t) (ask r (Some Required) t) (ask paged hint t)
 
--- what a candidate is asked, with the request in whole pages or none
+-- what a candidate is asked, where the request may be given in whole pages
 abbrev pub asked_of : State → Request → Option Dedicated → Option Request → ℕ → Ask
 asked_of s r hint None = ask r hint
 asked_of s r hint (Some paged) = ask_in_pages s r hint paged
@@ -181,7 +182,7 @@ asked_of s r hint (Some paged) = ask_in_pages s r hint paged
 abbrev pub plan_with : State → Request → Option Dedicated → Option Request → Plan
 plan_with s r hint paged = record (plan s r hint) { asked = asked_of s r hint paged }
 
--- too large is also what has 2^64 bytes or more in whole pages
+-- a request is also too large if whole pages for it have 2^64 bytes or more
 abbrev pub plan_in_pages : State → Request → Option Dedicated → ℕ → Plan
 plan_in_pages s r hint granularity = record {
   too_large = nat_le (2 ^ 64) (up r.size granularity) || is_too_large s r;
@@ -190,29 +191,29 @@ plan_in_pages s r hint granularity = record {
   asked = ask_in_pages s r hint (in_pages granularity r);
 }
 
--- Such an allocation.
+-- An allocation of an optimal block.
 unfoldable pub AllocatesOptimal : State → Request → Option Dedicated → ℕ → List Event → Result Block AllocationError
     → State → Type 0
 AllocatesOptimal s r hint granularity es answer new = AllocatesBy s (plan_in_pages s r hint granularity) es answer new
 
--- in a shared object it begins at a page, and has whole pages for the size as asked
+-- in a shared object the block begins at a page, and has whole pages for the size as asked
 abbrev pub IsInPages : ℕ → ℕ → Block → Type 0
 IsInPages granularity size b = is_shared b.kind ≡ true → (b.offset % granularity ≡ 0) × (up size granularity ≤ b.size)
 
--- What an allocation makes of the device's objects.
+-- What an allocation does to the device's objects.
 
--- an object as it is counted: of the memory type, so large, and mapped whole where it is shared and the host sees it
+-- an object as it is counted: of its memory type and size, and mapped whole where it is shared and host-visible
 pub record IsAsCounted (p : Properties) (h : HeldObject) (o : Object) : Type 0 where
   pub of_type : o.memory_type ≡ h.memory_type
   pub of_size : o.size ≡ h.counted
   pub mapped : o.mapped ≡ cond (is_shared h.kind && is_host_visible p h.memory_type) (Some (0, h.counted)) None
 
--- a grant: one object more where the block's object was not held, as it is counted now, and else nothing
+-- a grant: one object more, as it is counted now, where the block's object was not held before; else no change
 abbrev pub ObjectsWith : State → Block → State → (ℕ → Option Object) → (ℕ → Option Object) → Type 0
 ObjectsWith s b after old new =
     ObjectsGiven (IsAsCounted s.properties) (map.get s.held b.object) (map.get after.held b.object) b.object old new
 
--- an allocation: nothing where it is refused
+-- an allocation: an error changes nothing
 abbrev pub ObjectsAfter : State → Result Block AllocationError → State → (ℕ → Option Object) → (ℕ → Option Object)
     → Type 0
 ObjectsAfter s (Ok b) after old new = ObjectsWith s b after old new
@@ -229,19 +230,28 @@ ObjectsTried s (Err e) after old new = new ≡ old
 unfoldable pub IsCandidate : State → Request → ℕ → Type 0
 IsCandidate s r t = Contains (candidates_of s r) t
 
--- There is such a memory type, the request permits it, and it may serve what the request's usage means.
+-- There is such a memory type, the request permits it, and it may serve the request's usage.
 pub record ServesRequest (s : State) (r : Request) (t : ℕ) : Type 0 where
   pub known : t < length s.properties.memory_types
   pub permitted : bit_at r.memory_types t ≡ 1
   pub serves : compatible (implied (usage_bits r.usage)) (props_at s.properties t) ≡ true
 
--- each candidate does
+-- each candidate serves the request
 pub record CandidatesServe : Type 0 where
   pub each : (s : State) (r : Request) (t : ℕ) → IsCandidate s r t → ServesRequest s r t
 
--- a block of a fit chunk is as long as asked, in whole grains
-abbrev pub IsExact : State → Request → Block → Type 0
-IsExact s r b = b.kind ≡ FitChunk → b.size ≡ fit_size s r b.memory_type
+-- a block is as long as requested, in whole grains of this memory type, and starts at a grain and with the request's
+-- alignment
+abbrev pub IsAsAsked : State → Request → ℕ → Block → Type 0
+IsAsAsked s r t b = (b.size ≡ fit_size s r t) × IsMultipleOf (fit_alignment s r t) b.offset
+
+-- a block of a fit chunk is as requested
+unfoldable pub IsExact : State → Request → Block → Type 0
+IsExact s r b = b.kind ≡ FitChunk → IsAsAsked s r b.memory_type b
+
+-- that clause, spelled out
+abbrev pub ExactIsTold : Type 0
+ExactIsTold = (s : State) (r : Request) (b : Block) → IsExact s r b → b.kind ≡ FitChunk → IsAsAsked s r b.memory_type b
 
 -- what a caller may know of a granted block without following the decision
 pub record IsGranted (s : State) (r : Request) (new : State) (b : Block) : Type 0 where
@@ -254,7 +264,7 @@ pub record IsGranted (s : State) (r : Request) (new : State) (b : Block) : Type 
   -- the block lies inside its object
   pub inside : (h : HeldObject) × (map.get new.held b.object ≡ Some h) × (b.offset + b.size ≤ h.counted)
   pub unmapped : b.mapping ≡ None
-  -- its object is the allocator's own, and no import
+  -- its object was made by the allocator, not imported
   pub made : b.kind ≢ Imported
   -- its memory type is one of the request's candidates, whose property bits and atom the block has
   pub candidate : IsCandidate s r b.memory_type

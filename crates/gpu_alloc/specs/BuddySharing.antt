@@ -1,4 +1,4 @@
--- Blocks in the shared chunks of a memory type's buddy allocator, as the whole allocator's state tells of them.
+-- Blocks in the shared chunks of a memory type's buddy allocator, in terms of the whole allocator's state.
 use Rattle.std.specs.Prelude.{◌≡◌, ℕ, zero, suc, ◌+◌, ◌-◌, ◌*◌, ◌≤◌, List, [], ◌∷◌, Option, Some, None, max, slice_get}
 use Rattle.std.specs.FinMap as map
 use Rattle.std.specs.FinSet as set
@@ -12,13 +12,13 @@ use Rattle.gpu_alloc_base.specs.Sizes.{next_power_of_two, minimal_size}
 use Rattle.gpu_alloc_block.specs.State.{Span, Block, TypeState, State, granted_block}
 
 -- the size of a block for a request: the least power of two that is not below the request's size and alignment, the
--- atom and the least buddy block
+-- atom and the smallest buddy block
 abbrev pub buddy_size : State → Request → ℕ → ℕ
 buddy_size s r t =
     next_power_of_two (max (max r.size (r.align_mask + 1))
     (max (atom_of s.properties t) (minimal_size s.config (heap_size s.properties t))))
 
--- somewhere in a held buddy chunk of the memory type there is room for a block of this size
+-- there is room for a block of this size in a held buddy chunk of the memory type
 abbrev pub HasBuddyPlace : State → ℕ → ℕ → Type 0
 HasBuddyPlace s t size = (object start : ℕ) × IsPlace (IsFreeByte s t BuddyChunk) object start size
 
@@ -36,7 +36,7 @@ abbrev pub next_chunk_of : Option TypeState → ℕ
 next_chunk_of None = 0
 next_chunk_of (Some type) = type.next_chunk
 
--- what is asked for a chunk of which a block of this size is the front: two blocks, and the next chunk's least size
+-- the question for a chunk with a block of this size at its front: two blocks, and at least the next chunk's least size
 abbrev pub buddy_question : State → ℕ → ℕ → ChunkQuestion
 buddy_question s t size = record {
   size = max (next_chunk_of (slice_get s.types t)) (2 * size);
@@ -57,7 +57,7 @@ front_of object size = record { object = object; offset = 0; size = size }
 abbrev pub with_span : State → Span → State
 with_span s span = record s { live = set.insert s.live span }
 
--- a memory type's next buddy chunk will be as large at least
+-- a memory type's next buddy chunk will be at least this large
 unfoldable pub with_next_chunk : List TypeState → ℕ → ℕ → List TypeState
 with_next_chunk [] t size = []
 with_next_chunk (type ∷ types) zero size = record type { next_chunk = size } ∷ types

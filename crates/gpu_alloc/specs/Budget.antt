@@ -1,4 +1,4 @@
--- What a heap has left, and that what was asked of it is never more than it has.
+-- A heap's budget, and that no more than a heap has is ever asked of it.
 use Rattle.std.specs.Prelude.{◌≡◌, ◌⊎◌, ℕ, ◌-◌, ◌<◌, ◌≤◌, Bool, true, false, List, [], length, cond, Option, Some, None}
 use Rattle.std.specs.Prelude.{Result, Ok, Err, IfSome, slice_get, sum_by, min, set}
 use Rattle.std.specs.FinMap as map
@@ -20,26 +20,26 @@ use Rattle.gpu_alloc.specs.declared.request.Request.{Request}
 
 -- The budget.
 
--- the size of a heap, 0 where there is none
+-- the size of a heap, 0 where there is no such heap
 abbrev pub heap_bytes : Properties → ℕ → ℕ
 heap_bytes p heap = size_of (slice_get p.memory_heaps heap)
 
--- how many bytes may still be asked of it: none where its ledger is at or past its limit
+-- how many bytes may still be asked of it: 0 where its ledger is at or above its limit
 abbrev pub heap_budget : State → ℕ → ℕ
 heap_budget s heap = heap_limit s heap - ledger s heap
 
--- no limit is over its heap's size
+-- no limit exceeds its heap's size
 abbrev pub AreLimits : State → Type 0
 AreLimits s = (heap : ℕ) → heap < length s.properties.memory_heaps → heap_limit s heap ≤ heap_bytes s.properties heap
 
--- with another limit of a heap, of which one at or over its size is none
+-- with another limit of a heap; one at or above its size removes the limit
 abbrev pub with_heap_limit : State → ℕ → ℕ → State
 with_heap_limit s heap limit =
     record s { heap_limits = set s.heap_limits heap (min limit (heap_bytes s.properties heap)) }
 
--- What is held of a heap beside imports.
+-- What is held of a heap apart from imports.
 
--- an object that was made elsewhere
+-- an object that another made
 abbrev pub is_import : Kind → Bool
 is_import DedicatedObject = false
 is_import Imported = true
@@ -47,11 +47,11 @@ is_import BuddyChunk = false
 is_import (FreeListChunk number) = false
 is_import FitChunk = false
 
--- what a held object adds that the device was asked for
+-- what a held object counts, if the device was asked for it
 abbrev pub asked_share : Properties → ℕ → ℕ × HeldObject → ℕ
 asked_share p heap entry = cond (is_import entry.1.kind) 0 (share p heap entry)
 
--- how many bytes of a heap the device was asked for and are held
+-- how many bytes of a heap are held that the device was asked for
 abbrev pub asked_bytes : State → ℕ → ℕ
 asked_bytes s heap = sum_by (asked_share s.properties heap) (map.entries s.held)
 
@@ -66,7 +66,7 @@ HoldsNoImportOf s heap =
 
 -- What becomes of a question within the budget.
 
--- the device is asked, and the answer is its own; or the host had no memory, for the allocator or for the device
+-- the device is asked, and the answer is its own; or host memory is missing for the allocator or for the device
 abbrev pub IsDevicesAnswer : (c : Case Block State) → List Event → Result (Option Block) AllocationError → Type 0
 IsDevicesAnswer c es (Ok None) = LacksDeviceMemory c.question es
 IsDevicesAnswer c es (Ok (Some b)) = es ≡ made c.question (c.object b)
@@ -75,7 +75,8 @@ IsDevicesAnswer c es (Err OutOfDeviceMemory) = ⊥
 IsDevicesAnswer c es (Err NoCompatibleMemoryTypes) = ⊥
 IsDevicesAnswer c es (Err TooManyObjects) = ⊥
 
--- a candidate whose heap is no smaller than the request, and which has a question within the budget, is not passed for it
+-- a candidate with a question within the budget, whose heap is no smaller than the request, is not passed over for its
+-- budget
 abbrev pub IsAskedWithinBudget : Type 0
 IsAskedWithinBudget =
     (s : State) (r : Request) (hint : Option Dedicated) (t : ℕ) (es : List Event)

@@ -1,4 +1,4 @@
--- A request to a candidate, as the whole allocator's state tells of it, by the way in which the candidate is served.
+-- A request to a candidate, in terms of the whole allocator's state, by the way in which the candidate is served.
 use Rattle.std.specs.Prelude.{◌≡◌, ℕ, ◌+◌, ◌-◌, true, false, None}
 use Rattle.std.specs.FinMap as map
 use Rattle.std.specs.FinSet as set
@@ -36,7 +36,7 @@ holding s h b = record s {
   remaining = s.remaining - 1;
 }
 
--- the block is this one, and no object of its object's name was held
+-- the block is this one, and no object of that name was held
 pub record IsNewBlock (s : State) (b made : Block) : Type 0 where
   pub is : b ≡ made
   pub was_free : map.get s.held b.object ≡ None
@@ -62,7 +62,7 @@ own_candidate s size t = record {
 
 -- A block of a shared chunk.
 
--- the block is one of a buddy chunk, and the front of a piece
+-- the block is in a buddy chunk, and the front of a piece
 pub record IsFrontBlock (s : State) (t size : ℕ) (b : Block) : Type 0 where
   pub is : b ≡ buddy_block s t (span_of b)
   pub front : IsPieceFront s t size (span_of b)
@@ -85,7 +85,7 @@ buddy_candidate s size t = record {
   with_object = λ b. with_span (with_buddy_chunk s t b.object (buddy_question s t size).size) (span_of b);
 }
 
--- the block is one of a free list's chunk, and the tail of a run
+-- the block is in a free-list chunk, and the tail of a run
 pub record IsTailBlock (s : State) (t size alignment : ℕ) (b : Block) : Type 0 where
   pub number : ℕ
   pub is : b ≡ list_block s t number (span_of b)
@@ -110,7 +110,7 @@ list_candidate s size alignment t = record {
   with_object = λ b. with_span (with_list_chunk s t b.object (list_question s t size).size) (span_of b);
 }
 
--- the block is one of a fit chunk, exactly as long as asked, in a run that has room
+-- the block is in a fit chunk, exactly as long as asked, in a run with room
 pub record IsFitBlock (s : State) (t size alignment : ℕ) (b : Block) : Type 0 where
   pub is : b ≡ fit_block s t (span_of b)
   pub fitting : IsInFreeRun s t size alignment (span_of b)

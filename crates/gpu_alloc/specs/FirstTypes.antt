@@ -1,4 +1,4 @@
--- Chunk sizes of memory types at first.
+-- The initial chunk sizes of memory types.
 use Rattle.std.specs.Prelude.{List, map, max, slice_get}
 use Rattle.gpu_alloc_types.specs.Flags.{property_bits}
 use Rattle.gpu_alloc_types.specs.Properties.{Properties, size_of, atom_for}
@@ -8,7 +8,7 @@ use Rattle.gpu_alloc.specs.FitSharing.{grain}
 use Rattle.gpu_alloc_block.specs.State.{TypeState}
 use Rattle.gpu_alloc_base.specs.declared.config.Config.{Config}
 
--- a memory type's chunk sizes at first: no free-list chunk has a number yet
+-- a memory type's initial chunk sizes: no free-list chunk has a number yet
 abbrev pub first_type_state : Config → Properties → MemoryType → TypeState
 first_type_state c p t =
     let heap = size_of (slice_get p.memory_heaps t.heap) in

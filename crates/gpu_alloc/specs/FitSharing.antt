@@ -1,5 +1,5 @@
--- Blocks in the fit chunks of a memory type, as the whole allocator's state tells of them.
-use Rattle.std.specs.Prelude.{◌≡◌, ℕ, zero, suc, ◌+◌, ◌-◌, ◌*◌, ◌/◌, Bool, List, [], ◌∷◌, Option, Some, None, max, min, nat_le, slice_get}
+-- Blocks in the fit chunks of a memory type, in terms of the whole allocator's state.
+use Rattle.std.specs.Prelude.{◌≡◌, ℕ, zero, suc, ◌+◌, ◌-◌, ◌*◌, ◌/◌, ◌<◌, ◌≤◌, Bool, List, [], ◌∷◌, Option, Some, None, max, min, nat_le, slice_get}
 use Rattle.std.specs.FinMap as map
 use Rattle.gpu_alloc_types.specs.Properties.{heap_size, atom_of, is_host_visible}
 use Rattle.gpu_alloc_block.specs.declared.block.Kind.TheVariants.{FitChunk}
@@ -12,8 +12,8 @@ use Rattle.gpu_alloc_base.specs.Sizes.{up, down, starting_size, final_size, grow
 use Rattle.gpu_alloc_base.specs.declared.config.Config.{Config}
 use Rattle.gpu_alloc_block.specs.State.{HeldObject, Span, Block, TypeState, State, granted_block}
 
--- The grain of fit chunks, in bytes: 256, or the atom where that is larger. Their sizes, and where blocks in them start
--- and end, are multiples of it.
+-- The grain of fit chunks, in bytes: 256, or the atom where that is larger. Fit chunks have whole grains, and blocks in
+-- them start and end at multiples of it.
 abbrev pub grain : ℕ → ℕ
 grain atom = max 256 atom
 
@@ -22,23 +22,35 @@ grain_of s t = grain (atom_of s.properties t)
 
 -- Sizes, for a memory type with this grain in a heap of this size.
 
--- the first fit chunk's, as it is configured; 0 where that is below the grain
+-- the first fit chunk's size, as configured; 0 where that is below the grain
 abbrev pub first_fit : Config → ℕ → ℕ → ℕ
 first_fit c heap g = down (min c.starting_free_list_chunk (heap / 32)) g
 
--- the largest fit chunk: four times the first one, and no larger than a largest free-list chunk
+-- the largest fit chunk: four times the first, and no larger than the largest free-list chunk
 abbrev pub largest_fit : Config → ℕ → ℕ → ℕ
 largest_fit c heap g = min (4 * starting_size c heap g) (final_size c heap g)
 
--- the size that is looked for, in whole grains
+-- what these sizes guarantee: the first chunk has room for every request that shares one, and a later one is no smaller
+-- and at most four times as large. None is larger than a 32nd of the heap or a single grain
+pub record AreSmall (c : Config) (heap g : ℕ) : Type 0 where
+  pub room : first_fit c heap g ≤ starting_size c heap g
+  pub grows : starting_size c heap g ≤ largest_fit c heap g
+  pub four_times : largest_fit c heap g ≤ 4 * starting_size c heap g
+  pub part : largest_fit c heap g ≤ max g (heap / 32)
+
+-- every configuration has such sizes
+pub record FitChunksAreSmall : Type 0 where
+  pub each : (c : Config) (heap g : ℕ) → 0 < g → AreSmall c heap g
+
+-- the size of a block for a request, in whole grains
 abbrev pub fit_size : State → Request → ℕ → ℕ
 fit_size s r t = up r.size (grain_of s t)
 
--- the alignment that is used: the greater of the request's and the grain
+-- the alignment of a block: the greater of the request's and the grain
 abbrev pub fit_alignment : State → Request → ℕ → ℕ
 fit_alignment s r t = max (r.align_mask + 1) (grain_of s t)
 
--- in whole grains the request is no larger than a first fit chunk
+-- in whole grains the request is no larger than the first fit chunk
 abbrev pub fits_first : State → Request → ℕ → Bool
 fits_first s r t = nat_le (fit_size s r t) (first_fit s.config (heap_size s.properties t) (grain_of s t))
 
@@ -49,12 +61,12 @@ pub record IsFitChunk (s : State) (t object : ℕ) : Type 0 where
   pub of_type : chunk.memory_type ≡ t
   pub of_kind : chunk.kind ≡ FitChunk
 
--- somewhere in a held fit chunk of the memory type there is room for a block of this size, at a multiple of the alignment
+-- there is room for a block of this size, at a multiple of the alignment, in a held fit chunk of the memory type
 abbrev pub HasFitPlace : State → ℕ → ℕ → ℕ → Type 0
 HasFitPlace s t size alignment = (object start : ℕ) × IsListPlace (IsFreeByte s t FitChunk) size alignment object start
 
--- the span is exactly as long, starts at a multiple of the alignment, and each byte of it is free: so it lies in one free
--- run
+-- the span has exactly this size, starts at a multiple of the alignment, and each byte of it is free: so it lies in one
+-- free run
 pub record IsInFreeRun (s : State) (t size alignment : ℕ) (span : Span) : Type 0 where
   pub exact : span.size ≡ size
   pub aligned : IsMultipleOf alignment span.offset
@@ -73,7 +85,7 @@ next_fit_chunk s t = fit_chunk_of (slice_get s.types t)
 abbrev pub largest_fit_chunk : State → ℕ → ℕ
 largest_fit_chunk s t = largest_fit s.config (heap_size s.properties t) (grain_of s t)
 
--- what is asked for a chunk of which a block of this size is the front
+-- the question for a chunk with a block of this size at its front
 abbrev pub fit_question : State → ℕ → ℕ → ChunkQuestion
 fit_question s t size = record {
   size = grown_chunk (next_fit_chunk s t) (largest_fit_chunk s t) size;
@@ -86,7 +98,7 @@ fit_question s t size = record {
 abbrev pub fit_block : State → ℕ → Span → Block
 fit_block s t span = granted_block s t FitChunk span
 
--- a memory type's next fit chunk will have this size at least
+-- a memory type's next fit chunk will have at least this size
 unfoldable pub with_next_fit : List TypeState → ℕ → ℕ → List TypeState
 with_next_fit [] t size = []
 with_next_fit (type ∷ types) zero size = record type { fit_chunk = size } ∷ types

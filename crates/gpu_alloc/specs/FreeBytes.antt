@@ -5,7 +5,7 @@ use Rattle.gpu_alloc_base.specs.FreeSpace.{IsIn}
 use Rattle.gpu_alloc_block.specs.State.{HeldObject, Span, State, IsLive}
 use Rattle.gpu_alloc_block.specs.declared.block.Kind.{Kind}
 
--- the byte lies in an object of this memory type that is held for this, and in no live span
+-- the byte lies in an object of this memory type and kind, and in no live span
 pub record IsFreeByte (s : State) (memory_type : ℕ) (kind : Kind) (object at : ℕ) : Type 0 where
   pub chunk : HeldObject
   pub held : map.get s.held object ≡ Some chunk

@@ -1,4 +1,4 @@
--- Blocks in the shared chunks of a memory type's free list, as the whole allocator's state tells of them.
+-- Blocks in the shared chunks of a memory type's free list, in terms of the whole allocator's state.
 use Rattle.std.specs.Prelude.{◌≡◌, ℕ, zero, suc, ◌+◌, ◌-◌, ◌<◌, ◌^◌, List, [], ◌∷◌, Option, Some, None, max, slice_get}
 use Rattle.std.specs.FinMap as map
 use Rattle.gpu_alloc_types.specs.Properties.{heap_size, atom_of, is_host_visible}
@@ -11,31 +11,30 @@ use Rattle.gpu_alloc_base.specs.NewChunk.{ChunkQuestion, flags_of}
 use Rattle.gpu_alloc_base.specs.Sizes.{up, final_size, grown_chunk, doubled_chunk}
 use Rattle.gpu_alloc_block.specs.State.{HeldObject, Span, Block, TypeState, State, granted_block}
 
--- the size that is looked for, in whole atoms
+-- the size of a block for a request, in whole atoms
 abbrev pub list_size : State → Request → ℕ → ℕ
 list_size s r t = up r.size (atom_of s.properties t)
 
--- the alignment that is used: the greater of the request's and the atom
+-- the alignment of a block: the greater of the request's and the atom
 abbrev pub list_alignment : State → Request → ℕ → ℕ
 list_alignment s r t = max (r.align_mask + 1) (atom_of s.properties t)
 
--- the object is held as the chunk of this number of the memory type's free list
+-- the object is held as the chunk with this number of the memory type's free list
 pub record IsListChunk (s : State) (t number object : ℕ) : Type 0 where
   pub chunk : HeldObject
   pub held : map.get s.held object ≡ Some chunk
   pub of_type : chunk.memory_type ≡ t
   pub of_kind : chunk.kind ≡ FreeListChunk number
 
--- the byte of the chunk of this number is free
+-- the byte of the chunk with this number is free
 abbrev pub IsFreeInChunk : State → ℕ → ℕ → ℕ → Type 0
 IsFreeInChunk s t number at = (object : ℕ) × IsFreeByte s t (FreeListChunk number) object at
 
--- somewhere in a held free-list chunk of the memory type there is room for a block of this size, at a multiple of the
--- alignment
+-- there is room for a block of this size, at a multiple of the alignment, in a held free-list chunk of the memory type
 abbrev pub HasListPlace : State → ℕ → ℕ → ℕ → Type 0
 HasListPlace s t size alignment = (number start : ℕ) × IsListPlace (IsFreeInChunk s t) size alignment number start
 
--- the span is the tail of the last run that has room: all from the last aligned start that leaves the size
+-- the span is the tail of the last run that has room, from the last aligned start that leaves the size
 pub record IsRunTail (s : State) (t size alignment number : ℕ) (span : Span) : Type 0 where
   pub run : FreeListRegion
   pub last : IsLastWithRoom (IsFreeInChunk s t) size alignment run
@@ -44,7 +43,7 @@ pub record IsRunTail (s : State) (t size alignment number : ℕ) (span : Span) :
   pub end : span.offset + span.size ≡ run.end
   pub chunk : IsListChunk s t number span.object
 
--- What a memory type's next free-list chunk has at least, and the number of its latest one; 0 where there is no such
+-- The least size of a memory type's next free-list chunk, and the number of its latest one; 0 where there is no such
 -- type.
 
 abbrev pub list_chunk_of : Option TypeState → ℕ
@@ -65,7 +64,7 @@ latest_number s t = number_of (slice_get s.types t)
 abbrev pub largest_list_chunk : State → ℕ → ℕ
 largest_list_chunk s t = final_size s.config (heap_size s.properties t) (atom_of s.properties t)
 
--- what is asked for a chunk of which a block of this size is the tail
+-- the question for a chunk with a block of this size at its tail
 abbrev pub list_question : State → ℕ → ℕ → ChunkQuestion
 list_question s t size = record {
   size = grown_chunk (next_list_chunk s t) (largest_list_chunk s t) size;
@@ -74,20 +73,20 @@ list_question s t size = record {
   mapped = is_host_visible s.properties t;
 }
 
--- there is a number for one more chunk
+-- a number is left for one more chunk
 abbrev pub HasListNumber : State → ℕ → Type 0
 HasListNumber s t = latest_number s t + 1 < 2 ^ 64
 
--- an unmapped block of a free list's chunk
+-- an unmapped block of a free-list chunk
 abbrev pub list_block : State → ℕ → ℕ → Span → Block
 list_block s t number span = granted_block s t (FreeListChunk number) span
 
--- the tail of an object of which nothing is used
+-- the tail of an unused object
 abbrev pub tail_of : ℕ → ℕ → ℕ → ℕ → Span
 tail_of object whole size alignment =
     record { object = object; offset = tail_start size alignment whole; size = whole - tail_start size alignment whole }
 
--- a memory type's next free-list chunk will have this size at least, and its latest one has the next number
+-- a memory type's next free-list chunk will have at least this size, and its latest one has the next number
 unfoldable pub with_next_list : List TypeState → ℕ → ℕ → List TypeState
 with_next_list [] t size = []
 with_next_list (type ∷ types) zero size = record type { list_chunk = size; number = type.number + 1 } ∷ types

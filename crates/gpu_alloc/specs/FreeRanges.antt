@@ -14,7 +14,7 @@ pub record IsFreePieceOf (s : State) (t : ℕ) (r : FreeRange) : Type 0 where
   pub end : r.end ≡ r.start + length
   pub piece : IsFreePiece (IsFreeByte s t BuddyChunk) r.object r.start length
 
--- whether what is free in an object that is held so are runs, of any length and from any byte on
+-- whether the free space of an object of this kind is in runs, of any length and from any byte on
 abbrev pub has_runs : Kind → Bool
 has_runs Dedicated = false
 has_runs Imported = false

@@ -1,4 +1,4 @@
--- An allocation that asks the device for nothing: only what is held serves.
+-- An allocation that asks the device for nothing and is served only from what is held.
 use Rattle.std.specs.Prelude.{◌≡◌, ◌⊎◌, ℕ, List, [], ◌∷◌, length, nat_eq, Option, Some, None, Result, Ok, Err}
 use Rattle.std.specs.Prelude.{MatchBool}
 use Rattle.gpu_alloc_base.specs.declared.error.AllocationError.{AllocationError}
@@ -12,12 +12,12 @@ use Rattle.gpu_alloc.specs.declared.allocator.Strategy.{Strategy}
 use Rattle.gpu_alloc.specs.declared.request.Dedicated.{Dedicated}
 use Rattle.gpu_alloc.specs.declared.request.Request.{Request}
 
--- A memory type that is served so has a place for the request in a held chunk. An object of its own never is one.
+-- A memory type that is served so has a place for the request in a held chunk. An object of its own is never a place.
 pub record HasPlaceBy (w : Strategy) (s : State) (r : Request) (t : ℕ) : Type 0 where
   pub fits : (candidate w s r t).Fits
   pub place : (candidate w s r t).HasPlace
 
--- a candidate has a place for what it is asked
+-- a candidate has a place for its request
 abbrev pub HasPlaceFor : State → (ℕ → Ask) → ℕ → Type 0
 HasPlaceFor s asked t =
     HasPlaceBy (strategy s (asked t).request (asked t).hint t) s (asked t).request t
@@ -29,8 +29,8 @@ IsFirstWithPlace s asked (t ∷ ts) found =
     (HasPlaceFor s asked t × (found ≡ Some t))
     ⊎ ((HasPlaceFor s asked t → ⊥) × IsFirstWithPlace s asked ts found)
 
--- What that one answers, none where there is none: it gives the block that it gives with no question to the device, or
--- lacks host memory.
+-- What that candidate answers, `None` where there is none: it gives the block that it gives without a question to the
+-- device, or lacks host memory.
 abbrev pub ServesHeld : State → (ℕ → Ask) → Option ℕ → Result (Option Block) AllocationError → State → Type 0
 ServesHeld s asked None answer new = (answer ≡ Ok None) × (new ≡ s)
 ServesHeld s asked (Some t) (Ok None) new = ⊥
@@ -41,15 +41,15 @@ ServesHeld s asked (Some t) (Err e) new = (e ≡ OutOfHostMemory) × (new ≡ s)
 abbrev pub IsRefused : State → AllocationError → Result (Option Block) AllocationError → State → Type 0
 IsRefused s e answer new = (answer ≡ Err e) × (new ≡ s)
 
--- The checks before any candidate, as for a request that may ask, but that of objects, of which none is made. Then the
--- first candidate in rank that has a place serves.
+-- The checks before any candidate, as for a request that may ask. The count of objects is not checked, since none is
+-- made. Then the first candidate in rank with a place serves.
 abbrev pub AllocatesHeld : State → Plan → Result (Option Block) AllocationError → State → Type 0
 AllocatesHeld s p answer new =
     MatchBool p.too_large (IsRefused s OutOfDeviceMemory answer new) (
     MatchBool (nat_eq (length p.candidates) 0) (IsRefused s NoCompatibleMemoryTypes answer new) (
     (found : Option ℕ) × IsFirstWithPlace s p.asked p.candidates found × ServesHeld s p.asked found answer new))
 
--- how a request is tried, with a granularity of pages or none
+-- how a request is tried, perhaps with a granularity of pages
 abbrev pub plan_held : State → Request → Option Dedicated → Option ℕ → Plan
 plan_held s r hint None = plan s r hint
 plan_held s r hint (Some granularity) = plan_in_pages s r hint granularity

@@ -1,4 +1,4 @@
--- What an allocator's fields stand for, and what they keep.
+-- What an allocator's fields stand for, and their invariants.
 use Rattle.std.specs.Prelude.{◌≡◌, ℕ, ◌+◌, ◌<◌, ◌≤◌, ◌^◌, true, false, List, [], ◌∷◌, map, length, slice_get, sum_by, Some}
 use Rattle.std.specs.Prelude.{IfSome, IsTrue}
 use Rattle.std.specs.FinMap as map_of
@@ -32,7 +32,7 @@ use Rattle.gpu_alloc_block.specs.State.{HeldObject, Span, TypeState, State, shar
 abbrev pub offer_of : Heap → MemoryHeap
 offer_of heap = record { size = heap.size }
 
--- how many bytes may be asked of a heap in all
+-- the limit of a heap, in bytes
 abbrev pub limit_of : Heap → ℕ
 limit_of heap = heap.limit
 
@@ -46,7 +46,7 @@ properties_in l heaps = record {
   buffer_device_address = l.buffer_device_address;
 }
 
--- the chunk sizes of each memory type, the next buddy chunk's as its buddy allocator has it
+-- the chunk sizes of each memory type, with the next buddy chunk as its buddy allocator has it
 abbrev pub types_in : List TypeState → List Buddy → List TypeState
 types_in [] buddies = []
 types_in (type ∷ types) [] = []
@@ -82,7 +82,7 @@ state_in l heaps buddies lists fits t remaining = record {
 abbrev pub IsLiveIn : Table → Span → Type 0
 IsLiveIn t span = IsTrue (set.contains t.live span)
 
--- one span of the object is live and no other, and it lies there as the object's kind says
+-- exactly one span of the object is live, and it lies there as the object's kind says
 pub record HasOneSpan (t : Table) (object : ℕ) (h : HeldObject) : Type 0 where
   pub span : Span
   pub live : IsLiveIn t span
@@ -90,29 +90,30 @@ pub record HasOneSpan (t : Table) (object : ℕ) (h : HeldObject) : Type 0 where
   pub lies : LiesIn h.kind h.counted span
   pub alone : (other : Span) → IsLiveIn t other → other.object ≡ object → other ≡ span
 
--- an object is held of a known memory type, and where it is no chunk one span of it is live
+-- an object is held of a known memory type, and where it is not a chunk exactly one span of it is live
 pub record IsKnown (t : Table) (p : Properties) (object : ℕ) (h : HeldObject) : Type 0 where
   pub of_type : h.memory_type < length p.memory_types
   pub one_span : is_shared h.kind ≡ false → HasOneSpan t object h
 
--- a live span is not empty and of a held object
+-- a live span is not empty, and is of a held object
 pub record IsOfObject (t : Table) (span : Span) : Type 0 where
   pub nonempty : 0 < span.size
   pub object : HeldObject
   pub held : map_of.get t.held span.object ≡ Some object
 
--- each counted size is a number of bytes that a device knows
+-- each counted size is less than 2^64
 abbrev pub AreSmall : List (ℕ × HeldObject) → Type 0
 AreSmall [] = Unit {0}
 AreSmall (entry ∷ entries) = (entry.1.counted < 2 ^ 64) × AreSmall entries
 
--- a heap's running ledger is the sum that it stands for, of which no more was asked than the heap has, as the limit is
+-- a heap's running ledger is the sum that it stands for; no more was asked of the heap than it has, and its limit is no
+-- higher
 pub record IsLedger (p : Properties) (heap : ℕ) (entries : List (ℕ × HeldObject)) (h : Heap) : Type 0 where
   pub used : h.used ≡ sum_by (share p heap) entries
   pub within : sum_by (asked_share p heap) entries ≤ h.size
   pub limited : h.limit ≤ h.size
 
--- each heap's is
+-- each heap's ledger is
 abbrev pub AreLedgers : Properties → List Heap → List (ℕ × HeldObject) → Type 0
 AreLedgers p heaps entries = (heap : ℕ) → IfSome (slice_get heaps heap) (IsLedger p heap entries)
 
@@ -152,7 +153,7 @@ pub record IsForType (c : Config) (p : Properties) (index : ℕ) (b : Buddy) : T
   pub atom : b.atom ≡ atom_of p index
   pub minimal : b.minimal ≡ minimal_size c (heap_size p index)
 
--- and that it is sound
+-- and it is sound
 pub record IsBuddyFor (c : Config) (p : Properties) (index : ℕ) (b : Buddy) : Type 0 where
   pub for_type : IsForType c p index b
   pub sound : IsSound b
@@ -168,7 +169,7 @@ pub record AreBuddies (c : Config) (p : Properties) (buddies : List Buddy) : Typ
 abbrev pub list_object : Listing → ℕ → Chunk → HeldObject
 list_object l number c = record { memory_type = l.memory_type; counted = c.size; kind = FreeListChunk number }
 
--- the object is held as the chunk of this number of this memory type
+-- the object is held as the chunk with this number of this memory type
 pub record IsNumberedChunk (t : Table) (memory_type number object : ℕ) (h : HeldObject) : Type 0 where
   pub held : map_of.get t.held object ≡ Some h
   pub of_kind : h.kind ≡ FreeListChunk number
@@ -197,7 +198,7 @@ pub record IsListForType (c : Config) (p : Properties) (index : ℕ) (l : Listin
   pub atom : l.atom ≡ atom_of p index
   pub final_chunk : l.final_chunk ≡ final_size c (heap_size p index) (atom_of p index)
 
--- and that it is sound
+-- and it is sound
 pub record IsListFor (c : Config) (p : Properties) (index : ℕ) (l : Listing) : Type 0 where
   pub for_type : IsListForType c p index l
   pub sound : list.IsSound l
@@ -236,7 +237,7 @@ pub record IsFitForType (c : Config) (p : Properties) (index : ℕ) (f : Fitting
   pub atom : f.atom ≡ grain (atom_of p index)
   pub final_chunk : f.final_chunk ≡ largest_fit c (heap_size p index) (grain (atom_of p index))
 
--- and that it is sound
+-- and it is sound
 pub record IsFitFor (c : Config) (p : Properties) (index : ℕ) (f : Fitting) : Type 0 where
   pub for_type : IsFitForType c p index f
   pub sound : fit.IsSound f

@@ -1,4 +1,4 @@
--- An allocator at first.
+-- An allocator when it is opened.
 use Rattle.std.specs.Prelude.{◌≡◌, ℕ, List, IfSome, map as map_list, slice_get}
 use Rattle.std.specs.FinMap as map
 use Rattle.std.specs.FinSet as set
@@ -21,11 +21,12 @@ use Rattle.gpu_alloc.specs.FirstTypes.{first_types}
 use Rattle.gpu_alloc.specs.FitSharing.{grain, largest_fit}
 use Rattle.gpu_alloc_base.specs.declared.config.Config.{Config}
 
--- the size of a heap that is offered
+-- the size of an offered heap
 abbrev pub size_of_heap : MemoryHeap → ℕ
 size_of_heap heap = heap.size
 
--- nothing is held or live, as many objects and bytes may be held as the device allows, and the chunk sizes are the first
+-- nothing is held or live, as many objects and bytes may be held as the device allows, and the chunk sizes are the
+-- initial ones
 abbrev pub opened_by : Sharing → Config → Properties → State
 opened_by sharing c p = record {
   held = map.empty;

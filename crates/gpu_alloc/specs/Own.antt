@@ -1,4 +1,4 @@
--- The objects of one block each.
+-- The objects that are held for one block each.
 use Rattle.std.specs.Prelude.{◌≡◌, ◌≢◌, ℕ, cond, Some, IsTrue}
 use Rattle.std.specs.FinMap as map_of
 use Rattle.std.specs.FinSet as set
@@ -11,7 +11,7 @@ use Rattle.gpu_alloc.specs.declared.own.OwnRow.{OwnRow}
 use Rattle.gpu_alloc.specs.declared.spans.HeldRow.{HeldRow}
 use Rattle.gpu_alloc_base.specs.declared.buddy_block.Leaf.{Leaf as LiveSpan}
 
--- the objects by name, the spans of their blocks, and for how many more there is room
+-- the objects by name, the spans of their blocks, and how many more there is room for
 pub record OwnTable : Type 0 where
   pub held : map_of.FinMap nat_cmp HeldObject
   pub live : set.FinSet span_cmp
@@ -46,7 +46,7 @@ StandsUnder rows object key = (row : OwnRow) × (get rows key ≡ Some row) × (
 abbrev pub StandsNowhere : Slab OwnRow → ℕ → Type 0
 StandsNowhere rows object = (key : ℕ) (row : OwnRow) → get rows key ≡ Some row → row.object ≢ object
 
--- the object is held as its row says, and the row's span is live in it and no other
+-- the object is held as its row says, and exactly the row's span is live in it
 pub record IsRowOf (held : map_of.FinMap nat_cmp HeldObject) (live : set.FinSet span_cmp) (object : ℕ) (row : OwnRow) : Type 0 where
   pub named : row.object ≡ object
   pub is_held : map_of.get held object ≡ Some (own_held row)

@@ -1,4 +1,4 @@
--- What a call makes of the blocks that a caller has in hand.
+-- What a call does to the blocks that a caller has in hand.
 use Rattle.std.specs.Prelude.{◌≡◌, ◌≢◌, ◌⊎◌, ℕ, ◌+◌, ◌≤◌, List, [], ◌∷◌, ◌++◌, Option, None}
 use Rattle.std.specs.FinMap as map
 use Rattle.std.specs.FinSet as set
@@ -9,7 +9,7 @@ pub use Rattle.gpu_alloc_block.specs.InHand.{AreTwo, ShareNoObject, IsBeside, Ar
 use Rattle.gpu_alloc_block.specs.Kept.{LeavesInHand, outside}
 use Rattle.gpu_alloc_block.specs.State.{HeldObject, State, Block, span_of, IsOwned}
 
--- What a call leaves that takes no block back: what was given to `new`, the heaps' limits, and each block that was owned.
+-- What a call that takes no block keeps: what was given to `new`, the heaps' limits, and each block that was owned.
 pub record Leaves (s new : State) : Type 0 where
   pub properties : new.properties ≡ s.properties
   pub sharing : new.sharing ≡ s.sharing
@@ -18,13 +18,13 @@ pub record Leaves (s new : State) : Type 0 where
   pub owned : (b : Block) → IsOwned s b → IsOwned new b
   pub all : (bs : List Block) → AreOwned s bs → AreOwned new bs
 
--- the held objects are those of before, or those and the block's: one more at most
+-- the held objects are those of before, or those and the block's: at most one more
 pub record HoldsWith (s : State) (b : Block) (new : State) : Type 0 where
   pub objects : (new.held ≡ s.held)
       ⊎ ((h : HeldObject) × (map.get s.held b.object ≡ None) × (new.held ≡ map.insert s.held b.object h))
   pub few : map.len new.held ≤ map.len s.held + 1
 
--- What a grant adds: the block's span to those that are live, and the block to those in hand, which are others.
+-- What a grant adds: the block's span to the live spans, and the block to those in hand, which are different from it.
 pub record Adds (s new : State) (b : Block) : Type 0 where
   pub live : new.live ≡ set.insert s.live (span_of b)
   pub count : set.len new.live ≡ set.len s.live + 1
@@ -33,7 +33,7 @@ pub record Adds (s new : State) (b : Block) : Type 0 where
   pub after : (c : Block) → IsOwned s c → AreTwo b c
   pub all : (bs : List Block) → AreOwned s bs → AreOwned new (bs ++ b ∷ [])
 
--- What a return takes away: the block's span, and no other block that is in hand.
+-- What a return removes: the block's span, and no other block that is in hand.
 pub record Removes (s : State) (b : Block) (new : State) : Type 0 where
   pub properties : new.properties ≡ s.properties
   pub sharing : new.sharing ≡ s.sharing
@@ -42,13 +42,13 @@ pub record Removes (s : State) (b : Block) (new : State) : Type 0 where
   pub live : new.live ≡ set.remove s.live (span_of b)
   pub count : set.len new.live + 1 ≡ set.len s.live
   pub owned : (c : Block) → IsOwned s c → span_of c ≢ span_of b → IsOwned new c
-  -- of those in hand it may be the first, the last, or any other
+  -- among those in hand it may be the first, the last, or any other
   pub first : (cs : List Block) → AreOwned s (b ∷ cs) → AreOwned new cs
   pub last : (cs : List Block) → AreOwned s (cs ++ b ∷ []) → AreOwned new cs
   pub any : (cs ds : List Block) → AreOwned s (cs ++ b ∷ ds) → AreOwned new (cs ++ ds)
 
--- What was granted and returned leaves the live spans as they were: one block, or two that go in the order in which
--- they came.
+-- What was granted and returned leaves the live spans as they were: one block, or two that are returned in the order in
+-- which they were granted.
 pub record CancelOut : Type 0 where
   pub one : (s more end : State) (b : Block) → Adds s more b → Removes more b end → end.live ≡ s.live
   pub two : (s more most less end : State) (a b : Block) → Adds s more a → Adds more most b → Removes most a less
@@ -58,7 +58,7 @@ pub record CancelOut : Type 0 where
 abbrev pub IsAllOutside : State → Type 0
 IsAllOutside s = (objects : ℕ → Option Object) (name : ℕ) → outside s objects name ≡ objects name
 
--- What an allocator that holds nothing has: it agrees with every device that offers these properties.
+-- What follows for an allocator that holds nothing: it agrees with every device that offers these properties.
 pub record HoldsNothing (p : Properties) (s : State) : Type 0 where
   pub properties : s.properties ≡ p
   pub live : set.len s.live ≡ 0
@@ -73,8 +73,8 @@ pub record LeavesNoRest (s new : State) : Type 0 where
   pub none : set.len s.live ≡ 0 → new.held ≡ map.empty
   pub outside : set.len s.live ≡ 0 → IsAllOutside new
 
--- Whatever the device: where it agreed with the allocator before a call that asks no device, it does so afterwards, and
--- blocks in hand stay so.
+-- On every device that agreed with the allocator before a call that does not reach it, the allocator agrees with it
+-- afterwards, and blocks in hand stay so.
 pub record StaysAgreed (s new : State) : Type 0 where
   pub each : (p : Properties) (objects : ℕ → Option Object) → Agrees s p objects → Agrees new p objects
   pub in_hand : (p : Properties) (objects : ℕ → Option Object) → LeavesInHand s p objects new p objects

@@ -11,7 +11,7 @@ SharesNoPage granularity size b c =
     (i j : ℕ) → i < size → j < c.size → b.object ≡ c.object
     → (b.offset + i) / granularity ≢ (c.offset + j) / granularity
 
--- What begins at a page and has whole pages for these bytes shares none with any other block.
+-- A block that begins at a page and has whole pages for these bytes shares no page with any other block.
 abbrev pub PagesApart : Type 0
 PagesApart =
     (granularity size : ℕ) (b c : Block) → IsGranularity granularity → IsInPages granularity size b → AreTwo b c

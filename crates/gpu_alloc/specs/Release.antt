@@ -1,4 +1,4 @@
--- How a block comes back.
+-- How a block is returned, and which objects are then released.
 use Rattle.std.specs.Prelude.{◌≡◌, ◌≢◌, ◌⊎◌, ◌↔◌, ℕ, zero, suc, ◌+◌, ◌<◌, ◌≤◌, Bool, true, false, List, [], ◌∷◌, ◌++◌}
 use Rattle.std.specs.Prelude.{length, get_or}
 use Rattle.std.specs.Prelude.{map, Option, Some, None, IsSome}
@@ -18,7 +18,7 @@ pub use Rattle.gpu_alloc.specs.Sound.{IsUnused}
 use Rattle.gpu_alloc.specs.Sound.{may_be_unused}
 use Rattle.gpu_alloc_block.specs.State.{HeldObject, span_of, Block, State}
 
--- the block's span is live no more
+-- the block's span is no longer live
 abbrev pub without_span : State → Block → State
 without_span s b = record s { live = set.remove s.live (span_of b) }
 
@@ -31,7 +31,7 @@ abbrev pub without_objects : (ℕ → Option Object) → List ℕ → ℕ → Op
 without_objects objects [] = objects
 without_objects objects (name ∷ names) = without_objects (put objects name None) names
 
--- these objects go back to the device, in this order
+-- these objects are released to the device, in this order
 abbrev pub LetsGo : State → List ℕ → List Event → State → Type 0
 LetsGo s gone es new =
     (es ≡ map Deallocated gone)
@@ -43,20 +43,20 @@ LetsGo s gone es new =
 abbrev pub HasLastRun : State → ℕ → ℕ → Type 0
 HasLastRun s t number = (r : FreeListRegion) × (IsLastRun (IsFreeInChunk s t) r × (r.chunk ≡ number))
 
--- the object is the chunk of this number, and may go: nothing in it is live, and where the last run's chunk is kept it
--- is another one
+-- the object is the chunk with this number and may be released: nothing in it is live, and where the last run's chunk
+-- is kept, it is another one
 pub record MayGo (s : State) (t : ℕ) (keep_last : Bool) (number object : ℕ) : Type 0 where
   pub chunk : IsListChunk s t number object
   pub unused : IsUnused s object
   pub not_last : keep_last ≡ true → HasLastRun s t number → ⊥
 
--- These are all the objects that may go, in rising number.
+-- These are all the objects that may be released, in rising number.
 pub record AreChunksGone (s : State) (t : ℕ) (keep_last : Bool) (gone : List ℕ) : Type 0 where
   pub rising : (i j d m n : ℕ) → i < j → j < length gone
       → IsListChunk s t m (get_or gone i d) → IsListChunk s t n (get_or gone j d) → m < n
   pub all : (object : ℕ) → Contains gone object ↔ ((number : ℕ) × MayGo s t keep_last number object)
 
--- These chunks of a memory type, which are all that may go, go back to the device, and it has the other objects then.
+-- These are all the chunks of a memory type that may be released. They are, and the device has the other objects then.
 pub record GivesBack (s : State) (t : ℕ) (keep_last : Bool) (gone : List ℕ) (es : List Event) (new : State)
     (old_objects new_objects : ℕ → Option Object) : Type 0 where
   pub chunks : AreChunksGone s t keep_last gone
@@ -65,12 +65,12 @@ pub record GivesBack (s : State) (t : ℕ) (keep_last : Bool) (gone : List ℕ) 
 
 -- Fit chunks of a memory type.
 
--- the object is one, and nothing in it is live
+-- the object is a fit chunk of the memory type, and nothing in it is live
 pub record IsUnusedFit (s : State) (t object : ℕ) : Type 0 where
   pub chunk : IsFitChunk s t object
   pub unused : IsUnused s object
 
--- nothing in the object is live, and in another fit chunk of its memory type nothing is too
+-- nothing is live in the object, nor in another fit chunk of its memory type
 pub record IsSpare (s : State) (object : ℕ) : Type 0 where
   pub unused : IsUnused s object
   pub chunk : HeldObject
@@ -79,20 +79,20 @@ pub record IsSpare (s : State) (object : ℕ) : Type 0 where
   pub differs : other ≢ object
   pub also : IsUnusedFit s chunk.memory_type other
 
--- These are all the fit chunks without a live block, which is one at most.
+-- These are all the fit chunks without a live block, of which there is at most one.
 pub record AreFitsGone (s : State) (t : ℕ) (gone : List ℕ) : Type 0 where
   pub few : length gone ≤ 1
   pub all : (object : ℕ) → Contains gone object ↔ IsUnusedFit s t object
 
--- They go back to the device, and it has the other objects then.
+-- They are released, and the device has the other objects then.
 pub record GivesFitsBack (s : State) (t : ℕ) (gone : List ℕ) (es : List Event) (new : State)
     (old_objects new_objects : ℕ → Option Object) : Type 0 where
   pub chunks : AreFitsGone s t gone
   pub lets : LetsGo s gone es new
   pub objects : new_objects ≡ without_objects old_objects gone
 
--- What goes with a block whose span was taken off, by what its object is held for: an object of its own, or a buddy
--- chunk without a live block. A fit chunk without one goes where another one is kept so.
+-- What is released with a block whose span was removed, by what its object is held for: an object of its own, or a
+-- buddy chunk without a live block. A fit chunk without one is released if another is kept so.
 abbrev pub GoesWith : Kind → State → ℕ → List ℕ → Type 0
 GoesWith Dedicated s object gone = gone ≡ object ∷ []
 GoesWith Imported s object gone = gone ≡ object ∷ []
@@ -105,13 +105,13 @@ abbrev pub Frees : State → Block → List Event → State → Type 0
 Frees s b es new =
     (gone : List ℕ) × GoesWith b.kind (without_span s b) b.object gone × LetsGo (without_span s b) gone es new
 
--- What a return makes of the device's objects: what goes with the block goes.
+-- What a return does to the device's objects: those that go with the block are gone.
 abbrev pub ObjectsFreed : State → Block → (ℕ → Option Object) → (ℕ → Option Object) → Type 0
 ObjectsFreed s b old new =
     (gone : List ℕ) × GoesWith b.kind (without_span s b) b.object gone × (new ≡ without_objects old gone)
 
--- What a cleanup gives back: each memory type's chunks without a live block, the types in their order, and of each those
--- of its free list first.
+-- What a cleanup releases: each memory type's chunks without a live block. The types come in their order, and for each
+-- the chunks of its free list come first.
 
 pub record AreGoneOfType (s : State) (t : ℕ) (gone : List ℕ) : Type 0 where
   pub listed : List ℕ
@@ -120,7 +120,8 @@ pub record AreGoneOfType (s : State) (t : ℕ) (gone : List ℕ) : Type 0 where
   pub of_list : AreChunksGone s t false listed
   pub of_fits : AreFitsGone s t fitted
 
--- these are all of a memory type, and go back to the device, which has the other objects then
+-- these are all chunks of a memory type without a live block; they are released, and the device has the other objects
+-- then
 pub record GivesTypeBack (s : State) (t : ℕ) (gone : List ℕ) (es : List Event) (new : State)
     (old_objects new_objects : ℕ → Option Object) : Type 0 where
   pub chunks : AreGoneOfType s t gone
@@ -139,12 +140,12 @@ abbrev pub ObjectsCleaned : State → (ℕ → Option Object) → (ℕ → Optio
 ObjectsCleaned s old new =
     (gone : List ℕ) × AreAllGone s (length s.properties.memory_types) gone × (new ≡ without_objects old gone)
 
--- What a cleanup takes: a chunk of a free list, or a fit chunk, in which nothing is live.
+-- What a cleanup releases: a free-list chunk or a fit chunk in which nothing is live.
 abbrev pub IsCleanedUp : State → ℕ → HeldObject → Type 0
 IsCleanedUp s object h = (may_be_unused h.kind ≡ true) × IsUnused s object
 
--- What goes back to the device with a call: some objects that were held, each once and in this order, and nothing else.
--- They are held no more, and the device has them no more; every other object is held and on the device as before.
+-- What a call releases: some objects that were held, each once and in this order, and nothing else. The allocator no
+-- longer holds them, and the device no longer has them. Every other object is held and on the device as before.
 pub record GoesBack {D : Type 0} (step : D → Event → D → Type 0) (objects : D → ℕ → Option Object) (s : State)
     (from : D) (new : State) (to : D) : Type 0 where
   pub gone : List ℕ

@@ -19,7 +19,7 @@ pub record IsGranularity (granularity : ℕ) : Type 0 where
   pub power : IsTrue (is_power_of_two granularity)
   pub bound : granularity ≤ 2 ^ 32
 
--- a request in whole pages: its size rounded up to them, and aligned to one at least
+-- a request in whole pages: its size rounded up to them, and its alignment at least one page
 abbrev pub in_pages : ℕ → Request → Request
 in_pages granularity r = record r { size = up r.size granularity; align_mask = max r.align_mask (granularity - 1) }
 

@@ -19,19 +19,19 @@ one_type heap bits atom = record {
   buffer_device_address = false;
 }
 
--- the potato's allocator for a device with one type
+-- an allocator with the potato's sizes, for a device with one type
 abbrev pub over : ℕ → ℕ → ℕ → State
 over heap bits atom = opened potato (one_type heap bits atom)
 
--- and where fit chunks are chosen
+-- the same where fit chunks are chosen
 abbrev pub fits_over : ℕ → ℕ → ℕ → State
 fits_over heap bits atom = opened_by Fit potato (one_type heap bits atom)
 
--- a request for so many bytes of that type, for a usage
+-- a request for this many bytes of that type, for a usage
 abbrev pub bytes_for : ℕ → ℕ → Request
 bytes_for size usage = record { size = size; align_mask = 0; usage = record { bits = usage }; memory_types = 1 }
 
--- a configuration with no number but these two
+-- a configuration with only these two sizes
 abbrev pub buddy_config : ℕ → ℕ → Config
 buddy_config minimal initial = record {
   dedicated_threshold = 0;

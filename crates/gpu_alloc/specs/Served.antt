@@ -3,7 +3,7 @@ use Rattle.std.specs.Prelude.{◌≡◌, ℕ, ◌+◌, ◌%◌, ◌≤◌, List,
 use Rattle.gpu_alloc_block.specs.State.{Block}
 use Rattle.gpu_alloc.specs.declared.request.Request.{Request}
 
--- the block has the bytes that were asked for, from a place that is aligned as asked
+-- the block has the requested bytes, from a place that is aligned as requested
 pub record Serves (r : Request) (b : Block) : Type 0 where
   pub enough : r.size ≤ b.size
   pub aligned : b.offset % (r.align_mask + 1) ≡ 0
@@ -14,7 +14,7 @@ AllServe [] [] = Unit {0}
 AllServe (r ∷ rs) (b ∷ bs) = Serves r b × AllServe rs bs
 AllServe _ _ = ⊥
 
--- To the blocks came some that serve the first so many requests.
+-- Blocks were added that serve the first `count` requests.
 pub record ServesFirst (requests : List Request) (count : ℕ) (old new : List Block) : Type 0 where
   pub more : List Block
   pub grown : new ≡ old ++ more

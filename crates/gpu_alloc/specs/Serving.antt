@@ -14,12 +14,12 @@ use Rattle.gpu_alloc_block.specs.declared.sharing.Sharing.{Sharing}
 use Rattle.gpu_alloc.specs.declared.request.Dedicated.TheVariants.{Required}
 use Rattle.gpu_alloc.specs.declared.request.Request.{Request}
 
--- the request is within the limit of one, and one of its candidates has a heap as large
+-- the request is within the size limit, and one of its candidates has a heap that is at least as large
 pub record MayServe (s : State) (r : Request) : Type 0 where
   pub small : r.size ≤ s.properties.max_memory_allocation_size
   pub candidate : (t : ℕ) × IsCandidate s r t × (r.size ≤ heap_size s.properties t)
 
--- what a request that may not be served is refused with
+-- the error of a request that may not be served
 abbrev pub lasting_refusal : State → Request → AllocationError
 lasting_refusal s r =
     cond (nat_lt s.properties.max_memory_allocation_size r.size) OutOfDeviceMemory
@@ -31,8 +31,8 @@ NeverServed = (s later : State) (r : Request) (es : List Event) (answer : Result
     → (MayServe s r → ⊥) → later.properties ≡ s.properties → Allocates later r None es answer new
     → Refuses later (lasting_refusal s r) es answer new
 
--- What a request that may be served comes to in an allocator that holds nothing, where an object may be held: the
--- device is asked for an object of the request's own, unless the host has no memory.
+-- What a request that may be served comes to in an allocator that holds nothing, where an object may be held. The
+-- device is asked for an object of the request's own, unless host memory is missing.
 abbrev pub AsksForOwnObjects : Type 0
 AsksForOwnObjects =
     (sharing : Sharing) (c : Config) (p : Properties) (r : Request) (es : List Event) (answer : Result Block AllocationError) (new : State)

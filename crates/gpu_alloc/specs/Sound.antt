@@ -11,7 +11,7 @@ use Rattle.gpu_alloc_block.specs.declared.sharing.Sharing.{Sharing}
 use Rattle.gpu_alloc_block.specs.declared.sharing.Sharing.TheVariants.{Buddy, Fit}
 use Rattle.gpu_alloc_block.specs.State.{HeldObject, Span, State, IsLive, AreApart, is_shared}
 
--- whether an object may be kept in which nothing is live: a chunk of a free list, or a fit chunk
+-- whether an object may be held in which nothing is live: a free-list chunk, or a fit chunk
 abbrev pub may_be_unused : Kind → Bool
 may_be_unused Dedicated = false
 may_be_unused Imported = false
@@ -19,7 +19,7 @@ may_be_unused BuddyChunk = false
 may_be_unused (FreeListChunk number) = true
 may_be_unused FitChunk = true
 
--- buddy chunks are held where those are chosen, and fit chunks where those are
+-- buddy chunks are held only where they are chosen, and fit chunks only where they are
 abbrev pub is_chosen : Sharing → Kind → Bool
 is_chosen sharing Dedicated = true
 is_chosen sharing Imported = true
@@ -33,8 +33,8 @@ is_chosen Fit FitChunk = true
 abbrev pub HasLiveSpan : State → ℕ → Type 0
 HasLiveSpan s object = (span : Span) × IsLive s span × (span.object ≡ object)
 
--- how a live span lies in an object that is held so and counts so many bytes: it is the whole of an object of its own;
--- of an import it has as many bytes, and where they lie, agreement says; and else it lies inside
+-- how a live span lies in an object of this kind that counts this many bytes. It is the whole of an object of its own.
+-- Of an import it has as many bytes, and agreement says where they lie. In a chunk it lies inside
 abbrev pub LiesIn : Kind → ℕ → Span → Type 0
 LiesIn Dedicated counted span = (span.offset ≡ 0) × (span.size ≡ counted)
 LiesIn Imported counted span = span.size ≡ counted
@@ -58,7 +58,7 @@ pub record IsSound (s : State) : Type 0 where
   -- in a buddy chunk it has a power of two of bytes and begins at a multiple of its size
   pub buddy : (span : Span) (h : HeldObject) → IsLive s span → map.get s.held span.object ≡ Some h
       → h.kind ≡ BuddyChunk → IsPowerOfTwo span.size × IsMultipleOf span.size span.offset
-  -- live spans share no byte unless they are one
+  -- different live spans share no byte
   pub apart : (x y : Span) → IsLive s x → IsLive s y → x ≢ y → AreApart x y
   -- each held object of one block and each held buddy chunk has a live span
   pub used : (object : ℕ) → IfSome (map.get s.held object) (λ h. may_be_unused h.kind ≡ false → HasLiveSpan s object)
@@ -69,7 +69,7 @@ pub record IsSound (s : State) : Type 0 where
   pub chosen : (object : ℕ) (h : HeldObject) → map.get s.held object ≡ Some h → is_chosen s.sharing h.kind ≡ true
   -- of a memory type's fit chunks at most one has no live span
   pub one_unused : (t a b : ℕ) → IsFitChunk s t a → IsFitChunk s t b → IsUnused s a → IsUnused s b → a ≡ b
-  -- of no heap is more held beside imports than it has
+  -- apart from imports, no more of a heap is held than it has
   pub within : IsWithinHeaps s
-  -- and no limit is over its heap's size
+  -- and no limit exceeds its heap's size
   pub limits : AreLimits s

@@ -30,6 +30,6 @@ held_of row = record { memory_type = row.memory_type; counted = row.counted; kin
 abbrev pub entry_of : ℕ × HeldRow → ℕ × HeldObject
 entry_of e = (e.0, held_of e.1)
 
--- held objects by name, as their entries say
+-- held objects by name, from their entries
 abbrev pub objects_in : List (ℕ × HeldRow) → map_of.FinMap nat_cmp HeldObject
 objects_in entries = map_of.from_entries (map entry_of entries)

@@ -1,4 +1,4 @@
--- All blocks in hand under keys of a caller's own, with the allocator and the device.
+-- All blocks in hand, under keys of the caller's own, with the allocator and the device.
 use Rattle.std.specs.Prelude.{◌≡◌, ℕ, ◌+◌, List, [], length, Option, Some, None}
 use Rattle.std.specs.FinSet as set
 use Rattle.gpu_alloc_types.specs.Device.{Object}
@@ -15,7 +15,7 @@ pub record PutsUnder (entries : List (ℕ × Block)) (key : ℕ) (b : Block) (mo
   pub set : IsSetUnder entries key (Some b) more
   pub count : length more ≡ length entries + 1
 
--- The block under a key is taken.
+-- The block under a key is taken out.
 pub record TakesUnder (entries : List (ℕ × Block)) (key : ℕ) (b : Block) (fewer : List (ℕ × Block)) : Type 0 where
   pub taken : under entries key ≡ Some b
   pub set : IsSetUnder entries key None fewer
@@ -28,7 +28,7 @@ pub record AreAllKept (s : State) (p : Properties) (objects : ℕ → Option Obj
   pub kept : AreKept s p objects (under entries)
   pub count : set.len s.live ≡ length entries
 
--- That stays so as blocks are granted and put, or taken and returned, and what is taken is owned.
+-- That stays so as blocks are granted and put, or taken out and returned, and what is taken out is owned.
 pub record AllComeAndGo : Type 0 where
   pub comes : (s after : State) (p q : Properties) (old new : ℕ → Option Object) (entries more : List (ℕ × Block))
       (key : ℕ) (b : Block) → AreAllKept s p old entries → PutsUnder entries key b more → Agrees after q new

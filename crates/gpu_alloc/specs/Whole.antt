@@ -1,4 +1,4 @@
--- What an allocator holds in all: objects of one block, and the chunks of each memory type's buddy allocator, free list
+-- All that an allocator holds: objects of one block, and the chunks of each memory type's buddy allocator, free list
 -- and allocator of fit chunks.
 use Rattle.std.specs.Prelude.{◌≡◌, ◌⊎◌, ℕ, zero, suc, ◌+◌, ◌<◌, false, List, ◌∷◌, ◌++◌, length, map}
 use Rattle.gpu_alloc_types.specs.Properties.{Properties}
@@ -34,7 +34,7 @@ parts_of own buddies lists fits =
     own_part own ∷ map buddy_part buddies ++ (map list_part lists ++ map fit_part fits)
 
 -- Which part may hold an object: that of objects of one block, or its memory type's buddy allocator, free list or
--- allocator of fit chunks, where there are so many of the first two.
+-- allocator of fit chunks, given how many there are of the first two.
 abbrev pub IsPlace : ℕ → ℕ → ℕ → HeldObject → Type 0
 IsPlace buddies lists zero h = is_shared h.kind ≡ false
 IsPlace buddies lists (suc i) h = ((h.kind ≡ BuddyChunk) × (h.memory_type ≡ i) × (i < buddies))

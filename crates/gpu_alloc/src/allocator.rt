@@ -58,7 +58,7 @@ use std::alloc::{Allocator, Global};
 use std::marker::{Brand, Model};
 use std::sync::ledger::Blank;
 
-/// Which way a memory type serves a request.
+/// How a memory type serves a request.
 #[derive(Clone, Copy)]
 enum Strategy {
     /// By an object of the block's own.
@@ -74,14 +74,14 @@ enum Strategy {
     InFitChunk,
 }
 
-/// What a memory type is asked: a request, with a hint or none.
+/// What a memory type is asked for: a request, perhaps with a hint.
 #[derive(Clone, Copy)]
 struct Ask {
     request: Request,
     hint: Option<Dedicated>,
 }
 
-/// Gives out blocks of a device's memory. It cannot be let go: [`close`](GpuAllocator::close) ends it.
+/// Gives out blocks of a device's memory. It cannot be dropped: [`close`](GpuAllocator::close) ends it.
 pub struct GpuAllocator<M: MemoryObject, A: Allocator = Global> {
     limits: Limits<A>,
     heaps: Vec<Heap, A>,
@@ -111,45 +111,60 @@ impl<M: MemoryObject, A: Allocator> Model for GpuAllocator<M, A> {
 }
 
 impl<M: MemoryObject, A: Allocator> GpuAllocator<M, A> {
-    /// Allocates a block as the request asks: an object of its own where it is large, else a place in a shared one.
+    /// Allocates a block for a request: an object of its own where the request is large, and a place in a shared object
+    /// otherwise.
     ///
-    /// A request of at least the configuration's `dedicated_threshold`, or of the 32nd part of its heap where that is
-    /// less, gets an object of its own: the block starts at offset 0 and has exactly the request's size. With the usage
-    /// `TRANSIENT` it is the transient threshold in place of that one, and a request that is too large for a largest
-    /// free-list chunk in whole atoms gets an object of its own too. (The thresholds are the original crate's rule.)
+    /// From the configuration's `dedicated_threshold` on, or from the 32nd part of its heap where that is less, a
+    /// request gets an object of its own. The block then starts at offset 0 and has exactly the request's size. With
+    /// the usage `TRANSIENT` the transient threshold takes the place of `dedicated_threshold`. A transient request that
+    /// is too large for the largest free-list chunk, in whole atoms, gets an object of its own too. (The thresholds are
+    /// the original crate's rule.)
     ///
     /// Any other request gets a block of a shared chunk. Each memory type has a buddy allocator, a free list and an
-    /// allocator of fit chunks. Without `TRANSIENT`, where buddy chunks were chosen, it is a buddy chunk: the block's size is the least power of two, in bytes, that is not below
-    /// the request's size and alignment, the type's atom and the least buddy block. It starts at a multiple of its
-    /// size, in the shortest free place that suffices. Where none does, a chunk is asked for: the greater of twice the
-    /// block and the latest buddy chunk of the type. Where fit chunks were chosen, it is a fit chunk: the block has the
-    /// request's size in whole grains (256 bytes, or the atom where that is larger), and starts at a grain and with the
-    /// request's alignment, in a free run with room. Where none has, a chunk is asked for that is twice as large as the
-    /// latest one of the fit chunks, or larger where the request wants it, cut at four times the first; a request larger
-    /// than the first one gets an object of its own. With `TRANSIENT` it is a free list's chunk: the block is the tail
-    /// of the last free run with room, all from the last byte that is aligned (to the request's alignment and the atom)
-    /// and leaves the size in whole atoms. Where no run has room, a chunk is asked for that is twice as large as the
-    /// latest one of the free list, or larger where the request wants it, cut at the largest
-    /// (`FreeListAllocator::alloc` tells more).
+    /// allocator of fit chunks:
     ///
-    /// A chunk is mapped whole where the host sees the type. It may be larger than `max_memory_allocation_size`; the
-    /// device decides. A block lies inside its object, and is not mapped. Each question to the device carries
+    /// - Without `TRANSIENT`, where buddy chunks were chosen, the block comes from a buddy chunk. Its size is the least
+    ///   power of two, in bytes, that is not below the request's size and alignment, the type's atom and the smallest
+    ///   buddy block. It starts at a multiple of its size, in the shortest free place that suffices. Where no place
+    ///   does, the device is asked for a chunk: the greater of twice the block and the latest buddy chunk of the type.
+    /// - Without `TRANSIENT`, where fit chunks were chosen, the block comes from a fit chunk. It has the request's size
+    ///   in whole grains (256 bytes, or the atom where that is larger). It starts at a grain and with the request's
+    ///   alignment, in a free run with room. Where no run has room, the device is asked for a chunk. That is twice as
+    ///   large as the latest fit chunk, or larger where the request needs it. It is at most four times the first, and
+    ///   no larger than a free list's largest. A request larger than the first fit chunk gets an object of its own.
+    /// - With `TRANSIENT` the block comes from a chunk of the free list. It is the tail of the last free run with room,
+    ///   from the last byte on that is aligned (to the request's alignment and the atom) and leaves the size in whole
+    ///   atoms. Where no run has room, the device is asked for a chunk. That is twice as large as the free list's
+    ///   latest, or larger where the request needs it, and cut at the largest (`FreeListAllocator::alloc` says more).
+    ///
+    /// A chunk is mapped whole where its type is host-visible. It may be larger than `max_memory_allocation_size`; the
+    /// device decides. A block lies inside its object and is not mapped. Each question to the device carries
     /// `DEVICE_ADDRESS` exactly where the device has the feature (the original crate's rule).
     ///
-    /// The block agrees with the device afterwards, which its own calls ask for, and so does each block that was owned
-    /// and agreed before. Each byte of those, and what the device has beside the allocator's objects, is as before.
+    /// Afterwards the block agrees with the device, as its own calls require, and so does each owned block that agreed
+    /// before. Each byte of those blocks is unchanged, and so is what the device has apart from the allocator's
+    /// objects.
     ///
-    /// The request has to be askable (`Request::is_askable`, for the device's `buffer_device_address`), and the device
-    /// has to be the one that this allocator has served, so that the two agree. The refusals, in the order in which
-    /// they are tested (the original crate's): `OutOfDeviceMemory` where the size is over the limit given to `new`;
-    /// `NoCompatibleMemoryTypes` where no memory type among the request's serves its usage. Then the memory types are
-    /// tried in rank. One is passed where its heap is smaller than the request, where a chunk for it would have 2^64
-    /// bytes or more, where an object is wanted that is larger than the heap's budget (`heap_budget`; the device is not
-    /// asked then), or where the device answers `OutOfDeviceMemory`. The first that is not passed gives the block, or
-    /// `TooManyObjects` where an object is wanted and no more may be held (or the numbers of free-list chunks are
-    /// spent, after 2^64 - 1 of them), or `OutOfHostMemory` where the host's memory was refused to the allocator or to
-    /// the device, or a new chunk could not be mapped. Where all are passed it is `OutOfDeviceMemory`. After a refusal
-    /// the allocator and the device's objects are as before: a chunk that was made is given back.
+    /// The request must be askable (`Request::is_askable`, with the device's `buffer_device_address`). The device must
+    /// be the one that this allocator has served, so that the two agree. The errors, in the order in which they are
+    /// tested (the original crate's):
+    ///
+    /// - `OutOfDeviceMemory` where the size is over the limit given to `new`
+    /// - `NoCompatibleMemoryTypes` where no memory type among the request's serves its usage
+    /// - the errors of the memory types, below.
+    ///
+    /// Then the memory types are tried in rank. A type is passed over in any of these cases:
+    ///
+    /// - its heap is smaller than the request
+    /// - a chunk for the request would have 2^64 bytes or more
+    /// - a new object is needed that is larger than the heap's budget (`heap_budget`); the device is then not asked
+    /// - the device answers `OutOfDeviceMemory`.
+    ///
+    /// The first type that is not passed over gives the block or the error. It is `TooManyObjects` where a new object
+    /// is needed and no more may be held (or 2^64 - 1 free-list chunks have used up their numbers). It is
+    /// `OutOfHostMemory` where the allocator or the device lacks host memory, or a new chunk could not be mapped. Where
+    /// all types are passed over, it is `OutOfDeviceMemory`. After an error the allocator and the device's objects are
+    /// unchanged: a chunk that was made is released.
     pub fn alloc<D: ObjectDevice<M>>(
         &mut self,
         device: &mut D,
@@ -158,7 +173,7 @@ impl<M: MemoryObject, A: Allocator> GpuAllocator<M, A> {
         requires askable { IsAskable (self.old.properties).buffer_device_address request }
         requires agrees { Agrees self.old (D.properties device.old) (D.objects device.old) }
 
-        // What was asked of the device, the answer and the new state are what the decision says.
+        // The calls of the device, the answer and the new state follow the decision.
         ensures decided { (es : List Event) × Chain D.step device.old es device.new
             × Allocates self.old request None es result self.new }
         ensures objects { ObjectsAfter self.old result self.new (D.objects device.old) (D.objects device.new) }
@@ -190,11 +205,12 @@ impl<M: MemoryObject, A: Allocator> GpuAllocator<M, A> {
 
     /// Allocates a block as [`alloc`](GpuAllocator::alloc) does, with a hint that it wants a memory object of its own.
     ///
-    /// With `Required` it gets one: where no more objects may be held it is then `TooManyObjects`, after the test of
-    /// its size and before any memory type is looked at. With `Preferred` it gets one where its size is at least the
-    /// configuration's `preferred_dedicated_threshold` or `dedicated_threshold`, and else what `alloc` gives.
+    /// With `Required` it gets one. The error is `TooManyObjects` where no more objects may be held, after the test of
+    /// the size and before any memory type is tried. With `Preferred` it gets one from the configuration's
+    /// `preferred_dedicated_threshold` on, or from `dedicated_threshold` where that is less, and otherwise what `alloc`
+    /// gives.
     ///
-    /// The conditions and the refusals are those of `alloc`.
+    /// The conditions and the errors are those of `alloc`.
     pub fn alloc_with_dedicated<D: ObjectDevice<M>>(
         &mut self,
         device: &mut D,
@@ -204,7 +220,7 @@ impl<M: MemoryObject, A: Allocator> GpuAllocator<M, A> {
         requires askable { IsAskable (self.old.properties).buffer_device_address request }
         requires agrees { Agrees self.old (D.properties device.old) (D.objects device.old) }
 
-        // What was asked of the device, the answer and the new state are what the decision says.
+        // The calls of the device, the answer and the new state follow the decision.
         ensures decided { (es : List Event) × Chain D.step device.old es device.new
             × Allocates self.old request (Some dedicated) es result self.new }
         ensures objects { ObjectsAfter self.old result self.new (D.objects device.old) (D.objects device.new) }
@@ -235,7 +251,8 @@ impl<M: MemoryObject, A: Allocator> GpuAllocator<M, A> {
         answer
     }
 
-    /// Allocates a block with a hint or none. Where the same request in whole pages is given, a shared chunk serves that.
+    /// Allocates a block, perhaps with a hint. Where the same request in whole pages is given, a shared chunk serves
+    /// that one.
     fn allocate<D: ObjectDevice<M>>(
         &mut self,
         device: &mut D,
@@ -263,7 +280,7 @@ impl<M: MemoryObject, A: Allocator> GpuAllocator<M, A> {
         self.try_all(device, request, hint, paged, usage)
     }
 
-    /// Whether any memory type that serves a request, which has this meaning, is one of those that it allows.
+    /// Whether any memory type that serves this usage is one of those that the request allows.
     #[inline(always)]
     fn has_candidate(&self, request: Request, usage: UsageFlags) -> bool
         requires meant { usage_bits usage ≡ implied (usage_bits request.usage) }
@@ -283,7 +300,7 @@ impl<M: MemoryObject, A: Allocator> GpuAllocator<M, A> {
         self.limits.memory_for_usage.types(usage)
     }
 
-    /// Tries the candidates in rank: the memory types that serve a request, which has this meaning, and that it allows.
+    /// Tries the candidates in rank: the memory types that serve this usage and that the request allows.
     fn try_all<D: ObjectDevice<M>>(
         &mut self,
         device: &mut D,
@@ -314,7 +331,7 @@ impl<M: MemoryObject, A: Allocator> GpuAllocator<M, A> {
         Err(AllocationError::OutOfDeviceMemory)
     }
 
-    /// Tries one memory type: none where it is passed.
+    /// Tries one memory type: `None` where it is passed over.
     fn try_type<D: ObjectDevice<M>>(
         &mut self,
         device: &mut D,
@@ -338,8 +355,8 @@ impl<M: MemoryObject, A: Allocator> GpuAllocator<M, A> {
         }
     }
 
-    /// Whether a memory type is passed unasked where an object of so many bytes is wanted of it: the object is larger
-    /// than the heap, or may be asked for and is over the heap's budget.
+    /// Whether a memory type is passed over without asking the device, where an object of `size` bytes is wanted.
+    /// Either the object is larger than the heap, or one may be asked for and is over the heap's budget.
     #[inline(always)]
     fn is_passed_unasked(&self, size: u64, memory_type: u32) -> bool
         requires known { memory_type < length (self.now.properties).memory_types }
@@ -352,7 +369,7 @@ impl<M: MemoryObject, A: Allocator> GpuAllocator<M, A> {
             && self.is_larger_or_may_hold_more(size, memory_type)
     }
 
-    /// Whether an object of so many bytes is larger than a memory type's heap, or one more may be held. (It stands apart,
+    /// Whether an object of `size` bytes is larger than a memory type's heap, or one more may be held. (It stands apart
     /// so that requests within the budget do not pay for it.)
     #[cold]
     #[inline(never)]
@@ -363,7 +380,8 @@ impl<M: MemoryObject, A: Allocator> GpuAllocator<M, A> {
         self.heap_size(memory_type) < size || self.allocations_remains > 0
     }
 
-    /// Tries one memory type for an object of its own, which its heap has room for: none where the type is passed.
+    /// Tries one memory type for an object of its own, which its heap has room for: `None` where the type is passed
+    /// over.
     fn try_object<D: ObjectDevice<M>>(
         &mut self,
         device: &mut D,
@@ -420,7 +438,7 @@ impl<M: MemoryObject, A: Allocator> GpuAllocator<M, A> {
         }
     }
 
-    /// Tries one memory type for a block of a buddy chunk: none where the type is passed.
+    /// Tries one memory type for a block of a buddy chunk: `None` where the type is passed over.
     fn try_buddy<D: ObjectDevice<M>>(
         &mut self,
         device: &mut D,
@@ -467,7 +485,7 @@ impl<M: MemoryObject, A: Allocator> GpuAllocator<M, A> {
         )))
     }
 
-    /// Tries one memory type for a block of its free list: none where the type is passed.
+    /// Tries one memory type for a block of its free list: `None` where the type is passed over.
     fn try_free_list<D: ObjectDevice<M>>(
         &mut self,
         device: &mut D,
@@ -511,7 +529,7 @@ impl<M: MemoryObject, A: Allocator> GpuAllocator<M, A> {
         )))
     }
 
-    /// Tries one memory type for a block of a fit chunk: none where the type is passed.
+    /// Tries one memory type for a block of a fit chunk: `None` where the type is passed over.
     fn try_fit<D: ObjectDevice<M>>(
         &mut self,
         device: &mut D,
@@ -565,17 +583,22 @@ impl<M: MemoryObject, A: Allocator> GpuAllocator<M, A> {
         self.heaps[self.limits.heap_index(memory_type)].size()
     }
 
-    /// Takes a block back. An object of its own, an import too, goes back to the device, and so does a buddy chunk in
-    /// which no other block is live. With a block of a free list each chunk of that list goes in which no block is live,
-    /// the oldest first, but not the one in which the list's last free run lies (the original crate's rule);
-    /// [`cleanup`](GpuAllocator::cleanup) gives that one back. A fit chunk in which no other block is live goes where there
-    /// is another such chunk of its memory type, else it is kept. For each object that goes, one more may be held, and
-    /// the ledger of its heap is lowered by what it counted: its size, or of an import the block's. Any other chunk stays,
-    /// and joins what is free in it.
+    /// Returns a block. The objects that it was the last to need are released:
     ///
-    /// The block has to be live here (`owns` tells), and the device has to be the one that this allocator has served,
-    /// so that the two agree. The block may be mapped. It takes no memory and cannot fail. Each other block that stays
-    /// owned agrees with the device afterwards where it did before, and has the bytes that it had.
+    /// - An object of its own, or an import, is released.
+    /// - A buddy chunk is released if no other block in it is live.
+    /// - With a block of a free list, each chunk of that list without a live block is released, the oldest first. Only
+    ///   the chunk with the list's last free run is kept (the original crate's rule), until
+    ///   [`cleanup`](GpuAllocator::cleanup).
+    /// - A fit chunk without another live block is released if its memory type has another such chunk, and kept
+    ///   otherwise.
+    ///
+    /// For each released object, one more may be held. The ledger of its heap is lowered by what it counted: its size,
+    /// or for an import the block's size. In any other chunk the block joins the free space.
+    ///
+    /// The block must be live here (see `owns`). The device must be the one that this allocator has served, so that the
+    /// two agree. The block may be mapped. It allocates nothing and cannot fail. Each other owned block that agreed
+    /// with the device still does, and its bytes are unchanged.
     pub fn dealloc<D: ObjectDevice<M>>(&mut self, device: &mut D, block: MemoryBlock<M>)
         requires owned { IsOwned self.old block }
         requires agrees { Agrees self.old (D.properties device.old) (D.objects device.old) }
@@ -596,13 +619,13 @@ impl<M: MemoryObject, A: Allocator> GpuAllocator<M, A> {
         self.take_back(device, block);
     }
 
-    /// Gives every free-list chunk and every fit chunk in which no block is live back to the device: by memory type, and of
-    /// each the chunks of its free list first, the oldest first. For each, one more object may be held, and the ledger of
-    /// its heap is lowered by its size.
+    /// Releases every free-list chunk and every fit chunk without a live block. It goes by memory type, and for each
+    /// type releases the chunks of its free list first, the oldest first. For each, one more object may be held, and
+    /// the ledger of its heap is lowered by its size.
     ///
-    /// Where no block is live, nothing is held afterwards, and every ledger is 0. Each block that is owned agrees with
-    /// the device afterwards where it did before, and has the bytes that it had. The device has to be the one that this
-    /// allocator has served, so that the two agree. It takes no memory and cannot fail.
+    /// Where no block is live, nothing is held afterwards, and every ledger is 0. Each owned block that agreed with the
+    /// device still does, and its bytes are unchanged. The device must be the one that this allocator has served, so
+    /// that the two agree. It allocates nothing and cannot fail.
     pub fn cleanup<D: ObjectDevice<M>>(&mut self, device: &mut D)
         requires agrees { Agrees self.old (D.properties device.old) (D.objects device.old) }
 
@@ -631,7 +654,7 @@ impl<M: MemoryObject, A: Allocator> GpuAllocator<M, A> {
         self.keeps_sound();
     }
 
-    /// Nothing is done: its contract tells what every allocator keeps.
+    /// A lemma about every allocator: does nothing at run time.
     fn keeps_sound(&self)
         ensures sound { Sound.IsSound self.now }
         ensures atoms { KeepsAtoms self.now }
@@ -639,14 +662,14 @@ impl<M: MemoryObject, A: Allocator> GpuAllocator<M, A> {
         let _ = &self.limits;
     }
 
-    /// How requests that are not `TRANSIENT` share objects, as it was chosen.
+    /// How requests that are not `TRANSIENT` share objects, as chosen when the allocator was opened.
     pub fn sharing(&self) -> Sharing
         ensures { result ≡ self.now.sharing }
     {
         self.limits.sharing
     }
 
-    /// The largest size of a request, in bytes, as `new` was given it.
+    /// The largest size of a request, in bytes, as given to `new`.
     pub fn max_allocation_size(&self) -> u64
         ensures { result ≡ (self.now.properties).max_memory_allocation_size }
     {
@@ -664,8 +687,8 @@ impl<M: MemoryObject, A: Allocator> GpuAllocator<M, A> {
         *allocations_remains
     }
 
-    /// From now on this many more objects may be held, however many are. Together with the objects that are held
-    /// (`held_objects`) it has to be a number of 32 bits, so that each of them can be returned.
+    /// Sets how many more objects may be held. Together with the objects that are held (`held_objects`) it must be a
+    /// 32-bit number, so that each of them can be returned.
     pub fn set_remaining_allocations(&mut self, remaining: u32)
         requires { remaining + map.len self.old.held < 2 ^ 32 }
         ensures set { self.new ≡ record self.old { remaining = remaining } }
@@ -696,15 +719,16 @@ impl<M: MemoryObject, A: Allocator> GpuAllocator<M, A> {
         count as u32
     }
 
-    /// Whether an object of this name is held, as a block's own, as an import or as a chunk. It goes over what is held.
+    /// Whether an object of this name is held: as a block's own, as an import or as a chunk. It searches all that is
+    /// held.
     pub fn holds(&self, object: u64) -> bool
         ensures { result ≡ is_some (map.get self.now.held object) }
     {
         self.held(object).is_some()
     }
 
-    /// Ends the allocator, which may hold no object: `held_objects` tells. After all returns
-    /// [`cleanup`](GpuAllocator::cleanup) gives back what free lists and fit chunks keep.
+    /// Ends the allocator, which may hold no object (see `held_objects`). After all blocks are returned,
+    /// [`cleanup`](GpuAllocator::cleanup) releases what free lists and fit chunks keep.
     pub fn close(self)
         requires { map.len self.held ≡ 0 }
     {
@@ -723,7 +747,7 @@ impl<M: MemoryObject, A: Allocator> GpuAllocator<M, A> {
     }
 }
 
-/// A refusal of a memory type, as the request has it: where there is no device memory the type is passed.
+/// A memory type's error, as the request takes it: a type without device memory is passed over.
 fn passing<T>(refusal: AllocationError) -> Result<Option<T>, AllocationError>
     ensures { result ≡ passing refusal }
 {

@@ -1,3 +1,3 @@
-//! A heap's size, and the running ledger of what is held of it.
+//! A heap's size, its limit, and the running ledger of what is held of it.
 
 pub use gpu_alloc_base::heap::Heap;

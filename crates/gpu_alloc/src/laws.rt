@@ -1,11 +1,12 @@
-//! Laws of the definitions that contracts cite, and those definitions computed on samples. The functions do nothing.
+//! Laws of the definitions that contracts cite, and those definitions computed on samples. The functions are lemmas:
+//! they do nothing at run time.
 
 ghost use Rattle.std.specs.Prelude.{◌≡◌, ◌≢◌, ◌⊎◌, ℕ, ◌+◌, ◌<◌, ◌≤◌, max, List, [], ◌∷◌, length, Some, None, true, false};
 ghost use Rattle.std.specs.FinSet as set;
 ghost use Rattle.gpu_alloc_types.specs.declared.types.FreeRange.{FreeRange};
 ghost use Rattle.gpu_alloc_block.specs.Agreement.{Agrees, KeptBlocksAgree};
 ghost use Rattle.gpu_alloc_block.specs.ByteCalls.{BytesMoved};
-ghost use Rattle.gpu_alloc.specs.Allocation.{strategy, AloneIsTold, CandidatesServe};
+ghost use Rattle.gpu_alloc.specs.Allocation.{strategy, AloneIsTold, CandidatesServe, ExactIsTold};
 ghost use Rattle.gpu_alloc.specs.Budget.{heap_budget, heap_bytes, AreLimits, HoldsNoImportOf, IsAskedWithinBudget, IsWithinHeaps};
 ghost use Rattle.gpu_alloc.specs.Exactness.{AreCanonical, AreFreePieces, AreLongEnough, ArePiecesApart};
 ghost use Rattle.gpu_alloc.specs.Exactness.{AreSpaced, AreFreeRuns, TellPlaces};
@@ -16,7 +17,7 @@ ghost use Rattle.gpu_alloc_buddy.specs.BuddyState.{Buddy, IsFreeAt};
 ghost use Rattle.gpu_alloc_base.specs.Config.{potato, prototyping};
 ghost use Rattle.gpu_alloc.specs.FreeBytes.{IsFreeByte};
 ghost use Rattle.gpu_alloc.specs.FreeRanges.{HasByte, IsFreeOf, IsFreeRangeOf};
-ghost use Rattle.gpu_alloc.specs.FitSharing.{HasFitPlace, fit_alignment, fit_question, fit_size, largest_fit};
+ghost use Rattle.gpu_alloc.specs.FitSharing.{FitChunksAreSmall, HasFitPlace, fit_alignment, fit_question, fit_size, largest_fit};
 ghost use Rattle.gpu_alloc.specs.FitSharing.{with_fit_chunk};
 ghost use Rattle.gpu_alloc_freelist.specs.FreeList.{HasPlace};
 ghost use Rattle.gpu_alloc_freelist.specs.FreeListState.{Space, IsFreeIn};
@@ -58,9 +59,9 @@ pub use gpu_alloc_usage::laws::{
 };
 use std::alloc::Allocator;
 
-/// Pieces that are aligned and apart, of which no two are halves of one range, and which together are the free bytes,
-/// are exactly the longest free ranges of a power of two that start at a multiple of their length: of a buddy
-/// allocator's chunks by key, and of an allocator's objects by name.
+/// Pieces are exactly the free pieces if they are aligned and apart, no two are halves of one range, and together they
+/// are the free bytes. (Free pieces are the longest free ranges of a power of two of bytes that start at a multiple of
+/// their length.) This holds of a buddy allocator's chunks by key, and of an allocator's objects by name.
 pub fn kept_pieces_are_the_free_pieces()
     ensures exact { (b : Buddy) (pieces : List Piece)
         → AreCanonical (IsFreeAt b) pieces → AreFreePieces (IsFreeAt b) pieces }
@@ -72,15 +73,15 @@ pub fn kept_pieces_are_the_free_pieces()
         → AreCanonical (IsFreeByte s t kind) pieces → AreLongEnough (IsFreeByte s t kind) pieces }
 {}
 
-/// Two free pieces that share a byte are one.
+/// Two free pieces that share a byte are the same piece.
 pub fn free_pieces_are_apart()
     ensures in_chunks { (b : Buddy) → ArePiecesApart (IsFreeAt b) }
     ensures in_objects { (s : State) (t : ℕ) (kind : Kind) → ArePiecesApart (IsFreeByte s t kind) }
 {}
 
-/// Regions that are not empty, of which no two overlap or touch, and which together are the free bytes, are exactly the
-/// free runs: of a free list's chunks, of a memory type's chunks in the whole allocator, and of its fit chunks, by the
-/// names of their objects. There is a place for a block exactly where some region has room for it.
+/// Regions are exactly the free runs if they are not empty, no two overlap or touch, and together they are the free
+/// bytes. This holds of a free list's chunks, and in the whole allocator of a memory type's free-list chunks and fit
+/// chunks, by the names of their objects. There is a place for a block exactly where some region has room for it.
 pub fn regions_are_the_free_runs()
     ensures exact { (s : Space) (regions : List FreeListRegion)
         → AreSpaced (IsFreeIn s) regions → AreFreeRuns (IsFreeIn s) regions }
@@ -96,8 +97,8 @@ pub fn regions_are_the_free_runs()
         → AreSpaced (IsFreeByte s t FitChunk) regions → TellPlaces (HasFitPlace s t) regions }
 {}
 
-/// Each free byte of a memory type's shared chunks lies in a free range, of which each byte is free, and no two share one.
-/// So what `free_ranges` lists covers all that is free, once.
+/// Each free byte of a memory type's shared chunks lies in exactly one free range, and each byte of a free range is
+/// free. So `free_ranges` lists all that is free, once.
 pub fn free_ranges_are_the_free_bytes()
     ensures covers { (s : State) (t object at : ℕ) → IsFreeOf s t object at
         → (r : FreeRange) × IsFreeRangeOf s t r × HasByte r object at }
@@ -108,8 +109,8 @@ pub fn free_ranges_are_the_free_bytes()
     ensures nonempty { (s : State) (t : ℕ) (r : FreeRange) → IsFreeRangeOf s t r → r.start < r.end }
 {}
 
-/// Chunks of free lists and the tails that blocks are, for a first chunk of 8192 bytes: the next chunk, one that has to
-/// be larger, one that is cut at the largest; a tail, and one at a multiple of 256.
+/// Free-list chunks and the blocks at their tails, for a first chunk of 8192 bytes. The chunks are the next one, one
+/// that must be larger, and one that is cut at the largest. The blocks are a tail, and one at a multiple of 256.
 #[tactic(auto, unfolding(gpu_alloc_base::specs::Sizes::doubled_up))]
 pub fn free_list_chunks_of_samples()
     ensures first { grown_chunk 8192 32768 100 ≡ 8192 }
@@ -127,10 +128,17 @@ pub fn free_list_chunks_of_samples()
     ensures seen { (list_question (over 3200 2 64) 0 64).mapped ≡ true }
 {}
 
-/// Blocks of fit chunks and those chunks, where they are chosen: sizes and alignments up to the grain, the questions for a
-/// first chunk, for one behind it and for one that has to be larger, and the largest chunk, which a small heap cuts. A
-/// request of exactly the first chunk's size is served by one, and of a byte more has an object of its own; a transient
-/// one is served by a free list.
+/// Sizes of fit chunks, for every configuration, heap and grain. The first one has room for every request that shares
+/// one. A later one is no smaller and at most four times as large. None is larger than a 32nd of its heap, or a single
+/// grain.
+pub fn fit_chunks_are_small()
+    ensures { FitChunksAreSmall }
+{}
+
+/// Fit chunks and their blocks, where fit chunks are chosen: sizes and alignments up to the grain, and the questions
+/// for chunks. These are for a first chunk, for the next one and for one that must be larger; a small heap cuts the
+/// largest. A request of exactly the first chunk's size is served by one, and one byte more gets an object of its own.
+/// A free list serves a transient one.
 #[tactic(auto, unfolding(gpu_alloc_base::specs::Sizes::doubled_up, crate::specs::FitSharing::with_next_fit))]
 pub fn fit_chunks_of_samples()
     ensures one_grain { fit_size (fits_over 1048576 1 1) (bytes_for 1 0) 0 ≡ 256 }
@@ -158,8 +166,8 @@ pub fn fit_chunks_of_samples()
     ensures transient { strategy (fits_over 1048576 1 1) (bytes_for 20000 16) None 0 ≡ InFreeList }
 {}
 
-/// Sizes of buddy blocks and of the chunks for them, over a least block of 1 and a first chunk of 8192, with an atom,
-/// and with a least block that is larger.
+/// Sizes of buddy blocks and of the chunks for them, for a smallest block of 1 and a first chunk of 8192, with an atom,
+/// and with a larger smallest block.
 #[tactic(auto, unfolding(gpu_alloc_base::specs::Sizes::doubled_up))]
 pub fn buddy_sizes_of_samples()
     ensures small { rounded (empty_buddy 1 8192 0 1 1) (wanted 100 0 0) ≡ 128 }
@@ -173,7 +181,7 @@ pub fn buddy_sizes_of_samples()
     ensures least_chunk { chunk_size (empty_buddy 1024 1 0 1 1) 1024 ≡ 2048 }
 {}
 
-/// Blocks of shared chunks and the questions for such chunks as an allocator's state tells them: at first, and after a
+/// Blocks of shared chunks and the questions for such chunks, as an allocator's state gives them: at first, and after a
 /// larger chunk was made.
 #[tactic(auto, unfolding(gpu_alloc_base::specs::Sizes::doubled_up, crate::specs::BuddySharing::with_next_chunk))]
 pub fn shared_chunks_of_samples()
@@ -187,7 +195,8 @@ pub fn shared_chunks_of_samples()
     ensures unseen { (buddy_question (over 1048576 1 1) 0 128).mapped ≡ false }
 {}
 
-/// First chunk sizes: of both defaults, of a small heap with an atom, and of a minimum above the initial size.
+/// First chunk sizes: of both default configurations, of a small heap with an atom, and of a minimum above the initial
+/// size.
 #[tactic(auto, unfolding(gpu_alloc_base::specs::Sizes::doubled_up))]
 pub fn first_sizes_of_samples()
     ensures potato { first_types potato (one_type 1048576 1 1)
@@ -208,7 +217,7 @@ pub fn first_sizes_of_samples()
         ≡ record { next_chunk = 1024; list_chunk = 1; number = 0; fit_chunk = 256 } ∷ [] }
 {}
 
-/// The strategy at its thresholds: exactly at one a request has an object of its own.
+/// The strategy at its thresholds: a request of exactly the threshold gets an object of its own.
 pub fn strategy_of_samples()
     ensures required { strategy (over 1048576 1 1) (bytes_for 1 16) (Some Required) 0 ≡ OwnObject }
     ensures preferred { strategy (over 1048576 1 1) (bytes_for 1024 0) (Some Preferred) 0 ≡ OwnObject }
@@ -221,8 +230,8 @@ pub fn strategy_of_samples()
     ensures in_the_final_chunk { strategy (over 3200 2 64) (bytes_for 60 16) None 0 ≡ InFreeList }
 {}
 
-/// An allocator that holds nothing agrees with every device that has its properties: a caller that opened one over its
-/// device's properties learns it by this call.
+/// An allocator that holds nothing agrees with every device that has its properties. A caller that opened one with its
+/// device's properties calls this to know it.
 pub fn agrees_at_first<M: MemoryObject, D: ObjectDevice<M>, A: Allocator>(
     allocator: &GpuAllocator<M, A>,
     device: &D,
@@ -234,9 +243,9 @@ pub fn agrees_at_first<M: MemoryObject, D: ObjectDevice<M>, A: Allocator>(
     let _ = device;
 }
 
-/// Of no heap is more held beside imports than it has, and no limit is over its heap's size. So where no import of its
-/// memory types is held, its ledger is at most its size, and with no limit what is held of it and its budget are the whole
-/// heap. A limit gets what is held and what may still be asked for, or less than what is held.
+/// Apart from imports, no heap is overdrawn, and no limit exceeds its heap's size. So where no import of a heap's
+/// memory types is held, its ledger is at most its size. Without a limit, what is held and the budget then make up the
+/// whole heap. With a limit, they make up the limit, or what is held where that is more.
 pub fn heaps_are_not_overdrawn()
     ensures asked { (s : State) → IsSound s → IsWithinHeaps s }
     ensures limits { (s : State) → IsSound s → AreLimits s }
@@ -248,55 +257,60 @@ pub fn heaps_are_not_overdrawn()
     ensures limited { (s : State) (heap : ℕ) → ledger s heap + heap_budget s heap ≡ max (ledger s heap) (heap_limit s heap) }
 {}
 
-/// A memory type that would have to be asked for an object which its heap has room for is not passed for the budget. Where
-/// the host's memory does not end the call first, the device is asked, and only its own answer passes the type.
+/// No memory type is passed over for its budget where the question for a new object is within it. The device is asked,
+/// unless host memory runs out first, and only its own answer passes the type over.
 pub fn questions_within_the_budget_are_asked()
     ensures { IsAskedWithinBudget }
 {}
 
 /// A granted block has an object of its own exactly where its memory type serves the request so
-/// (`GpuAllocator::serves_alone`): by this call what the clause `alone` says becomes known.
+/// (`GpuAllocator::serves_alone`). After this call a caller knows what the clause `alone` says.
 pub fn own_objects_are_where_served_alone()
     ensures { AloneIsTold }
 {}
 
-/// Each candidate of a request, which a granted block's memory type is, is a memory type that the request permits and
-/// that may serve what its usage means.
+/// A granted block of a fit chunk is exactly as long as requested, in whole grains, and starts at a grain and with the
+/// request's alignment. After this call a caller knows what the clause `exact` says.
+pub fn blocks_of_fit_chunks_are_exact()
+    ensures { ExactIsTold }
+{}
+
+/// Each candidate of a request is a memory type that the request permits and that may serve its usage. A granted
+/// block's memory type is a candidate.
 pub fn candidates_serve_the_request()
     ensures { CandidatesServe }
 {}
 
-/// A call of the allocator keeps the agreement of each block that stays owned: by this call what the clause `keeps`
-/// says becomes known of each block in hand.
+/// A call of the allocator keeps each block that stays owned in agreement. After this call a caller knows what the
+/// clause `keeps` says of each block in hand.
 pub fn kept_blocks_agree()
     ensures { KeptBlocksAgree }
 {}
 
-/// A request that may not be served (`GpuAllocator::can_ever_serve`) is refused in every state of an allocator with these
-/// properties, and nothing is asked. One that may be is asked for at once as an object of its own, where nothing is held
-/// and an object may be.
+/// A request that may never be served (`GpuAllocator::can_ever_serve`) is refused in every state of an allocator with
+/// these properties, without a call of the device. For any other request the device is asked at once for an object of
+/// its own, where nothing is held and an object may be.
 pub fn what_can_never_be_served()
     ensures never { NeverServed }
     ensures asks { AsksForOwnObjects }
 {}
 
-/// An import leaves allocator and block in agreement with the device: by this call what the clause `agrees` of
-/// `import_memory` says becomes known of each device that agreed and held an object that may be imported.
+/// An import leaves allocator and block in agreement with the device. After this call a caller knows what the clause
+/// `agrees` of `import_memory` says, for each device that agreed and held an object that may be imported.
 pub fn imports_agree()
     ensures { ImportsAgree }
 {}
 
-/// Which objects may be imported: those of the memory type that are not mapped and have the bytes inside, which end on
-/// the atom or where the object ends where the memory type has to be flushed. By this call it becomes known of every
-/// device; and that a range which ends where another one does, or before it on the atom, may be imported where that one
-/// may.
+/// Which objects may be imported: unmapped objects of the memory type with the range inside them. Where the memory type
+/// must be flushed, the range ends on the atom or at the object's end. After this call a caller knows this of every
+/// device. A range may also be imported if it ends where one that may be imported does, or before it on the atom.
 pub fn which_objects_may_be_imported()
     ensures { WhichMayBeImported }
 {}
 
-/// A device that was asked for an object by its caller (`allocate_memory`), whatever its answer was, leaves an
-/// allocator and each block in agreement; the name of what it made is new to the allocator, and the whole of it may be
-/// imported. By this call it becomes known of the device's latest call.
+/// After a device was asked for an object by its caller (`allocate_memory`), the allocator and each block still agree
+/// with it, whatever it answered. The name of a new object is new to the allocator, and the whole object may be
+/// imported. After this call a caller knows this of the device's latest call.
 pub fn made_objects_may_be_imported<M: MemoryObject, D: ObjectDevice<M>, A: Allocator>(
     allocator: &GpuAllocator<M, A>,
     device: &D,
@@ -309,8 +323,8 @@ pub fn made_objects_may_be_imported<M: MemoryObject, D: ObjectDevice<M>, A: Allo
     let _ = answer;
 }
 
-/// A device that takes an object back which an allocator does not hold (`deallocate_memory`) leaves that allocator and
-/// its blocks in agreement: by this call it becomes known of the device's latest call.
+/// After a device released an object that an allocator does not hold (`deallocate_memory`), that allocator and its
+/// blocks still agree with it. After this call a caller knows this of the device's latest call.
 pub fn objects_of_others_may_go<M: MemoryObject, D: ObjectDevice<M>, A: Allocator>(
     allocator: &GpuAllocator<M, A>,
     device: &D,
@@ -321,8 +335,8 @@ pub fn objects_of_others_may_go<M: MemoryObject, D: ObjectDevice<M>, A: Allocato
     let _ = device;
 }
 
-/// A device that puts or gets bytes, flushes or invalidates for its caller, whatever its answer was, leaves an allocator
-/// and each block in agreement: by this call it becomes known of the device's latest call.
+/// After a device puts or gets bytes, flushes or invalidates for its caller, the allocator and each block still agree
+/// with it, whatever it answered. After this call a caller knows this of the device's latest call.
 pub fn byte_calls_keep_agreement<M: MemoryObject, D: ObjectDevice<M>, A: Allocator>(
     allocator: &GpuAllocator<M, A>,
     device: &D,
@@ -333,13 +347,13 @@ pub fn byte_calls_keep_agreement<M: MemoryObject, D: ObjectDevice<M>, A: Allocat
     byte_calls_keep_each_agreement(device);
 }
 
-/// Two blocks that are owned and of different spans share no byte, nor an object where one of them has its own.
+/// Two owned blocks of different spans share no byte. They share no object where one of them has its own.
 pub fn owned_blocks_are_apart()
     ensures { (s : State) (b c : Block) → IsSound s → IsOwned s b → IsOwned s c → span_of b ≢ span_of c → AreTwo b c }
 {}
 
-/// Two blocks are two from either side, and are of two objects or of two ranges of one; where one of them has its own, of
-/// two objects.
+/// Blocks that are two are so in either order. They are of two objects, or of two ranges of one; where one of them has
+/// its own object, they are of two objects.
 pub fn two_blocks_are_apart()
     ensures back { (b c : Block) → AreTwo b c → AreTwo c b }
     ensures apart { (b c : Block) → AreTwo b c
@@ -347,35 +361,34 @@ pub fn two_blocks_are_apart()
     ensures objects { (b c : Block) → AreTwo b c → is_shared b.kind ≡ false → b.object ≢ c.object }
 {}
 
-/// No page of a granularity of one object holds one of the bytes that were asked for of an optimal block
-/// (`GpuAllocator::alloc_optimal`) and a byte of another block in hand, linear or optimal: of a later one, or of one that
-/// was there.
+/// No page of an object holds both a requested byte of an optimal block (`GpuAllocator::alloc_optimal`) and a byte of
+/// another block in hand. The other block may be linear or optimal, granted earlier or later.
 pub fn pages_are_not_shared()
     ensures { PagesApart }
 {}
 
-/// What is known of a list of blocks in hand is known of the block at a place of it: it is owned, it agrees with the device,
-/// and of two places the blocks are two. So a list is a map from places, which the clauses on keys speak of.
+/// What is known of a list of blocks in hand is known of each: it is owned and agrees with the device, and blocks at
+/// two places are two. So a list is a map from places, as the clauses on keys use it.
 pub fn blocks_in_hand_are_told_by_place()
     ensures { ToldByPlace }
 {}
 
-/// Blocks under keys of the caller's own, as an `IndexMap` of blocks has them, stay kept (`AreKept`) where one is put
-/// under a key that had none, where the map lends one for a call, and where one is taken out. Only what is found under
-/// each key counts, in whatever order the pairs stand. By this call what the map's `Updates` and the allocator's
-/// `joins` or `in_hand` say becomes that of the new map; and where nothing else is live (`AreAllKept`), that stays so.
+/// Blocks under the caller's own keys, as an `IndexMap` has them, stay kept (`AreKept`) in three cases. One is put
+/// under a key that had none, the map lends one for a call, or one is taken out. Only what is found under each key
+/// counts, in any order of the pairs. After this call the map's `Updates` with the allocator's `joins` or `in_hand`
+/// gives the same of the new map. Where nothing else is live (`AreAllKept`), that stays so.
 pub fn blocks_under_keys_come_and_go()
     ensures kept { ComeAndGoUnderKeys }
     ensures all { AllComeAndGo }
 {}
 
-/// Bytes that are as they were stay so from call to call, and what the device had of a block that keeps its bytes it has.
+/// Unchanged bytes stay so from call to call, and the device still has what it had of a block that keeps its bytes.
 pub fn bytes_stay()
     ensures { BytesStay }
 {}
 
-/// A span that was put in and taken out again leaves the live spans as they were, and one may be taken out before
-/// another is put in. So what was granted and returned leaves them as they were.
+/// A span that is put in and taken out again leaves the live spans as they were, and one may be taken out before
+/// another is put in. So granting and returning leaves them as they were.
 pub fn spans_come_and_go()
     ensures again { (live : set.FinSet span_cmp) (span : Span) → set.contains live span ≡ false
         → set.remove (set.insert live span) span ≡ live }

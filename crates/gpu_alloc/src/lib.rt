@@ -1,4 +1,4 @@
-//! Memory for Vulkan-like devices: blocks of few memory objects, which never touch each other.
+//! Memory for Vulkan-like devices: blocks in few memory objects, which never overlap.
 #![tactic(auto)]
 
 mod allocator;

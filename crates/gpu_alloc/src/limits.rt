@@ -12,7 +12,7 @@ use gpu_alloc_types::{AllocationFlags, MemoryPropertyFlags, MemoryType};
 use gpu_alloc_usage::MemoryForUsage;
 use std::alloc::{Allocator, Global};
 
-/// What stays as `new` was given it.
+/// What stays as it was given to `new`.
 #[derive(Drop)]
 pub(crate) struct Limits<A: Allocator = Global> {
     pub(crate) config: Config,
@@ -45,7 +45,7 @@ impl<A: Allocator> Limits<A> {
         self.memory_types[memory_type as usize].props
     }
 
-    /// The flags of every question.
+    /// The flags of every question to the device.
     #[inline(always)]
     pub(crate) fn flags(&self) -> AllocationFlags
         ensures { allocation_bits result ≡ cond self.now.buffer_device_address with_device_address 0 }
@@ -64,8 +64,8 @@ impl<A: Allocator> Limits<A> {
     }
 }
 
-/// The atom of a memory type with these properties, in bytes: of the device where what the host writes has to be
-/// flushed, and else one byte.
+/// The atom of a memory type with these properties, in bytes: the device's where the host's writes must be flushed, and
+/// one byte otherwise.
 pub(crate) fn atom_of(props: MemoryPropertyFlags, non_coherent_atom_size: u64) -> u64
     ensures { result ≡ atom_where non_coherent_atom_size (property_bits props) }
 {
@@ -76,5 +76,5 @@ pub(crate) fn atom_of(props: MemoryPropertyFlags, non_coherent_atom_size: u64) -
     }
 }
 
-/// The least grain of fit chunks, in bytes: it is the atom where that is larger.
+/// The smallest grain of fit chunks, in bytes. The grain is the atom where that is larger.
 pub(crate) const LEAST_GRAIN: u64 = 256;

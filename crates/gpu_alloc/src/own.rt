@@ -1,4 +1,4 @@
-//! The objects of one block each.
+//! The objects that are held for one block each.
 
 ghost use Rattle.std.specs.Prelude.{◌≡◌, ◌↔◌, ◌+◌, ◌++◌, ◌<◌, ◌≤◌, ℕ, List, IsOk, IsSome, IsTrue};
 ghost use Rattle.std.specs.Prelude.{MatchOption, None, OnOk, nat_eq, map as mapped};
@@ -23,7 +23,7 @@ pub struct OwnRow {
     /// The object's name.
     pub object: u64,
 
-    /// Where the block starts in the object, in bytes: 0 but in an import.
+    /// Where the block starts in the object, in bytes: 0 except in an import.
     pub offset: u64,
 
     /// The block's size, in bytes, which is what the object adds to its heap's ledger.
@@ -32,7 +32,7 @@ pub struct OwnRow {
     /// The index of the object's memory type.
     pub memory_type: u32,
 
-    /// Whether the allocator did not make the object.
+    /// Whether another made the object.
     pub imported: bool,
 }
 
@@ -49,7 +49,7 @@ impl OwnRow {
         }
     }
 
-    /// What is known of the object beside its name.
+    /// What is known of the object apart from its name.
     fn held(&self) -> HeldRow
         ensures { result ≡ row_of self.now }
     {
@@ -73,7 +73,7 @@ impl OwnRow {
         }
     }
 
-    /// Whether it is the object of this name.
+    /// Whether this is the object of this name.
     #[inline(always)]
     fn is_of(&self, object: u64) -> bool
         ensures { IsTrue result ↔ (self.now.object ≡ object) }
@@ -81,7 +81,7 @@ impl OwnRow {
         self.object == object
     }
 
-    /// Whether its block is this span, and the object is of this memory type and held for this.
+    /// Whether its block has this span, and the object is of this memory type and kind.
     #[inline(always)]
     pub(crate) fn is(&self, offset: u64, size: u64, memory_type: u32, kind: Kind) -> bool
         ensures { IsTrue result ↔ ((own_span self.now ≡ span_at self.now.object offset size)
@@ -94,10 +94,10 @@ impl OwnRow {
     }
 }
 
-/// The objects of one block each.
+/// The objects that are held for one block each.
 ///
-/// An object stands under a key, which its block carries. With that key it is found in constant time, and with another
-/// one in a time that grows with the number of these objects.
+/// An object stands under a key, which its block carries. With that key it is found in constant time, and with any
+/// other in time linear in the number of these objects.
 #[derive(Drop)]
 pub struct OwnObjects<A: Allocator = Global> {
     rows: Slab<OwnRow, A>,
@@ -121,7 +121,7 @@ impl<A: Allocator> Model for OwnObjects<A> {
     ghost invariant = { λ t. HasOneKeyEach name_in t.rows };
 }
 
-/// The key of an object's row: this one where its row is the object's, and else the one that a search finds.
+/// The key of an object's row: this one if its row is the object's, or else the one that a search finds.
 #[inline(always)]
 fn key_of<A: Allocator>(rows: &Slab<OwnRow, A>, key: usize, object: u64) -> Option<usize>
     ensures { MatchOption result (StandsNowhere rows.now object) (StandsUnder rows.now object) }
@@ -145,7 +145,7 @@ fn search<A: Allocator>(rows: &Slab<OwnRow, A>, object: u64) -> Option<usize>
 }
 
 impl<A: Allocator + Copy> OwnObjects<A> {
-    /// No object. It takes no memory.
+    /// No objects. It allocates nothing.
     pub fn new(alloc: A) -> Self
         ensures held { result.held ≡ map.empty }
         ensures live { result.live ≡ set.empty }
@@ -166,7 +166,7 @@ impl<A: Allocator> OwnObjects<A> {
 
     /// Makes room for one more object, so that one `insert` cannot fail.
     ///
-    /// The only refusal is want of memory. Nothing but the room changes, after a refusal too.
+    /// The only error is want of memory. Nothing but the room changes, even after an error.
     #[inline(always)]
     pub fn reserve(&mut self) -> Result<(), AllocError>
         ensures room { OnOk result (0 < self.new.room) }
@@ -176,7 +176,7 @@ impl<A: Allocator> OwnObjects<A> {
         self.rows.reserve(1)
     }
 
-    /// Adds an object with its block, into room that was made, and tells its key, which the block is to carry.
+    /// Adds an object with its block, into room that was made, and returns its key, which the block must carry.
     #[inline(always)]
     pub fn insert(&mut self, row: OwnRow) -> usize
         requires room { 0 < self.old.room }
@@ -188,9 +188,9 @@ impl<A: Allocator> OwnObjects<A> {
         self.rows.insert_reserved(row)
     }
 
-    /// The object of this name with its block, exactly where it is one of these.
+    /// The object of this name with its block, or `None` where it is not one of these.
     ///
-    /// The answer is the same whatever the key is. The key that `insert` gave makes it fast.
+    /// The answer is the same for any key. The key that `insert` returned makes it fast.
     #[inline(always)]
     pub fn find(&self, key: usize, object: u64) -> Option<OwnRow>
         ensures { MatchOption result (map.get self.now.held object ≡ None)
@@ -202,7 +202,7 @@ impl<A: Allocator> OwnObjects<A> {
         }
     }
 
-    /// What the object of this name is, exactly where it is one of these. It searches them all.
+    /// What is known of the object of this name, or `None` where it is not one of these. It searches them all.
     pub fn held(&self, object: u64) -> Option<HeldRow>
         ensures { option_map held_of result ≡ map.get self.now.held object }
     {
@@ -212,9 +212,9 @@ impl<A: Allocator> OwnObjects<A> {
         }
     }
 
-    /// Takes an object off, which has to be one of these, with its block. It takes no memory and cannot fail.
+    /// Removes an object, which must be one of these, with its block. It allocates nothing and cannot fail.
     ///
-    /// What comes of it is the same whatever the key is. The key that `insert` gave makes it fast.
+    /// The result is the same for any key. The key that `insert` returned makes it fast.
     #[inline(always)]
     pub fn remove(&mut self, key: usize, object: u64) -> OwnRow
         requires held { IsSome (map.get self.old.held object) }
@@ -229,9 +229,9 @@ impl<A: Allocator> OwnObjects<A> {
         }
     }
 
-    /// Adds to a list what each object is, each once with its name, in no order that is told.
+    /// Adds each object to a list with its name, each once, in no particular order.
     ///
-    /// The only refusal is want of memory. Nothing else changes.
+    /// The only error is want of memory. Nothing else changes.
     pub fn list_objects<B: Allocator>(
         &self,
         rows: &mut Vec<(u64, HeldRow), B>,
@@ -245,9 +245,9 @@ impl<A: Allocator> OwnObjects<A> {
         Ok(())
     }
 
-    /// Adds to a list the span of each block, each once, in no order that is told.
+    /// Adds the span of each block to a list, each once, in no particular order.
     ///
-    /// The only refusal is want of memory. Nothing else changes.
+    /// The only error is want of memory. Nothing else changes.
     pub fn list_spans<B: Allocator>(&self, rows: &mut Vec<LiveSpan, B>) -> Result<(), AllocError>
         ensures { OnOk result ((own : List LiveSpan) × (rows.new.items ≡ rows.old.items ++ own)
             × ((set.from_list (mapped span_in own) ≡ self.now.live) × AreOnce (mapped span_in own))) }

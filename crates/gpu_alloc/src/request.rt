@@ -12,19 +12,19 @@ pub struct Request {
     /// The least size of the block, in bytes. The block may be larger: see `MemoryBlock::size`.
     pub size: u64,
 
-    /// The block's offset is a multiple of one more than this mask, a power of two of at most 2^63.
+    /// The alignment less one: the block's offset is a multiple of `align_mask + 1`, a power of two of at most 2^63.
     pub align_mask: u64,
 
     /// What the memory is for.
     pub usage: UsageFlags,
 
-    /// The memory types that the block may be of: those whose bit is set.
+    /// The mask of the memory types that the block may be of: bit 0 for the type with index 0.
     pub memory_types: u32,
 }
 
 impl Request {
-    /// Whether an allocator can be asked for this: a size of at least 1, an alignment mask as it has to be, and the
-    /// usage `DEVICE_ADDRESS` only where `address`, that is where the device has the feature.
+    /// Whether an allocator accepts this request: a size of at least 1, a valid alignment mask, and the usage
+    /// `DEVICE_ADDRESS` only if `address`, which says that the device has the feature.
     pub fn is_askable(&self, address: bool) -> bool
         ensures { IsTrue result ↔ IsAskable address self.now }
     {
@@ -36,8 +36,9 @@ impl Request {
 }
 
 impl Request {
-    /// The same request in whole pages of `granularity` bytes: its size rounded up to them, and aligned to one at least.
-    /// None where that size would be 2^64 bytes or more. The granularity has to be a power of two of at most 2^32.
+    /// The same request in whole pages of `granularity` bytes: its size rounded up to them, and its alignment at least
+    /// one page. `None` where that size would be 2^64 bytes or more. The granularity must be a power of two of at most
+    /// 2^32.
     pub fn in_pages(self, granularity: u64) -> Option<Request>
         requires { IsGranularity granularity }
         ensures rounded { IfSome result (λ paged. paged ≡ in_pages granularity self) }
@@ -61,11 +62,11 @@ pub enum Dedicated {
     /// It must have one: the block is a whole memory object. Objects are few, and slow to make.
     Required,
 
-    /// It would gain by one. The allocator may place the block in a shared object all the same.
+    /// It would gain from one. The allocator may still place the block in a shared object.
     Preferred,
 }
 
-/// Whether a hint demands an object of its own. (It stands apart, so that requests do not pay for it while more objects
+/// Whether a hint demands an object of its own. (It stands apart so that requests do not pay for it while more objects
 /// may be held.)
 #[cold]
 #[inline(never)]

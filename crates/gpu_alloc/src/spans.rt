@@ -2,12 +2,13 @@
 
 use gpu_alloc_block::Kind;
 
-/// A live span of a held object, and where its block stands in a buddy allocator: its chunk there, and its index. A block
-/// of a free list has a chunk of 0 and its key as index, a block of a fit chunk that chunk's key and an index of 0, the one
-/// block of an object 0 for both. (Contracts tell of spans; these two are for reports.)
+/// A live span of a held object, and where its block stands in its store. A block of a buddy chunk has its chunk's key
+/// and its index there. A block of a free list has a chunk of 0 and its key as index. A block of a fit chunk has that
+/// chunk's key and an index of 0. The one block of an object has 0 for both. (Contracts mention only spans; these two
+/// fields are for reports.)
 pub use gpu_alloc_base::buddy_block::Leaf as LiveSpan;
 
-/// What is known of a held object, beside its name.
+/// What is known of a held object, apart from its name.
 #[derive(Clone, Copy, Debug, PartialEq, Eq)]
 pub struct HeldRow {
     /// The index of the object's memory type.

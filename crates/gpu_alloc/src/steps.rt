@@ -1,3 +1,3 @@
-//! Counters of steps, which take no bytes and do nothing at run time.
+//! Counters of steps. They take no bytes and do nothing at run time.
 
 pub use gpu_alloc_base::steps::Steps;

@@ -1,5 +1,5 @@
--- What an allocator of shared chunks accounts for: its chunks, by what tells them apart, the ledger of their heap, and
--- how many more objects may be held.
+-- What an allocator of shared chunks accounts for: its chunks, the ledger of their heap, and how many more objects may
+-- be held.
 use Rattle.std.specs.Prelude.{◌≡◌, ℕ, ◌+◌, ◌^◌, ◌<◌, ◌≤◌, length, Option, Result, Ok, Err, IfSome, sum_by}
 use Rattle.std.specs.FinMap as map
 use Rattle.std.specs.Ordering.{nat_cmp}
@@ -24,11 +24,11 @@ account s heap remaining = record { allocator = s; heap = heap; remaining = rema
 abbrev pub HeldChunks : Type 0
 HeldChunks = map.FinMap nat_cmp Chunk
 
--- what they add to the ledger
+-- what they add to their heap's ledger
 abbrev pub chunk_bytes : HeldChunks → ℕ
 chunk_bytes chunks = sum_by (λ e. e.1.size) (map.entries chunks)
 
--- how many they are, with those that may still come
+-- how many chunks are held or may still be made
 abbrev pub chunks_and_remaining : HeldChunks → ℕ → ℕ
 chunks_and_remaining chunks remaining = remaining + map.len chunks
 
@@ -37,8 +37,8 @@ pub record IsCounted (chunks : HeldChunks) (heap : Heap) (remaining : ℕ) : Typ
   pub ledger : chunk_bytes chunks ≤ heap.used
   pub objects : chunks_and_remaining chunks remaining < 2 ^ 32
 
--- Device and allocator: the device has the memory type with its properties, and holds each chunk, mapped whole where
--- the host sees it.
+-- Device and allocator agree: the device has the memory type with its properties and holds each chunk, mapped whole
+-- where it is host-visible.
 pub record Agrees (memory_type props : ℕ) (chunks : HeldChunks) (p : Properties)
     (objects : ℕ → Option Object) : Type 0 where
   pub known : memory_type < length p.memory_types
@@ -46,8 +46,8 @@ pub record Agrees (memory_type props : ℕ) (chunks : HeldChunks) (p : Propertie
   pub holds : (key : ℕ) → IfSome (map.get chunks key)
       (λ chunk. HeldWith objects chunk.object (IsThere memory_type (has_bit props host_visible) chunk))
 
--- What a request makes of the device's objects, of which a block has the chunk and the object that are told: one object
--- more where that chunk was not held before, as it is held after, and else nothing.
+-- What a request does to the device's objects, where these functions give its block's chunk and object. There is one
+-- object more where that chunk was not held before, and otherwise nothing changes.
 abbrev pub ObjectsAfter : {B : Type 0} → (B → ℕ) → (B → ℕ) → ℕ → ℕ → HeldChunks → Result B AllocationError → HeldChunks
     → (ℕ → Option Object) → (ℕ → Option Object) → Type 0
 ObjectsAfter chunk object memory_type props before (Ok b) after old new =

@@ -1,5 +1,5 @@
--- How an allocator decides a request: one vocabulary, for a buddy allocator and a free list among their own chunks, and
--- for each way in which the whole allocator serves a candidate.
+-- How an allocator decides a request. Buddy allocators and free lists use it among their own chunks, and the whole
+-- allocator for each way of serving a candidate.
 use Rattle.std.specs.Prelude.{◌≡◌, ◌⊎◌, ℕ, ◌+◌, ◌<◌, ◌≤◌, Bool, List, [], Option, Some, None, Result, Ok, Err, IsTrue}
 use Rattle.gpu_alloc_types.specs.Device.{Event}
 use Rattle.gpu_alloc_base.specs.NewChunk.{ChunkQuestion, made, LacksDeviceMemory, LacksHostMemory, IsGivenBack}
@@ -7,55 +7,55 @@ use Rattle.gpu_alloc_base.specs.declared.error.AllocationError.{AllocationError}
 use Rattle.gpu_alloc_base.specs.declared.error.AllocationError.TheVariants.{OutOfDeviceMemory, OutOfHostMemory}
 use Rattle.gpu_alloc_base.specs.declared.error.AllocationError.TheVariants.{NoCompatibleMemoryTypes, TooManyObjects}
 
--- What the decision of one request rests on, before anything is asked. B are the blocks, S the states.
+-- What the decision of one request depends on, before anything is asked. B are the blocks, S the states.
 pub record Case (B S : Type 0) : Type 1 where
-  -- the state before, which a refusal leaves
+  -- the state before, which a refusal keeps
   pub before : S
-  -- what would be asked for is of less than 2^64 bytes
+  -- the question would be for less than 2^64 bytes
   pub Fits : Type 0
-  -- somewhere in what is held there is room
+  -- there is room in what is held
   pub HasPlace : Type 0
   -- how many more objects may be held
   pub remaining : ℕ
-  -- there is a number for a new chunk
+  -- a number is left for a new chunk
   pub HasNumber : Type 0
-  -- what is asked for where there is no place
+  -- the question for the device where there is no place
   pub question : ChunkQuestion
-  -- how many bytes the heap's ledger counts, of how many that may be asked of the heap
+  -- how many bytes the heap's ledger counts, and how many it may count at most
   pub ledger : ℕ
   pub limit : ℕ
-  -- a new object gets a second handle, for which there may be no host memory
+  -- a new object gets a second handle, for which host memory may be missing
   pub two_handles : Bool
   -- the name of a block's object
   pub object : B → ℕ
-  -- the block lies where a place says, and the state with it
+  -- the block and the new state are as a place in a held object gives them
   pub IsInPlace : B → Type 0
   pub with_block : B → S
-  -- the block lies where a new object says, and the state with both
+  -- the block and the new state are as a new object gives them
   pub IsInNewObject : B → Type 0
   pub with_object : B → S
 
 module _ {B S : Type 0} (c : Case B S) where
-  -- nothing remains: no more objects may be held, or the numbers are spent
+  -- nothing more may be asked: no more objects may be held, or the numbers are used up
   abbrev pub IsBarred : Type 0
   IsBarred = (c.remaining ≡ 0) ⊎ (c.HasNumber → ⊥)
 
-  -- something remains
+  -- one more object may be asked for
   pub record MayAsk : Type 0 where
     pub objects : 0 < c.remaining
     pub number : c.HasNumber
 
-  -- there is a question: it fits, there is no place, and something remains
+  -- there is a question: it fits, there is no place, and one more object may be asked for
   pub record HasQuestion : Type 0 where
     pub fits : c.Fits
     pub no_place : c.HasPlace → ⊥
     pub remains : MayAsk
 
-  -- the heap's limit leaves as many bytes as the question is for, or more
+  -- the question stays within the heap's limit
   abbrev pub IsWithinBudget : Type 0
   IsWithinBudget = c.ledger + c.question.size ≤ c.limit
 
-  -- the heap's limit leaves fewer bytes than the question is for
+  -- the question exceeds the heap's limit
   abbrev pub IsOverBudget : Type 0
   IsOverBudget = c.limit < c.ledger + c.question.size
 
@@ -64,12 +64,12 @@ module _ {B S : Type 0} (c : Case B S) where
     pub has : HasQuestion
     pub within : IsWithinBudget
 
-  -- nothing is certain yet: it fits, and there is a place, or something remains and the question is within the budget
+  -- no refusal is certain yet: it fits, and there is a place, or one more object may be asked for within the budget
   pub record IsOpen : Type 0 where
     pub fits : c.Fits
     pub ways : c.HasPlace ⊎ (MayAsk × IsWithinBudget)
 
-  -- why the device may not be asked, if it may not: nothing remains, or the question is over the budget
+  -- why the device may not be asked, if so: no more objects may be held, or the question is over the budget
   abbrev pub RefusesQuestion : Option AllocationError → Type 0
   RefusesQuestion None = MayAsk × IsWithinBudget
   RefusesQuestion (Some TooManyObjects) = IsBarred
@@ -77,21 +77,21 @@ module _ {B S : Type 0} (c : Case B S) where
   RefusesQuestion (Some OutOfHostMemory) = ⊥
   RefusesQuestion (Some NoCompatibleMemoryTypes) = ⊥
 
-  -- it is refused before anything is asked: no place, and nothing remains
+  -- it is refused before anything is asked: there is no place, and no more objects may be held
   pub record IsShut : Type 0 where
     pub fits : c.Fits
     pub no_place : c.HasPlace → ⊥
     pub barred : IsBarred
 
-  -- it is passed before anything is asked: what would be asked for is too large for any device, or over the budget
+  -- it is passed over before anything is asked: the question is too large for any device, or over the budget
   abbrev pub IsPassedUnasked : Type 0
   IsPassedUnasked = (c.Fits → ⊥) ⊎ (HasQuestion × IsOverBudget)
 
-  -- The request is passed: unasked, or the device, asked exactly for what would be asked for, had no memory.
+  -- The request is passed over: unasked, or after the device had no memory for exactly that question.
   abbrev pub IsPassed : List Event → Type 0
   IsPassed es = (IsPassedUnasked × (es ≡ [])) ⊎ (Asks × LacksDeviceMemory c.question es)
 
-  -- the block lies in a place, and nothing is asked
+  -- the block lies in a place in a held object, and nothing is asked
   pub record GivesInPlace (es : List Event) (b : B) (new : S) : Type 0 where
     pub fits : c.Fits
     pub place : c.IsInPlace b
@@ -105,15 +105,15 @@ module _ {B S : Type 0} (c : Case B S) where
     pub asked : es ≡ made c.question (c.object b)
     pub state : new ≡ c.with_object b
 
-  -- the host had no memory for what the question led to
+  -- there was no host memory for what the question led to
   abbrev pub HostRefuses : List Event → Type 0
   HostRefuses es = LacksHostMemory c.question es ⊎ (IsTrue c.two_handles × IsGivenBack c.question es)
 
-  -- host memory was refused: to the allocator, before anything was asked, or to the device
+  -- host memory was missing: for the allocator, before anything was asked, or for the device
   abbrev pub LacksHost : List Event → Type 0
   LacksHost es = ((es ≡ []) × IsOpen) ⊎ (Asks × HostRefuses es)
 
-  -- What a request that is not passed is answered.
+  -- The answer to a request that is not passed over.
   abbrev pub Decides : List Event → Result B AllocationError → S → Type 0
   Decides es (Ok b) new = GivesInPlace es b new ⊎ GivesInNewObject es b new
   Decides es (Err TooManyObjects) new = (new ≡ c.before) × (es ≡ []) × IsShut
@@ -121,13 +121,13 @@ module _ {B S : Type 0} (c : Case B S) where
   Decides es (Err OutOfDeviceMemory) new = ⊥
   Decides es (Err NoCompatibleMemoryTypes) new = ⊥
 
-  -- One request was tried: it is passed, or it is decided.
+  -- One request was tried: it is passed over, or decided.
   abbrev pub Tries : List Event → Result (Option B) AllocationError → S → Type 0
   Tries es (Ok None) new = (new ≡ c.before) × IsPassed es
   Tries es (Ok (Some b)) new = Decides es (Ok b) new
   Tries es (Err e) new = Decides es (Err e) new
 
-  -- The same where no other candidate is left: one that is passed is refused.
+  -- The same where no other candidate is left: a request that is passed over is refused.
   abbrev pub Answers : List Event → Result B AllocationError → S → Type 0
   Answers es (Err OutOfDeviceMemory) new = (new ≡ c.before) × IsPassed es
   Answers es (Ok b) new = Decides es (Ok b) new

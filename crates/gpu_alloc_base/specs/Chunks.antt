@@ -7,18 +7,18 @@ pub record Chunk : Type 0 where
   pub object : ℕ
   pub size : ℕ
 
--- what a key or a number says of its chunk's object, 0 where none is held under it
+-- the name of the object of the chunk under a key or number, 0 where no chunk is held there
 abbrev pub object_in : Option Chunk → ℕ
 object_in None = 0
 object_in (Some chunk) = chunk.object
 
--- the device holds a chunk: so large, of the memory type, and mapped whole where the host sees it
+-- the device holds a chunk: of its size and memory type, and mapped whole where it is host-visible
 pub record IsThere (memory_type : ℕ) (visible : Bool) (chunk : Chunk) (o : Object) : Type 0 where
   pub of_type : o.memory_type ≡ memory_type
   pub of_size : o.size ≡ chunk.size
   pub mapped : IsTrue visible → o.mapped ≡ Some (0, o.size)
 
--- a chunk's object as it was made: so large, of the memory type, and mapped whole exactly where the host sees it
+-- a chunk's object as it was made: of its size and memory type, and mapped whole exactly where it is host-visible
 pub record IsNew (memory_type : ℕ) (visible : Bool) (chunk : Chunk) (o : Object) : Type 0 where
   pub of_type : o.memory_type ≡ memory_type
   pub of_size : o.size ≡ chunk.size

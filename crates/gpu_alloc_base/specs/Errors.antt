@@ -1,4 +1,4 @@
--- What errors print, and which error stands for which.
+-- What errors print, and which error becomes which.
 use Rattle.std.specs.Prelude.{ℕ, List, codes}
 use Rattle.gpu_alloc_types.specs.declared.types.DeviceMapError.{DeviceMapError}
 use Rattle.gpu_alloc_types.specs.declared.types.DeviceMapError.TheVariants as DeviceMap
@@ -30,7 +30,7 @@ map_text Map.NonHostVisible = codes "Impossible to map non-host-visible memory"
 map_text Map.MapFailed = codes "Failed to map memory object"
 map_text Map.AlreadyMapped = codes "Block is already mapped"
 
--- the mapping error of the same name as a device's
+-- the mapping error of the same name as a device's refusal to map
 abbrev pub map_like_device : DeviceMapError → MapError
 map_like_device DeviceMap.OutOfDeviceMemory = Map.OutOfDeviceMemory
 map_like_device DeviceMap.OutOfHostMemory = Map.OutOfHostMemory

@@ -1,4 +1,4 @@
--- Free runs: the longest nonempty ranges of free bytes, and what a list of regions keeps of them.
+-- Free runs: the longest nonempty ranges of free bytes, and how a list of regions keeps them.
 use Rattle.std.specs.Prelude.{◌≡◌, ◌⊎◌, ℕ, ◌+◌, ◌-◌, ◌<◌, ◌≤◌, List, length, Contains, get_or}
 use Rattle.gpu_alloc_base.specs.FreeSpace.{IsMultipleOf}
 use Rattle.gpu_alloc_base.specs.declared.region.FreeListRegion.{FreeListRegion}
@@ -8,7 +8,7 @@ use Rattle.gpu_alloc_base.specs.Sizes.{down}
 abbrev pub IsBefore : FreeListRegion → FreeListRegion → Type 0
 IsBefore r s = (r.chunk < s.chunk) ⊎ ((r.chunk ≡ s.chunk) × (r.end < s.start))
 
--- where a block starts that ends where the range does
+-- where a block of this size starts if it ends where the range does
 abbrev pub tail_start : ℕ → ℕ → ℕ → ℕ
 tail_start size alignment end = down (end - size) alignment
 
@@ -22,7 +22,7 @@ abbrev pub AreRising : List FreeListRegion → Type 0
 AreRising regions =
     (i j : ℕ) (d : FreeListRegion) → i < j → j < length regions → IsBefore (get_or regions i d) (get_or regions j d)
 
--- the free bytes but those of a range, and with those of a range
+-- the free bytes without those of a range, and with them
 abbrev pub Without : (ℕ → ℕ → Type 0) → FreeListRegion → ℕ → ℕ → Type 0
 Without F x chunk at = F chunk at × (chunk ≡ x.chunk → x.start ≤ at → at < x.end → ⊥)
 
@@ -35,7 +35,7 @@ module _ (F : ℕ → ℕ → Type 0) where
   abbrev pub AreFree : ℕ → ℕ → ℕ → Type 0
   AreFree chunk start end = (at : ℕ) → start ≤ at → at < end → F chunk at
 
-  -- a free range that is not empty and lies in no longer one
+  -- a nonempty free range that lies in no longer one
   pub record IsFreeRun (chunk start end : ℕ) : Type 0 where
     pub nonempty : start < end
     pub free : AreFree chunk start end
@@ -72,7 +72,7 @@ pub record AreRuns (regions : List FreeListRegion) (F : ℕ → ℕ → Type 0) 
   pub spaced : IsSpaced F (Contains regions)
   pub rising : AreRising regions
 
--- the same of the free bytes that are not those of x, which is in hand
+-- the same of the free bytes without those of x, which is in hand
 pub record AreRunsBeside (regions : List FreeListRegion) (F : ℕ → ℕ → Type 0) (x : FreeListRegion) : Type 0 where
   pub rest : AreRuns regions (Without F x)
   pub inside : AreFree F x.chunk x.start x.end

@@ -1,7 +1,7 @@
 -- Free space: the bytes of held chunks that lie in no live span, and the longest ranges of them.
 use Rattle.std.specs.Prelude.{◌≡◌, ℕ, ◌+◌, ◌*◌, ◌^◌, ◌<◌, ◌≤◌}
 
--- the byte lies in the range that starts so and has this length
+-- the byte lies in the range with this start and length
 pub record IsIn (start length at : ℕ) : Type 0 where
   pub from : start ≤ at
   pub to : at < start + length
@@ -23,13 +23,13 @@ module _ (F : ℕ → ℕ → Type 0) where
   abbrev pub IsFreeRange : ℕ → ℕ → ℕ → Type 0
   IsFreeRange object start length = (at : ℕ) → IsIn start length at → F object at
 
-  -- a free range of a power of two that starts at a multiple of its length
+  -- a free range of a power of two of bytes that starts at a multiple of its length
   pub record IsPlace (object start length : ℕ) : Type 0 where
     pub power : IsPowerOfTwo length
     pub aligned : IsMultipleOf length start
     pub free : IsFreeRange object start length
 
-  -- one that lies in no longer such range
+  -- a place that lies in no longer place
   pub record IsFreePiece (object start length : ℕ) : Type 0 where
     pub place : IsPlace object start length
     pub longest : (start' length' : ℕ) → IsPlace object start' length' → start' ≤ start

@@ -19,7 +19,7 @@ use Rattle.gpu_alloc_base.specs.declared.error.AllocationError.TheVariants.{NoCo
 abbrev pub flags_of : Properties → ℕ
 flags_of p = cond p.buffer_device_address with_device_address 0
 
--- what is asked for: so many bytes of a memory type with these flags, and whether the object is then mapped whole
+-- what is asked for: some bytes of a memory type with these flags, and whether the object is then mapped whole
 pub record ChunkQuestion : Type 0 where
   pub size : ℕ
   pub memory_type : ℕ
@@ -39,26 +39,26 @@ abbrev pub made : ChunkQuestion → ℕ → List Event
 made q object =
     Allocated q.size q.memory_type q.flags (Ok object) ∷ cond q.mapped (Mapped (whole_of q object) (Ok tt) ∷ []) []
 
--- the object was granted, its mapping refused, and the object given back
+-- the object was granted, its mapping refused, and the object released
 abbrev pub unmapped : ChunkQuestion → ℕ → DeviceMapError → List Event
 unmapped q object cause =
     Allocated q.size q.memory_type q.flags (Ok object)
     ∷ Mapped (whole_of q object) (Err cause) ∷ Deallocated object ∷ []
 
--- the device answered that it has no memory of its own for the object, or none for its mapping
+-- the device answered that it has no memory of its own for the object or for its mapping
 abbrev pub LacksDeviceMemory : ChunkQuestion → List Event → Type 0
 LacksDeviceMemory q es =
     (es ≡ Allocated q.size q.memory_type q.flags (Err DeviceFull) ∷ [])
     ⊎ (IsTrue q.mapped × ((object : ℕ) × (es ≡ unmapped q object MapDeviceFull)))
 
--- the device answered that the host has no memory, or could not map the object
+-- the device answered that host memory is exhausted, or could not map the object
 abbrev pub LacksHostMemory : ChunkQuestion → List Event → Type 0
 LacksHostMemory q es =
     (es ≡ Allocated q.size q.memory_type q.flags (Err HostFull) ∷ [])
     ⊎ (IsTrue q.mapped × ((object : ℕ) ×
     ((cause : DeviceMapError) × (cause ≢ MapDeviceFull) × (es ≡ unmapped q object cause))))
 
--- the object was made, and given back because there was no host memory for a second handle of it
+-- the object was made, and released because there was no host memory for a second handle of it
 abbrev pub IsGivenBack : ChunkQuestion → List Event → Type 0
 IsGivenBack q es = (object : ℕ) × (es ≡ made q object ++ Deallocated object ∷ [])
 
@@ -68,7 +68,7 @@ new_chunk_refusal MapDeviceFull = OutOfDeviceMemory
 new_chunk_refusal MapHostFull = OutOfHostMemory
 new_chunk_refusal MapFailed = OutOfHostMemory
 
--- the question with all that it leads to, by how it ends
+-- the question with all that follows from it, by how it ends
 abbrev pub AsksChunk : ChunkQuestion → List Event → Result ℕ AllocationError → Type 0
 AsksChunk q es (Ok object) = es ≡ made q object
 AsksChunk q es (Err OutOfDeviceMemory) = LacksDeviceMemory q es
@@ -84,14 +84,14 @@ AsksChunkTwice q es (Err OutOfHostMemory) = LacksHostMemory q es ⊎ IsGivenBack
 AsksChunkTwice q es (Err NoCompatibleMemoryTypes) = ⊥
 AsksChunkTwice q es (Err TooManyObjects) = ⊥
 
--- an answer by its object's name, and by the names that its two handles give
+-- an answer with the name of its object, and with the names that its two handles give
 abbrev pub told_object : {B E : Type 0} → (B → ℕ) → Result B E → Result ℕ E
 told_object object answer = result_map_both object (λ e. e) answer
 
 abbrev pub told_handles : {M E : Type 0} → (M → ℕ) → Result (M × M) E → Result (ℕ × ℕ) E
 told_handles object answer = result_map_both (λ handles. (object handles.0, object handles.1)) (λ e. e) answer
 
--- a new object, and what is mapped of it: all where the question says so
+-- a new object, mapped whole where the question says so
 pub record IsChunkObject (q : ChunkQuestion) (o : Object) : Type 0 where
   pub of_type : o.memory_type ≡ q.memory_type
   pub of_size : o.size ≡ q.size
@@ -102,7 +102,7 @@ abbrev pub HasOneChunkMore : ChunkQuestion → ℕ → (ℕ → Option Object) �
 HasOneChunkMore q object old new =
     (old object ≡ None) × ((o : Object) × IsChunkObject q o × (new ≡ put old object (Some o)))
 
--- the same where it was made, and nothing where it was not
+-- the device holds one object more if the question was granted, and else what it held
 abbrev pub ChunkAfter : ChunkQuestion → Result ℕ AllocationError → (ℕ → Option Object) → (ℕ → Option Object) → Type 0
 ChunkAfter q (Ok object) old new = HasOneChunkMore q object old new
 ChunkAfter q (Err e) old new = new ≡ old

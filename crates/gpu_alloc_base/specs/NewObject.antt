@@ -1,8 +1,8 @@
--- What a grant makes of the device's objects, whatever its block is of.
+-- What a grant does to the device's objects, whatever holds its block.
 use Rattle.std.specs.Prelude.{◌≡◌, ℕ, Option, Some, None, MatchOption}
 use Rattle.gpu_alloc_types.specs.Device.{Object, put}
 
--- the device holds one object more, which is as it is counted
+-- the device holds one object more, which is as the allocator counts it
 pub record HasOneMore {C : Type 0} (IsAs : C → Object → Type 0) (after : Option C) (object : ℕ)
     (old new : ℕ → Option Object) : Type 0 where
   pub counted : C
@@ -12,7 +12,7 @@ pub record HasOneMore {C : Type 0} (IsAs : C → Object → Type 0) (after : Opt
   pub is_as : IsAs counted made
   pub now : new ≡ put old object (Some made)
 
--- One object more where the block's object was not counted before, as it is counted after; and else nothing.
+-- One object more, as it is counted after, where the block's object was not counted before; else nothing changes.
 abbrev pub ObjectsGiven : {C : Type 0} → (C → Object → Type 0) → Option C → Option C → ℕ → (ℕ → Option Object)
     → (ℕ → Option Object) → Type 0
 ObjectsGiven IsAs before after object old new =

@@ -1,4 +1,4 @@
--- Free pieces as they are kept, and what becomes of them step by step.
+-- Free pieces as they are kept, and how they change step by step.
 use Rattle.std.specs.Prelude.{◌≡◌, ℕ, ◌+◌, ◌*◌, ◌^◌, ◌⊎◌, Bool, ◌==◌, ◌&&◌, List}
 use Rattle.std.specs.List.{Contains, IsDistinct}
 use Rattle.gpu_alloc_base.specs.FreeSpace.{IsIn, IsMultipleOf}
@@ -18,7 +18,7 @@ pub record AreHalves (p q : Piece) : Type 0 where
 abbrev pub joined : Piece → Piece
 joined p = record { chunk = p.chunk; start = p.start; order = p.order + 1 }
 
--- the pieces that are kept are aligned and apart, no two are halves of one range, and together they are the free bytes
+-- the kept pieces are aligned and apart, no two are halves of one range, and together they are the free bytes
 pub record IsCanonical (Has : Piece → Type 0) (F : ℕ → ℕ → Type 0) : Type 0 where
   pub aligned : (p : Piece) → Has p → IsMultipleOf (2 ^ p.order) p.start
   pub apart : (p q : Piece) → Has p → Has q → p.chunk ≡ q.chunk → (at : ℕ) → InPiece p at → InPiece q at → p ≡ q
@@ -26,7 +26,7 @@ pub record IsCanonical (Has : Piece → Type 0) (F : ℕ → ℕ → Type 0) : T
   pub free : (p : Piece) → Has p → (at : ℕ) → InPiece p at → F p.chunk at
   pub covers : (chunk at : ℕ) → F chunk at → (p : Piece) × Has p × (p.chunk ≡ chunk) × InPiece p at
 
--- the free bytes that are not the piece's
+-- the free bytes without those of the piece
 abbrev pub Without : (ℕ → ℕ → Type 0) → Piece → ℕ → ℕ → Type 0
 Without F x chunk at = F chunk at × (chunk ≡ x.chunk → InPiece x at → ⊥)
 
@@ -42,7 +42,7 @@ pub record IsBeside (Has : Piece → Type 0) (F : ℕ → ℕ → Type 0) (x : P
   pub aligned : IsMultipleOf (2 ^ x.order) x.start
   pub inside : (at : ℕ) → InPiece x at → F x.chunk at
 
--- two pieces that start at one byte
+-- two pieces that start at the same byte
 abbrev pub same_place : Piece → Piece → Bool
 same_place p q = (p.chunk == q.chunk) && (p.start == q.start)
 
@@ -51,7 +51,7 @@ pub record AreKept (pieces : List Piece) (F : ℕ → ℕ → Type 0) : Type 0 w
   pub canonical : IsCanonical (Contains pieces) F
   pub distinct : IsDistinct same_place pieces
 
--- the same of the free bytes that are not those of x, which is in hand
+-- the same of the free bytes without those of x, which is in hand
 pub record AreKeptBeside (pieces : List Piece) (F : ℕ → ℕ → Type 0) (x : Piece) : Type 0 where
   pub beside : IsBeside (Contains pieces) F x
   pub distinct : IsDistinct same_place pieces

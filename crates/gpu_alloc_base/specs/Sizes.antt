@@ -19,7 +19,7 @@ pub record IsNextPowerOfTwo (x n : ℕ) : Type 0 where
   pub enough : x ≤ n
   pub least : (k : ℕ) → x ≤ 2 ^ k → n ≤ 2 ^ k
 
--- the multiples of a next below or equal, and next above or equal
+-- the greatest multiple of a that is at most x, and the least that is at least x
 abbrev pub down : ℕ → ℕ → ℕ
 down x a = x / a * a
 
@@ -40,22 +40,22 @@ transient_threshold c = max c.transient_dedicated_threshold c.dedicated_threshol
 
 -- Chunks, for a memory type whose heap has this size. No chunk begins larger than a small part of its heap.
 
--- the least buddy block
+-- the smallest buddy block
 abbrev pub minimal_size : Config → ℕ → ℕ
 minimal_size c heap = next_power_of_two (min c.minimal_buddy_size (heap / 1024))
 
--- the first buddy chunk's least size
+-- the least size of the first buddy chunk
 abbrev pub initial_size : Config → ℕ → ℕ
 initial_size c heap = next_power_of_two (min c.initial_buddy_dedicated_size (heap / 32))
 
--- a number of bytes cut at a part of the heap, in whole atoms, and one atom at least
+-- a number of bytes in whole atoms: at most a part of the heap, and at least one atom
 abbrev pub at_least_an_atom : ℕ → ℕ → ℕ
 at_least_an_atom atom size = cond (size == 0) atom size
 
 abbrev pub cut : ℕ → ℕ → ℕ → ℕ
 cut heap atom size = at_least_an_atom atom (down (min size (heap / 32)) atom)
 
--- the first free-list chunk's least size
+-- the least size of the first free-list chunk
 abbrev pub starting_size : Config → ℕ → ℕ → ℕ
 starting_size c heap atom = cut heap atom c.starting_free_list_chunk
 
@@ -64,19 +64,19 @@ abbrev pub final_size : Config → ℕ → ℕ → ℕ
 final_size c heap atom =
     cut heap atom (max (max c.final_free_list_chunk c.starting_free_list_chunk) (transient_threshold c))
 
--- a chunk for a block of this size, where the next one would have `next` bytes and none has more than `final`: the next
--- one, or where that is too small, its least product with a power of two that suffices, cut at the largest
+-- a chunk for a block of this size, where the next one would have `next` bytes and none has more than `final`. It is
+-- the next one, or where that is too small, its least product with a power of two that suffices, cut at the largest
 abbrev pub grown_chunk : ℕ → ℕ → ℕ → ℕ
 grown_chunk next final size =
     cond (nat_le size next) next (min (next * next_power_of_two ((size + (next - 1)) / next)) final)
 
--- the same without steps: it holds the block, and is the least that does so of the products of the next one's size with
+-- the same without steps: it holds the block. It is the least that does so of the products of the next one's size with
 -- powers of two, each cut at the largest
 pub record IsLeastProduct (next final size chunk : ℕ) : Type 0 where
   pub enough : size ≤ chunk
   pub product : (k : ℕ) × (chunk ≡ min (next * 2 ^ k) final)
   pub least : (k : ℕ) → size ≤ next * 2 ^ k → chunk ≤ next * 2 ^ k
 
--- the next one's size once a chunk of this size was made: twice as much, cut at the largest
+-- the size of the next chunk once one of this size was made: twice as much, cut at the largest
 abbrev pub doubled_chunk : ℕ → ℕ → ℕ
 doubled_chunk final size = min (2 * size) final

@@ -12,6 +12,6 @@ pub record Wanted : Type 0 where
 abbrev pub wanted : ℕ → ℕ → ℕ → Wanted
 wanted size align_mask flags = record { size = size; align_mask = align_mask; flags = flags }
 
--- the same, by the flags and not their number
+-- the same, with the flags as a value of their type
 abbrev pub requested : ℕ → ℕ → AllocationFlags → Wanted
 requested size align_mask flags = wanted size align_mask (allocation_bits flags)

@@ -1,12 +1,11 @@
-//! How an object is booked that is held, and how it goes off the books: every grant of a new object and every return of
-//! one passes here. It is public for the crates above.
+//! The books of held objects: every grant of a new object and every release of one passes here. It is public for the
+//! crates above.
 
 ghost use Rattle.std.specs.Prelude.{◌≡◌, ◌+◌, ◌-◌, ◌<◌, ◌≤◌, ◌^◌};
 
 use crate::heap::Heap;
 
-/// Books an object of so many bytes that is held from now on: its heap's ledger counts it, and one object less may be
-/// held.
+/// Books a new object of `size` bytes: its heap's ledger counts it, and one object fewer may still be held.
 #[inline(always)]
 pub fn hold(heap: &mut Heap, allocations_remains: &mut u32, size: u64)
     requires room { heap.old.used + size < 2 ^ 128 }
@@ -18,8 +17,8 @@ pub fn hold(heap: &mut Heap, allocations_remains: &mut u32, size: u64)
     *allocations_remains -= 1;
 }
 
-/// Takes an object of so many bytes off the books, which is held no more: its heap's ledger is lowered by them, and one
-/// object more may be held.
+/// Takes a released object of `size` bytes off the books: its heap's ledger is lowered by them, and one object more may
+/// be held.
 #[inline(always)]
 pub fn let_go(heap: &mut Heap, allocations_remains: &mut u32, size: u64)
     requires counted { size ≤ heap.old.used }

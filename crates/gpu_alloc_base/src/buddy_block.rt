@@ -1,12 +1,12 @@
-//! Blocks of a buddy allocator. What takes one apart is no method of theirs: `gpu_alloc`, from which users have the
-//! type, does not give it on.
+//! Blocks of a buddy allocator. The function that takes one apart is not a method: `gpu_alloc`, where users find the
+//! type, does not export it.
 
 ghost use Rattle.std.specs.Prelude.{◌≡◌};
 
 use gpu_alloc_types::MemoryObject;
 use std::marker::Model;
 
-/// What a live block of a buddy allocator is known by, as [`into_parts`] tells it.
+/// What identifies a live block of a buddy allocator, as [`into_parts`] returns it.
 #[derive(Clone, Copy, Debug, PartialEq, Eq)]
 pub struct Leaf {
     /// The name of its chunk's object.
@@ -21,12 +21,12 @@ pub struct Leaf {
     /// Its size, in bytes.
     pub size: u64,
 
-    /// Its place in the allocator's own store.
+    /// Its place in the allocator's own store: the key of its pair of halves.
     pub index: usize,
 }
 
 /// A block of a buddy allocator: a power of two of bytes of one of its chunks, at a multiple of its size. It cannot be
-/// let go, only given back to its allocator.
+/// dropped, only returned to its allocator.
 pub struct BuddyBlock<M: MemoryObject> {
     memory: M,
     chunk: usize,
@@ -53,8 +53,8 @@ impl<M: MemoryObject> Model for BuddyBlock<M> {
 }
 
 impl<M: MemoryObject> BuddyBlock<M> {
-    /// The block with this handle of its chunk's object. It is public for the crates above: users get their blocks from
-    /// a buddy allocator.
+    /// A block with this handle of its chunk's object. It is public for the crates above: users get their blocks from a
+    /// buddy allocator.
     #[inline(always)]
     pub fn new(memory: M, leaf: Leaf) -> Self
         requires { leaf.object ≡ M.object memory }
@@ -110,7 +110,7 @@ impl<M: MemoryObject> BuddyBlock<M> {
     }
 }
 
-/// Takes a block apart, for its handle and what it was known by.
+/// Takes a block apart, into its handle and what identifies it.
 #[inline(always)]
 pub fn into_parts<M: MemoryObject>(block: BuddyBlock<M>) -> (M, Leaf)
     ensures handle { M.object result.0 ≡ block.object }

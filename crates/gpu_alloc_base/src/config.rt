@@ -1,4 +1,4 @@
-//! The sizes by which an allocator decides.
+//! The sizes that steer an allocator.
 
 ghost use Rattle.std.specs.Prelude.{◌≡◌, IsTrue, ◌<◌};
 ghost use Rattle.std.specs.Int.{is_power_of_two};
@@ -15,47 +15,47 @@ const KIBIBYTE: u64 = 1 << 10;
 /// 1024 KiB, in bytes.
 const MEBIBYTE: u64 = 1 << 20;
 
-/// The sizes by which an allocator decides, all in bytes. Any values serve, 0 among them.
+/// The sizes that steer an allocator, all in bytes. Any values serve, 0 among them.
 ///
-/// `serde` writes it by the names of its fields, and reads them in any order, or a list of the seven values. A text
-/// that lacks a field, has one twice, or has a value that is no `u64` is an error; a field of another name is skipped,
+/// `serde` writes it with the names of its fields. It reads them in any order, or a list of the seven values. A text is
+/// an error if it lacks a field, repeats one, or has a value that is not a `u64`. A field of another name is skipped,
 /// as in the original crate.
 #[derive(Clone, Copy, Debug, PartialEq, Eq, Serialize, Deserialize)]
 pub struct Config {
-    /// A request that isn't transient, of at least this size or of the 32nd part of its heap where that is less, gets a
-    /// memory object of its own. A low value soon uses up the number of objects that a device allows.
+    /// A request that isn't transient gets a memory object of its own from this size on, or from the 32nd part of its
+    /// heap where that is less. A low value soon uses up the number of objects that a device allows.
     pub dedicated_threshold: u64,
 
-    /// A request of at least this size that prefers an object of its own gets one. A value above
+    /// A request that prefers an object of its own gets one from this size on. A value above
     /// [`Config::dedicated_threshold`] counts as that one.
     pub preferred_dedicated_threshold: u64,
 
     /// [`Config::dedicated_threshold`] for a transient request. A value below that one counts as that one. A transient
-    /// request that in whole atoms is larger than the largest shared object gets one of its own too.
+    /// request that is larger, in whole atoms, than the largest shared object gets one of its own too.
     pub transient_dedicated_threshold: u64,
 
-    /// The least size of the first object that transient requests share, at most the 32nd part of its heap, in whole
-    /// atoms, one atom at least.
+    /// The least size of the first object that transient requests share. It is at most the 32nd part of its heap, in
+    /// whole atoms, and at least one atom.
     pub starting_free_list_chunk: u64,
 
-    /// The size up to which such objects grow. A value below [`Config::starting_free_list_chunk`] or the threshold of
-    /// transient requests counts as the greater of these. It is cut as that first size is.
+    /// The size up to which such objects grow. A value below [`Config::starting_free_list_chunk`] or below the
+    /// threshold of transient requests counts as the greater of these. It has the same bounds as that first size.
     pub final_free_list_chunk: u64,
 
-    /// The least size of a block in an object shared by requests that aren't transient, at most the 1024th part of its
-    /// heap, raised to a power of two.
+    /// The least size of a block in an object shared by requests that aren't transient. It is at most the 1024th part
+    /// of its heap, rounded up to a power of two.
     pub minimal_buddy_size: u64,
 
-    /// The least size of the first object that such requests share, at most the 32nd part of its heap, raised to a
-    /// power of two. A value below [`Config::minimal_buddy_size`] counts as that one; the object has at least twice the
-    /// size of its first block all the same.
+    /// The least size of the first object that such requests share. It is at most the 32nd part of its heap, rounded up
+    /// to a power of two. A value below [`Config::minimal_buddy_size`] counts as that one. The object is at least twice
+    /// as large as its first block in any case.
     pub initial_buddy_dedicated_size: u64,
 }
 
 impl Config {
     /// Sizes to begin with: 1024 times those of [`Config::i_am_potato`].
     ///
-    /// Devices and programs differ, so a program that knows its own should choose other sizes.
+    /// Devices and programs differ: a program that knows its own should choose other sizes.
     pub fn i_am_prototyping() -> Config
         ensures { result ≡ prototyping }
     {
@@ -85,7 +85,7 @@ impl Config {
         }
     }
 
-    /// From which size on an object of its own that is preferred is given, in bytes.
+    /// The size from which a request that prefers an object of its own gets one, in bytes.
     /// It is public for the allocator.
     pub fn preferred_threshold(&self) -> u64
         ensures { result ≡ preferred_threshold self.now }
@@ -94,7 +94,7 @@ impl Config {
             .min(self.dedicated_threshold)
     }
 
-    /// The size of a least buddy block, in bytes, for a memory type in a heap of this size.
+    /// The size of the smallest buddy block, in bytes, for a memory type in a heap of this size.
     /// It is public for the allocator.
     pub fn minimal_size(&self, heap: u64) -> u64
         ensures is { result ≡ minimal_size self.now heap }
@@ -103,7 +103,7 @@ impl Config {
         next_power_of_two(self.minimal_buddy_size.min(heap / 1024))
     }
 
-    /// The least size of a first buddy chunk, in bytes, for a memory type in a heap of this size.
+    /// The least size of the first buddy chunk, in bytes, for a memory type in a heap of this size.
     /// It is public for the allocator.
     pub fn initial_size(&self, heap: u64) -> u64
         ensures is { result ≡ initial_size self.now heap }
@@ -112,7 +112,7 @@ impl Config {
         next_power_of_two(self.initial_buddy_dedicated_size.min(heap / 32))
     }
 
-    /// From which size on a transient request gets an object of its own, in bytes.
+    /// The size from which a transient request gets an object of its own, in bytes.
     /// It is public for the allocator.
     pub fn transient_threshold(&self) -> u64
         ensures { result ≡ transient_threshold self.now }
@@ -121,7 +121,7 @@ impl Config {
             .max(self.dedicated_threshold)
     }
 
-    /// The least size of a first free-list chunk, in bytes, for a memory type with this atom in a heap of this size.
+    /// The least size of the first free-list chunk, in bytes, for a memory type with this atom in a heap of this size.
     /// It is public for the allocator.
     pub fn starting_size(&self, heap: u64, atom: u64) -> u64
         requires { 0 < atom }
@@ -130,7 +130,7 @@ impl Config {
         cut(heap, atom, self.starting_free_list_chunk)
     }
 
-    /// The size of a largest free-list chunk, in bytes, for a memory type with this atom in a heap of this size.
+    /// The size of the largest free-list chunk, in bytes, for a memory type with this atom in a heap of this size.
     /// It is public for the allocator.
     pub fn final_size(&self, heap: u64, atom: u64) -> u64
         requires { 0 < atom }
@@ -144,7 +144,7 @@ impl Config {
     }
 }
 
-/// A size cut at a 32nd part of the heap, in whole atoms, and one atom at least.
+/// A size in whole atoms: at most the 32nd part of the heap, and at least one atom.
 fn cut(heap: u64, atom: u64, size: u64) -> u64
     requires { 0 < atom }
     ensures { result ≡ cut heap atom size }

@@ -7,28 +7,28 @@ use gpu_alloc_types::{DeviceMapError, OutOfMemory};
 use std::error::Error;
 use std::fmt;
 
-/// Why an allocation is refused. What the allocator holds is then as it was.
+/// Why an allocation is refused. The allocator then holds what it held before.
 #[derive(Clone, Copy, Debug, PartialEq, Eq, Hash)]
 pub enum AllocationError {
-    /// The size is over the limit that `new` was given, no heap that serves the request is large enough for it, a
-    /// shared object for it would have 2^64 bytes or more, or the device's memory is exhausted. In the last case to
-    /// give memory of the same heap back may help.
+    /// The size is over the limit that `new` was given, or no heap that serves the request is large enough for it. Or a
+    /// shared object for it would have 2^64 bytes or more, or the device's memory is exhausted. In the last case,
+    /// freeing memory of the same heap may help.
     OutOfDeviceMemory,
 
-    /// The host's memory is exhausted, for the device or for the allocator itself, or a new shared object could not be
-    /// mapped. To give memory of the host back may help.
+    /// Host memory is exhausted, for the device or for the allocator itself, or a new shared object could not be
+    /// mapped. Freeing host memory may help.
     OutOfHostMemory,
 
     /// None of the memory types that the request allows serves its usage.
     NoCompatibleMemoryTypes,
 
-    /// As many memory objects are held as the device allows. To give objects back may help, those of dedicated blocks
-    /// first. Where the heaps are far from exhausted, a [`Config`](crate::Config) with larger shared objects helps. (A
-    /// free list that made 2^64 - 1 chunks answers so too.)
+    /// As many memory objects are held as the device allows. Freeing blocks may help, dedicated ones first. Where the
+    /// heaps are far from exhausted, a [`Config`](crate::Config) with larger shared objects helps. (A free list that
+    /// has made 2^64 - 1 chunks gives this error too.)
     TooManyObjects,
 }
 
-/// One line with no full stop, fixed for each variant.
+/// One line without a full stop, fixed for each variant.
 impl fmt::Display for AllocationError {
     ghost output = { λ e. Some (allocation_text e) };
 
@@ -49,7 +49,7 @@ impl fmt::Display for AllocationError {
 
 impl Error for AllocationError {}
 
-/// A device's refusal becomes the allocation's, by the same name.
+/// A device's refusal becomes the allocation error of the same name.
 impl From<OutOfMemory> for AllocationError {
     ghost from_gives = { λ cause e. e ≡ like_memory cause };
 
@@ -61,29 +61,29 @@ impl From<OutOfMemory> for AllocationError {
     }
 }
 
-/// Why a mapping is refused. A block that was not mapped is then still not mapped, and a device that refused to map is
-/// asked nothing further.
+/// Why a mapping is refused. A block that was not mapped stays unmapped, and after a device's refusal the device is not
+/// called again.
 #[derive(Clone, Copy, Debug, PartialEq, Eq, Hash)]
 pub enum MapError {
-    /// The device's memory is exhausted. To give memory of the same heap back may help.
+    /// The device's memory is exhausted. Freeing memory of the same heap may help.
     OutOfDeviceMemory,
 
-    /// The host's memory is exhausted. To give memory of the host back may help.
+    /// Host memory is exhausted. Freeing host memory may help.
     OutOfHostMemory,
 
-    /// The host doesn't see the block's memory type; the device is asked nothing. A request whose block is to be mapped
+    /// The block's memory type is not host-visible; the device is not called. A request whose block is to be mapped
     /// should have `HOST_ACCESS` of [`UsageFlags`](crate::UsageFlags) in its usage.
     NonHostVisible,
 
-    /// The device failed to map for a reason of its own, as where it finds no range of addresses that is large enough
-    /// (Vulkan's `VK_ERROR_MEMORY_MAP_FAILED`).
+    /// The device failed to map for a reason of its own, for instance because it finds no address range that is large
+    /// enough (Vulkan's `VK_ERROR_MEMORY_MAP_FAILED`).
     MapFailed,
 
-    /// The block is mapped already, and stays so; the device is asked nothing. To unmap it first helps.
+    /// The block is mapped already, and stays so; the device is not called. Unmap it first.
     AlreadyMapped,
 }
 
-/// One line with no full stop, fixed for each variant.
+/// One line without a full stop, fixed for each variant.
 impl fmt::Display for MapError {
     ghost output = { λ e. Some (map_text e) };
 
@@ -100,7 +100,7 @@ impl fmt::Display for MapError {
 
 impl Error for MapError {}
 
-/// A device's refusal to map becomes the mapping's, by the same name.
+/// A device's refusal to map becomes the mapping error of the same name.
 impl From<DeviceMapError> for MapError {
     ghost from_gives = { λ cause e. e ≡ map_like_device cause };
 
@@ -113,7 +113,7 @@ impl From<DeviceMapError> for MapError {
     }
 }
 
-/// A refusal of memory becomes the mapping's, by the same name.
+/// A refusal of memory becomes the mapping error of the same name.
 impl From<OutOfMemory> for MapError {
     ghost from_gives = { λ cause e. e ≡ map_like_memory cause };
 

@@ -1,12 +1,12 @@
-//! Blocks of a free list. What takes one apart is no method of theirs: `gpu_alloc`, from which users have the type, does
-//! not give it on.
+//! Blocks of a free list. The function that takes one apart is not a method: `gpu_alloc`, where users find the type,
+//! does not export it.
 
 ghost use Rattle.std.specs.Prelude.{◌≡◌};
 
 use gpu_alloc_types::MemoryObject;
 use std::marker::Model;
 
-/// What a live block of a free list is known by, as [`into_parts`] and [`slot_of`] tell it.
+/// What identifies a live block of a free list, as [`into_parts`] and [`slot_of`] return it.
 #[derive(Clone, Copy, PartialEq, Eq)]
 pub struct Slot {
     /// The name of its chunk's object.
@@ -22,14 +22,14 @@ pub struct Slot {
     pub size: u64,
 }
 
-/// A block of a free list: the tail of what was a free run of one of its chunks. It cannot be let go, only given back
-/// to its list.
+/// A block of a free list: the tail of what was a free run of one of its chunks. It cannot be dropped, only returned to
+/// its list.
 pub struct FreeListBlock<M: MemoryObject> {
     memory: M,
     chunk: u64,
     offset: u64,
     size: u64,
-    // Where its list keeps it. The list confirms it, so that contracts see none.
+    // The key under which its list keeps it. The list confirms it, so contracts need not mention it.
     key: usize,
 }
 
@@ -45,9 +45,9 @@ impl<M: MemoryObject> Model for FreeListBlock<M> {
 }
 
 impl<M: MemoryObject> FreeListBlock<M> {
-    /// The block with this handle of its chunk's object, which its list keeps under this key. With any other key the list
-    /// finds it too, in a time that grows with the number of its live blocks. It is public for the crates above: users
-    /// get their blocks from a free list.
+    /// A block with this handle of its chunk's object, which its list keeps under this key. With another key the list
+    /// still finds it, in time linear in its live blocks. It is public for the crates above: users get their blocks
+    /// from a free list.
     #[inline(always)]
     pub fn new(memory: M, slot: Slot, key: usize) -> Self
         requires { slot.object ≡ M.object memory }
@@ -95,7 +95,7 @@ impl<M: MemoryObject> FreeListBlock<M> {
     }
 }
 
-/// What a block is known by.
+/// What identifies a block.
 #[inline(always)]
 pub fn slot_of<M: MemoryObject>(block: &FreeListBlock<M>) -> Slot
     ensures { result ≡ block.now }
@@ -114,7 +114,7 @@ pub fn key_of<M: MemoryObject>(block: &FreeListBlock<M>) -> usize {
     block.key
 }
 
-/// Takes a block apart, for its handle, what it was known by, and the key under which its list keeps it.
+/// Takes a block apart, into its handle, what identifies it, and the key under which its list keeps it.
 #[inline(always)]
 pub fn into_parts<M: MemoryObject>(block: FreeListBlock<M>) -> (M, Slot, usize)
     ensures handle { M.object result.0 ≡ block.object }

@@ -1,4 +1,4 @@
-//! A heap's size, how much of it may be asked for, and the running ledger of what is held of it.
+//! A heap's size, its limit, and the running ledger of what is held of it.
 
 ghost use Rattle.std.specs.Prelude.{◌≡◌, ◌+◌, ◌-◌, ◌≤◌, ◌<◌, ◌↔◌, ◌^◌, IsTrue, min};
 ghost use Rattle.gpu_alloc_base.specs.Heap.{unused};
@@ -12,7 +12,7 @@ pub struct Heap {
 }
 
 impl Heap {
-    /// A heap of `size` bytes of which nothing is held. All of it may be asked for.
+    /// A heap of `size` bytes of which nothing is held. Its limit is its size.
     pub fn new(size: u64) -> Heap
         ensures { result ≡ unused size }
     {
@@ -31,8 +31,8 @@ impl Heap {
         self.size
     }
 
-    /// How many bytes of it may be held in all before no more are asked for: at most its size, and its size where no
-    /// limit is set.
+    /// The limit on the bytes held of it, above which no more are asked for. It is at most the heap's size, and equals
+    /// it where no limit is set.
     #[inline(always)]
     pub fn limit(&self) -> u64
         ensures { result ≡ self.now.limit }
@@ -40,15 +40,15 @@ impl Heap {
         self.limit
     }
 
-    /// From now on no more than `limit` bytes of it are asked for. A limit at or over its size is none. What is held
-    /// stays, more than the limit too.
+    /// Sets the limit, in bytes, for what is asked for from now on. A value at or above the heap's size removes the
+    /// limit. What is held stays, even above the limit.
     pub fn set_limit(&mut self, limit: u64)
         ensures { self.new ≡ record self.old { limit = min limit self.old.size } }
     {
         self.limit = limit.min(self.size);
     }
 
-    /// How many bytes are held of it. They may be more than its size: imports are counted and never refused.
+    /// How many bytes of it are held. This may exceed its size: imports are counted and never refused.
     #[inline(always)]
     pub fn used(&self) -> u128
         ensures { result ≡ self.now.used }
@@ -56,7 +56,7 @@ impl Heap {
         self.used
     }
 
-    /// How many bytes may still be asked of it: its limit less what is held, 0 where as much is held or more.
+    /// How many bytes may still be asked of it: its limit less what is held, or 0 where that is negative.
     #[inline(always)]
     pub fn budget(&self) -> u64
         ensures { result ≡ self.now.limit - self.now.used }
@@ -64,7 +64,7 @@ impl Heap {
         u128::from(self.limit).saturating_sub(self.used) as u64
     }
 
-    /// Whether `size` bytes more would leave no more held than the limit: exactly as many is allowed.
+    /// Whether `size` bytes more would stay within the limit. Reaching it exactly is allowed.
     #[inline(always)]
     pub fn fits(&self, size: u64) -> bool
         ensures { IsTrue result ↔ self.now.used + size ≤ self.now.limit }
@@ -72,8 +72,8 @@ impl Heap {
         self.used <= u128::from(self.limit) && size <= self.limit - self.used as u64
     }
 
-    /// Counts `size` bytes more as held. They may be more than the limit ([`fits`](Heap::fits) tells), and have to
-    /// stay below 2^128 in all.
+    /// Counts `size` bytes more as held. The total may exceed the limit (see [`fits`](Heap::fits)) and must stay below
+    /// 2^128.
     #[inline(always)]
     pub fn alloc(&mut self, size: u64)
         requires { self.old.used + size < 2 ^ 128 }
@@ -82,7 +82,7 @@ impl Heap {
         self.used += u128::from(size);
     }
 
-    /// Counts `size` bytes of those that are held as given back. No more than are held may be.
+    /// Counts `size` of the held bytes as released. No more may be released than are held.
     #[inline(always)]
     pub fn dealloc(&mut self, size: u64)
         requires { size ≤ self.old.used }

@@ -1,5 +1,5 @@
-//! What the buddy allocator and the free list stand on: sizes, ledgers and refusals, the plain values of blocks and of
-//! free space, and new chunks of a device. Users find what is theirs of it in `gpu_alloc`.
+//! What the buddy allocator and the free list are built on: sizes, ledgers and errors, the plain values of blocks and
+//! of free space, and new chunks of a device. `gpu_alloc` exports what users need of it.
 #![tactic(auto)]
 
 pub mod booking;

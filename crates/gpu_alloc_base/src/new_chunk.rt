@@ -1,5 +1,5 @@
-//! New shared chunks: an object asked of the device, and mapped whole where the host sees it. It is public for the
-//! crates above.
+//! New shared chunks: an object allocated from the device, and mapped whole where it is host-visible. It is public for
+//! the crates above.
 
 ghost use Rattle.std.specs.Prelude.{◌≡◌};
 ghost use Rattle.gpu_alloc_types.specs.Flags.{allocation_bits};
@@ -23,9 +23,9 @@ fn refusal_of(cause: DeviceMapError) -> AllocationError
     }
 }
 
-/// A new object, mapped whole where `visible` says that the host sees its memory type. An object whose mapping is
-/// refused is given back, so that after a refusal the device holds what it held: `OutOfDeviceMemory` where the device
-/// answered so to the question or to the mapping, and else `OutOfHostMemory`.
+/// A new object, mapped whole if `visible`, which says that its memory type is host-visible. An object whose mapping is
+/// refused is released, so after any refusal the device holds what it held. The error is `OutOfDeviceMemory` where the
+/// device gave that answer to the allocation or to the mapping, and `OutOfHostMemory` otherwise.
 pub fn new_chunk<M: MemoryObject, D: ObjectDevice<M>>(
     device: &mut D,
     size: u64,
@@ -59,8 +59,8 @@ pub fn new_chunk<M: MemoryObject, D: ObjectDevice<M>>(
     }
 }
 
-/// A new object as [`new_chunk`] makes it, with a second handle of it. Where there is no host memory for that handle
-/// the object is given back, and it is `OutOfHostMemory`.
+/// A new object as [`new_chunk`] makes it, with a second handle of it. Where there is no host memory for that handle,
+/// the object is released and the error is `OutOfHostMemory`.
 pub fn new_chunk_with_handle<M: MemoryObject, D: ObjectDevice<M>>(
     device: &mut D,
     size: u64,

@@ -8,8 +8,8 @@ ghost use Rattle.gpu_alloc_types.specs.declared.types.FreeRange.{FreeRange as Ra
 use gpu_alloc_types::FreeRange;
 use std::alloc::Allocator;
 
-/// Puts free ranges in order: by the name of their object, then by start. No two of them may start at one byte of one
-/// object. It takes no memory.
+/// Sorts free ranges by the name of their object, then by start. No two of them may start at the same byte of one
+/// object. It allocates nothing.
 pub fn put_in_order<A: Allocator>(ranges: &mut Vec<FreeRange, A>)
     requires { IsDistinct same_start ranges.old.items }
     ensures same { (r : Range) → Contains ranges.new.items r ↔ Contains ranges.old.items r }

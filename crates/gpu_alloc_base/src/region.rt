@@ -1,4 +1,4 @@
-//! Free runs of a list, one by one.
+//! The free runs of a list.
 
 ghost use Rattle.std.specs.Prelude.{◌≡◌};
 ghost use Rattle.gpu_alloc_base.specs.Slots.{region_cmp};
@@ -7,7 +7,7 @@ use crate::FreeListBlock;
 use gpu_alloc_types::MemoryObject;
 use std::cmp::Ordering;
 
-/// A free run: the bytes of a chunk from `start` to before `end`, all free, with none beside them that is.
+/// A free run: the bytes of a chunk from `start` up to `end`, all free, with no free byte next to either end.
 #[derive(Clone, Copy, Debug, PartialEq, Eq)]
 pub struct FreeListRegion {
     /// The number of the chunk.
@@ -21,9 +21,8 @@ pub struct FreeListRegion {
 }
 
 impl FreeListRegion {
-    /// `Less` where the run comes before the block, `Greater` where it comes after: by chunk number, and then by where
-    /// each starts (the original crate's order). A run and a live block of one list share no byte, so they are never
-    /// equal.
+    /// `Less` where the run comes before the block, `Greater` where it comes after: by chunk number, and then by start
+    /// (the original crate's order). A run and a live block of one list share no byte, so they are never equal.
     pub fn cmp<M: MemoryObject>(&self, block: &FreeListBlock<M>) -> Ordering
         ensures { result ≡ region_cmp self.now block.now }
     {

@@ -1,4 +1,4 @@
-//! Counters of steps, which take no bytes and do nothing at run time.
+//! Counters of steps. They take no bytes and do nothing at run time.
 
 ghost use Rattle.std.specs.Prelude.{◌≡◌, ◌+◌};
 ghost use Rattle.gpu_alloc_base.specs.Steps.{Begins};
@@ -6,8 +6,8 @@ ghost use Rattle.gpu_alloc_base.specs.Steps.{Begins};
 use std::marker::Model;
 use std::sync::ledger::{Blank, Book, Ledger, Share};
 
-/// How many steps of one kind were made, for contracts alone: the counter has no bytes. It counts in a ledger of counts
-/// of its own, which is no heap's.
+/// How many steps of one kind were made, for contracts only: the counter takes no bytes. It counts in a ledger of its
+/// own, apart from the heaps' ledgers.
 #[derive(Drop)]
 pub struct Steps<L: Ledger> {
     book: Book<L>,
@@ -25,8 +25,8 @@ impl<L: Ledger> Model for Steps<L> {
 }
 
 impl<L: Ledger> Steps<L> {
-    /// A counter of no steps, in the ledger that the blank begins: its name and its parts, at least one, are the
-    /// ledger's. Whoever counts nothing makes one of `Blank::new(1)`, and picks the ledger so.
+    /// A counter of no steps, in the ledger that the blank begins: it has that ledger's name and its parts, at least
+    /// one. A caller that counts nothing passes one of `Blank::new(1)`, which picks the ledger.
     pub fn new(blank: Blank) -> Self
         requires begins { Begins blank L.name L.parts }
         ensures { result ≡ 0 }
@@ -35,8 +35,7 @@ impl<L: Ledger> Steps<L> {
         Steps { book, share }
     }
 
-    /// Counts one step. It is public for what counts: a caller hands its counter in, and leaves the counting to the
-    /// call.
+    /// Counts one step. It is public for the calls that count: a caller passes its counter and the call ticks it.
     pub fn tick(&mut self)
         ensures { self.new ≡ self.old + 1 }
     {

@@ -12,17 +12,17 @@ use Rattle.gpu_alloc_block.specs.declared.block.Kind.{Kind}
 use Rattle.gpu_alloc_block.specs.declared.block.Kind.TheVariants.{Dedicated, Imported, BuddyChunk, FreeListChunk, FitChunk}
 use Rattle.gpu_alloc_block.specs.State.{HeldObject, Span, State, Block, IsLive, IsOwned, is_shared}
 
--- a shared object is mapped whole where the host sees it
+-- a shared object is mapped whole where it is host-visible
 abbrev pub IsMappedWhole : Properties → Object → Type 0
 IsMappedWhole p o = is_host_visible p o.memory_type ≡ true → o.mapped ≡ Some (0, o.size)
 
--- an import lies inside its object, and where it has to be flushed ends on the atom or where the object ends
+-- an import lies inside its object. Where it must be flushed, it ends on the atom or at the object's end
 pub record IsInside (p : Properties) (span : Span) (o : Object) : Type 0 where
   pub within : span.offset + span.size ≤ o.size
   pub finish : is_non_coherent p o.memory_type ≡ true → ((span.offset + span.size) % p.non_coherent_atom_size ≡ 0)
       ⊎ (span.offset + span.size ≡ o.size)
 
--- what is counted of an object on the device, by what it is held for
+-- what the allocator counts of an object is so on the device, by what the object is held for
 abbrev pub IsCounted : Kind → State → ℕ → ℕ → Object → Type 0
 IsCounted Dedicated s name counted o = o.size ≡ counted
 IsCounted Imported s name counted o = (span : Span) → IsLive s span → span.object ≡ name → IsInside s.properties span o
@@ -41,7 +41,7 @@ pub record Agrees (s : State) (p : Properties) (objects : ℕ → Option Object)
 
 -- The same of one block, whichever allocator it is of.
 
--- a mapping is of some bytes inside the block
+-- a mapping is some bytes inside the block
 pub record IsOfBlock (b : Block) (m : Mapping) : Type 0 where
   pub nonempty : 0 < m.len
   pub from : b.offset ≤ m.start
@@ -53,19 +53,19 @@ pub record IsBeneath (p : Properties) (b : Block) (o : Object) : Type 0 where
   pub inside : b.offset + b.size ≤ o.size
   -- a dedicated block is its whole object
   pub whole : b.kind ≡ Dedicated → (b.offset ≡ 0) × (b.size ≡ o.size)
-  -- a shared object is mapped whole where the host sees it, and a block's own exactly where the block is
+  -- a shared object is mapped whole where it is host-visible, and a block's own exactly where the block is mapped
   pub shared : is_shared b.kind ≡ true → IsMappedWhole p o
   pub own : is_shared b.kind ≡ false → o.mapped ≡ own_mapping b
-  -- the block of a shared object starts and ends on the atom, and each ends on it or where the object ends
+  -- a block of a shared object starts and ends on the atom; any other ends on it or at its object's end
   pub atoms : is_shared b.kind ≡ true → (b.offset % b.atom ≡ 0) × ((b.offset + b.size) % b.atom ≡ 0)
   pub finish : ((b.offset + b.size) % b.atom ≡ 0) ⊎ (b.offset + b.size ≡ o.size)
 
--- The block has the property bits and the atom of its memory type, and the device holds its object so.
+-- The block has the property bits and the atom of its memory type, and the device holds its object accordingly.
 pub record IsHeldFor (b : Block) (p : Properties) (objects : ℕ → Option Object) : Type 0 where
   pub props : b.props ≡ props_at p b.memory_type
   pub atom : b.atom ≡ atom_of p b.memory_type
   pub mapping : IfSome b.mapping (IsOfBlock b)
-  -- what has a mapping is seen by the host
+  -- only host-visible memory is mapped
   pub visible : IsSome b.mapping → has_bit b.props host_visible ≡ true
   pub there : HeldWith objects b.object (IsBeneath p b)
 
@@ -73,15 +73,15 @@ pub record IsHeldFor (b : Block) (p : Properties) (objects : ℕ → Option Obje
 unfoldable pub BlockAgrees : Block → Properties → (ℕ → Option Object) → Type 0
 BlockAgrees b p objects = IsHeldFor b p objects
 
--- A range of a block's object that ends inside the block and begins inside it: an import's alone may begin before it, by
--- less than one atom.
+-- A range of a block's object that lies inside the block. Only an import's may begin before the block, by less than one
+-- atom.
 pub record LiesInBlock (b : Block) (r : Range) : Type 0 where
   pub start : b.kind ≢ Imported → b.offset ≤ r.offset
   pub near : b.offset < r.offset + b.atom
   pub finish : r.offset + r.size ≤ b.offset + b.size
 
--- What a call of a block keeps, from the one device to the other: the agreement of each allocator that owns the block
--- or does not hold its object, and of each block of another object; of all of them where the object is shared.
+-- What a block's call keeps from one device state to the next: the agreement of each allocator that owns the block or
+-- does not hold its object, and of each block of another object. Where the object is shared, it keeps all agreement.
 pub record KeepsAgreement (b : Block) (p : Properties) (old : ℕ → Option Object) (q : Properties)
     (new : ℕ → Option Object) : Type 0 where
   pub owner : (s : State) → IsOwned s b → Agrees s p old → Agrees s q new
@@ -92,12 +92,12 @@ pub record KeepsAgreement (b : Block) (p : Properties) (old : ℕ → Option Obj
   pub shared_owner : (s : State) → is_shared b.kind ≡ true → Agrees s p old → Agrees s q new
   pub shared_others : (c : Block) → is_shared b.kind ≡ true → BlockAgrees c p old → BlockAgrees c q new
 
--- What a call of an allocator keeps, from the one device to the other: the agreement of each block that stays owned.
+-- What an allocator's call keeps from one device state to the next: the agreement of each block that stays owned.
 unfoldable pub KeepsBlocks : State → Properties → (ℕ → Option Object) → State → Properties → (ℕ → Option Object) → Type 0
 KeepsBlocks s p old after q new =
     (b : Block) → IsOwned s b → IsOwned after b → BlockAgrees b p old → BlockAgrees b q new
 
--- That is what it keeps: whoever has the one fact may have the other.
+-- A call keeps this exactly where each block stays in agreement: either fact gives the other.
 pub record KeptBlocksAgree : Type 0 where
   pub each : (s after : State) (b : Block) (p q : Properties) (old new : ℕ → Option Object)
       → KeepsBlocks s p old after q new → IsOwned s b → IsOwned after b → BlockAgrees b p old → BlockAgrees b q new

@@ -1,4 +1,4 @@
--- A device's own byte calls, made by a caller who has mapped a block.
+-- A device's own byte calls, made by a caller that has mapped a block.
 use Rattle.std.specs.Prelude.{◌≡◌, ℕ, ◌+◌, ◌^◌, ◌<◌, ◌≤◌, Option, Some}
 use Rattle.gpu_alloc_types.specs.Device.{Object, Event, HeldWith, IsInMapped}
 use Rattle.gpu_alloc_types.specs.Device.Event.{Allocated, Deallocated, Mapped, Unmapped, Flushed, Invalidated}
@@ -24,7 +24,7 @@ pub record MayBeMoved (b : Block) : Type 0 where
   pub inside : (p : Properties) (objects : ℕ → Option Object) (m : Mapping) (place len : ℕ)
       → BlockAgrees b p objects → b.mapping ≡ Some m → 0 < len → m.start ≤ place → place + len ≤ m.start + m.len
       → HeldWith objects b.object (IsInMapped place len)
-  -- the mapping ends at a number of 64 bits
+  -- the mapping ends at a 64-bit number
   pub finish : (p : Properties) (objects : ℕ → Option Object) (m : Mapping) → BlockAgrees b p objects
       → b.mapping ≡ Some m → m.start + m.len < 2 ^ 64
 

@@ -1,4 +1,4 @@
--- What writing and reading the bytes of a block asks of the device, and what becomes of the bytes.
+-- What writing and reading a block's bytes asks of the device, and how the bytes change.
 use Rattle.std.specs.Prelude.{◌≡◌, ◌⊎◌, ℕ, ◌+◌, ◌<◌, ◌==◌, true, cond, List, [], ◌∷◌, ◌++◌, length, slice_get, None}
 use Rattle.std.specs.Prelude.{Option, Result, Ok, Err}
 use Rattle.gpu_alloc_types.specs.Device.{Object, Event, Range, Changes, IsWritten, IsCopied, IsPartlyCopied}
@@ -15,7 +15,7 @@ use Rattle.gpu_alloc_block.specs.State.{Block, is_shared}
 
 -- What is asked.
 
--- between the mapping of a range and its end, where the object is the block's own
+-- between mapping a range and unmapping it, where the object is the block's own
 abbrev pub around : Block → Range → List Event → List Event
 around b r es = cond (is_shared b.kind) es (Mapped r (Ok tt) ∷ es ++ Unmapped b.object ∷ [])
 
@@ -51,7 +51,7 @@ AsksToRead b offset bytes es =
     (refusal b ≡ None)
     × (es ≡ where_some (length bytes) (around b (rounded b offset (length bytes)) (getting b offset bytes)))
 
--- The device refused the flush or the invalidate, for this cause, after what `failing` says was asked.
+-- The device refused the flush or the invalidate, for this cause, after the calls that `failing` names.
 pub record IsCopyRefused (b : Block) (r : Range) (failing : OutOfMemory → List Event) (e : MapError) (es : List Event)
     : Type 0 where
   pub able : refusal b ≡ None
@@ -60,16 +60,16 @@ pub record IsCopyRefused (b : Block) (r : Range) (failing : OutOfMemory → List
   pub like : e ≡ map_like_memory cause
   pub asked : es ≡ around b r (failing cause)
 
--- what is asked until the flush is refused, and until the invalidate is
+-- what is asked until the flush or the invalidate is refused
 abbrev pub flush_fails : Block → ℕ → List ℕ → OutOfMemory → List Event
 flush_fails b offset bytes cause = putting b offset bytes (Err cause)
 
 abbrev pub invalidate_fails : Range → OutOfMemory → List Event
 invalidate_fails r cause = Invalidated (r ∷ []) (Err cause) ∷ []
 
--- What becomes of the bytes of the block's object. Of the object nothing else changes.
+-- What becomes of the bytes of the block's object. Nothing else of the object changes.
 
--- an object with other bytes, and all else as it was
+-- an object with other bytes, and otherwise unchanged
 pub record HasOnlyOtherBytes (o new : Object) : Type 0 where
   pub same_type : new.memory_type ≡ o.memory_type
   pub same_size : new.size ≡ o.size
@@ -82,14 +82,14 @@ pub record IsWrittenThrough (b : Block) (offset : ℕ) (bytes : List ℕ) (o new
   pub device : IsCopied (rounded b offset (length bytes)).offset (rounded b offset (length bytes)).size new.host_bytes
       o.device_bytes new.device_bytes
 
--- The host's bytes are the data, and each of the device's bytes of the rounded range is old or the host's.
+-- The host's bytes are the data, and each of the device's bytes of the rounded range is its old value or the host's.
 pub record IsPartlyWritten (b : Block) (offset : ℕ) (bytes : List ℕ) (o new : Object) : Type 0 where
   pub rest : HasOnlyOtherBytes o new
   pub host : IsWritten (b.offset + offset) bytes o.host_bytes new.host_bytes
   pub device : IsPartlyCopied (rounded b offset (length bytes)).offset (rounded b offset (length bytes)).size
       new.host_bytes o.device_bytes new.device_bytes
 
--- The device's bytes of the rounded range are the host's now, and the bytes that are read are those of the device.
+-- The host's bytes of the rounded range are the device's now, and the bytes that are read are the device's.
 pub record IsReadThrough (b : Block) (offset : ℕ) (bytes : List ℕ) (o new : Object) : Type 0 where
   pub rest : HasOnlyOtherBytes o new
   pub device : new.device_bytes ≡ o.device_bytes
@@ -97,47 +97,47 @@ pub record IsReadThrough (b : Block) (offset : ℕ) (bytes : List ℕ) (o new : 
       o.host_bytes new.host_bytes
   pub told : (k : ℕ) → k < length bytes → slice_get bytes k ≡ slice_get o.device_bytes (b.offset + offset + k)
 
--- Each of the host's bytes of the rounded range is old or the device's.
+-- Each of the host's bytes of the rounded range is its old value or the device's.
 pub record IsPartlyRead (r : Range) (o new : Object) : Type 0 where
   pub rest : HasOnlyOtherBytes o new
   pub device : new.device_bytes ≡ o.device_bytes
   pub host : IsPartlyCopied r.offset r.size o.device_bytes o.host_bytes new.host_bytes
 
--- the block's object is changed so where there are bytes to move, and else nothing is
+-- the block's object changes so where there are bytes to move; otherwise nothing does
 pub record ChangesBytes (b : Block) (len : ℕ) (P : Object → Object → Type 0) (old new : ℕ → Option Object) : Type 0 where
   pub some : 0 < len → Changes P old b.object new
   pub none : len ≡ 0 → new ≡ old
 
--- How a refused write ends: a refused mapping leaves every byte, and a refused flush the data with the host.
+-- How a refused write ends: a refused mapping keeps every byte; a refused flush leaves the data with the host.
 abbrev pub EndsWrite : Block → ℕ → List ℕ → MapError → (old new : ℕ → Option Object) → List Event → Type 0
 EndsWrite b offset bytes e old new es =
     (IsMapRefused b (rounded b offset (length bytes)) e es × (new ≡ old))
     ⊎ (IsCopyRefused b (rounded b offset (length bytes)) (flush_fails b offset bytes) e es
     × Changes (IsPartlyWritten b offset bytes) old b.object new)
 
--- How a refused read ends: a refused mapping leaves every byte, and a refused invalidate each byte of the device.
+-- How a refused read ends: a refused mapping keeps every byte; a refused invalidate keeps each byte of the device.
 abbrev pub EndsRead : Block → (offset len : ℕ) → MapError → (old new : ℕ → Option Object) → List Event → Type 0
 EndsRead b offset len e old new es =
     (IsMapRefused b (rounded b offset len) e es × (new ≡ old))
     ⊎ (IsCopyRefused b (rounded b offset len) (invalidate_fails (rounded b offset len)) e es
     × Changes (IsPartlyRead (rounded b offset len)) old b.object new)
 
--- Whatever a write's end: of the host's bytes only the data's own range changes, of the device's only the rounded one.
+-- However a write ends: of the host's bytes only the data's own range changes, of the device's only the rounded range.
 pub record WritesWithin (b : Block) (offset len : ℕ) (o new : Object) : Type 0 where
   pub rest : HasOnlyOtherBytes o new
   pub host : (k : ℕ) → IsOutside (b.offset + offset) len k → slice_get new.host_bytes k ≡ slice_get o.host_bytes k
   pub device : (k : ℕ) → IsOutside (rounded b offset len).offset (rounded b offset len).size k
       → slice_get new.device_bytes k ≡ slice_get o.device_bytes k
 
--- Whatever a read's end: of the host's bytes only the rounded range changes, and none of the device's.
+-- However a read ends: of the host's bytes only the rounded range changes, and none of the device's do.
 pub record ReadsWithin (b : Block) (offset len : ℕ) (o new : Object) : Type 0 where
   pub rest : HasOnlyOtherBytes o new
   pub host : (k : ℕ) → IsOutside (rounded b offset len).offset (rounded b offset len).size k
       → slice_get new.host_bytes k ≡ slice_get o.host_bytes k
   pub device : new.device_bytes ≡ o.device_bytes
 
--- While a call moves bytes: the host sees the object, which has the block's memory type, and a range of it is mapped
--- that may be flushed.
+-- While a call moves bytes: the object is host-visible, has the block's memory type, and has a range mapped that may be
+-- flushed.
 pub record IsOpen (p : Properties) (b : Block) (r : Range) (o : Object) : Type 0 where
   pub visible : has_bit b.props host_visible ≡ true
   pub props : b.props ≡ props_at p b.memory_type

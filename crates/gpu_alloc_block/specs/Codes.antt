@@ -1,4 +1,4 @@
--- How the values of blocks are stored, where contracts see them.
+-- How contracts see the values of blocks.
 use Rattle.std.specs.Prelude.{◌≡◌, ℕ, ◌==◌, cond, Option, refl}
 use Rattle.std.specs.Coded.{Coded, code_by, coded×, coded_ℕ, coded_option}
 use Rattle.gpu_alloc_block.specs.State.{Span, Block, span_of}

@@ -1,5 +1,5 @@
--- Blocks in hand, of a list by place, or of a slab or a map by key; and what a call leaves of them, of their bytes, and of
--- what is the caller's own on the device.
+-- Blocks in hand, in a list by place, or in a slab or a map by key. What a call leaves of them, of their bytes, and of
+-- what the caller itself has on the device.
 use Rattle.std.specs.Prelude.{◌≡◌, ◌≢◌, ℕ, List, [], ◌∷◌, ◌++◌, slice_get, Option, Some, None, cond, is_some}
 use Rattle.std.specs.FinMap as map
 use Rattle.gpu_alloc_types.specs.Device.{Object}
@@ -25,16 +25,17 @@ pub record ChangesAt (at new : ℕ → Option Block) (key : ℕ) (slot : Option 
   pub changed : new key ≡ slot
   pub others : (other : ℕ) → other ≢ key → new other ≡ at other
 
--- what the device has beside the allocator's objects
+-- what the device has apart from the allocator's objects
 unfoldable pub outside : State → (ℕ → Option Object) → ℕ → Option Object
 outside s objects name = cond (is_some (map.get s.held name)) None (objects name)
 
--- that is as it was
+-- that is unchanged
 abbrev pub IsSameOutside : State → (ℕ → Option Object) → State → (ℕ → Option Object) → Type 0
 IsSameOutside s old after new = (name : ℕ) → outside after new name ≡ outside s old name
 
--- What a call of a block leaves, which it may leave with another mapping: each byte of every other block, and what the
--- device has beside an allocator's objects. Blocks in hand stay so, with the block as it is now in its place.
+-- What a block's call keeps, though it may leave the block with another mapping: each byte of every other block, and
+-- what the device has apart from an allocator's objects. Blocks in hand stay so, with the block as it is now in its
+-- place.
 pub record KeepsInHand (b : Block) (p : Properties) (old : ℕ → Option Object) (now : Block) (q : Properties)
     (new : ℕ → Option Object) : Type 0 where
   pub bytes : (c : Block) → AreTwo b c → HasSameBytes c old new
@@ -45,7 +46,7 @@ pub record KeepsInHand (b : Block) (p : Properties) (old : ℕ → Option Object
   pub kept : (s : State) (at at_new : ℕ → Option Block) (key : ℕ) → AreKept s p old at → at key ≡ Some b
       → ChangesAt at at_new key (Some now) → AreKept s q new at_new
 
--- What a call of an allocator leaves that takes no block back.
+-- What an allocator's call keeps that takes no block.
 pub record LeavesInHand (s : State) (p : Properties) (old : ℕ → Option Object) (after : State) (q : Properties)
     (new : ℕ → Option Object) : Type 0 where
   pub bytes : (b : Block) → IsOwned s b → HasSameBytes b old new
@@ -60,8 +61,8 @@ pub record AddsInHand (s : State) (p : Properties) (old : ℕ → Option Object)
   pub kept : (at at_new : ℕ → Option Block) (key : ℕ) → AreKept s p old at → at key ≡ None
       → ChangesAt at at_new key (Some b) → AreKept after q new at_new
 
--- What a return leaves: each byte of every block that stays owned, and what the device has beside the allocator's
--- objects. Of the blocks in hand it takes one.
+-- What a return keeps: each byte of every block that stays owned, and what the device has apart from the allocator's
+-- objects. It removes one of the blocks in hand.
 pub record RemovesInHand (s : State) (p : Properties) (old : ℕ → Option Object) (b : Block) (after : State)
     (q : Properties) (new : ℕ → Option Object) : Type 0 where
   pub bytes : (c : Block) → IsOwned after c → HasSameBytes c old new
@@ -72,7 +73,7 @@ pub record RemovesInHand (s : State) (p : Properties) (old : ℕ → Option Obje
   pub kept : (at at_new : ℕ → Option Block) (key : ℕ) → AreKept s p old at → at key ≡ Some b
       → ChangesAt at at_new key None → AreKept after q new at_new
 
--- What is known of blocks in hand is known of the one at a place of their list: a list is a map from places.
+-- What is known of blocks in hand holds for the one at a place of their list: a list is a map from places.
 pub record ToldByPlace : Type 0 where
   pub owned_at : (s : State) (bs : List Block) (i : ℕ) (b : Block) → AreOwned s bs → slice_get bs i ≡ Some b → IsOwned s b
   pub ready_at : (p : Properties) (objects : ℕ → Option Object) (bs : List Block) (i : ℕ) (b : Block)

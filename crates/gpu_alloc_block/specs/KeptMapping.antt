@@ -1,10 +1,10 @@
--- What is mapped of a block, as two numbers tell it.
+-- A block's mapping, from the two numbers that keep it.
 use Rattle.std.specs.Prelude.{ℕ, ◌==◌, cond, Option, None, Some}
 use Rattle.std.specs.Coded.{Coded, coded_option}
 use Rattle.gpu_alloc_block.specs.Codes.{mapping_code}
 use Rattle.gpu_alloc_block.specs.declared.block.Mapping.{Mapping}
 
--- where it starts and how long it is, or nothing, whose length is 0
+-- where it starts and how long it is; with length 0 there is none
 abbrev pub mapping_in : (start len : ℕ) → Option Mapping
 mapping_in start len = cond (len == 0) None (Some (record { start = start; len = len }))
 

@@ -1,4 +1,4 @@
--- Blocks in hand under keys of the caller's own, as a map's list of pairs has them.
+-- Blocks in hand under the caller's own keys, as a map's list of pairs has them.
 use Rattle.std.specs.Prelude.{◌≡◌, ℕ, List, [], ◌∷◌, ◌++◌, slice_get, Option, Some, None, cond, nat_eq}
 use Rattle.std.specs.List.{IsDistinct}
 use Rattle.std.specs.Map.{keys_of, lookup}
@@ -11,25 +11,25 @@ use Rattle.gpu_alloc_block.specs.State.{State, Block}
 abbrev pub under : List (ℕ × Block) → ℕ → Option Block
 under entries key = lookup (nat_eq key) entries
 
--- under one key is this block now, or none, and under every other what was there: a map's `Updates`
+-- one key has this block now, or none, and every other key what it had: a map's `Updates`
 abbrev pub IsSetUnder : List (ℕ × Block) → ℕ → Option Block → List (ℕ × Block) → Type 0
 IsSetUnder entries key slot new = (other : ℕ) → under new other ≡ cond (nat_eq key other) slot (under entries other)
 
 -- What a map of blocks keeps as they come and go.
 pub record ComeAndGoUnderKeys : Type 0 where
-  -- a block that was granted, under a key that had none
+  -- a granted block comes, under a key that had none
   pub comes : (s after : State) (p q : Properties) (old new : ℕ → Option Object) (entries more : List (ℕ × Block))
       (key : ℕ) (b : Block) → AreKept s p old (under entries) → AddsInHand s p old after q new b
       → under entries key ≡ None → IsSetUnder entries key (Some b) more → AreKept after q new (under more)
-  -- one that was returned
+  -- a returned block goes
   pub goes : (s after : State) (p q : Properties) (old new : ℕ → Option Object) (entries fewer : List (ℕ × Block))
       (key : ℕ) (b : Block) → AreKept s p old (under entries) → RemovesInHand s p old b after q new
       → under entries key ≡ Some b → IsSetUnder entries key None fewer → AreKept after q new (under fewer)
-  -- one that was called, and may have another mapping now
+  -- a block was called, and may have another mapping now
   pub changes : (s : State) (p q : Properties) (old new : ℕ → Option Object) (entries changed : List (ℕ × Block))
       (key : ℕ) (b now : Block) → AreKept s p old (under entries) → KeepsInHand b p old now q new
       → under entries key ≡ Some b → IsSetUnder entries key (Some now) changed → AreKept s q new (under changed)
-  -- pairs in another order, or anything else that finds the same blocks
+  -- the pairs stand in another order, or differ in any way that finds the same blocks
   pub same : (s : State) (p : Properties) (objects : ℕ → Option Object) (at new : ℕ → Option Block)
       → AreKept s p objects at → ((key : ℕ) → new key ≡ at key) → AreKept s p objects new
   -- no block at all

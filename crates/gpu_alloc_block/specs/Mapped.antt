@@ -1,4 +1,4 @@
--- What mapping a block and ending that asks of the device, and what becomes of its objects.
+-- What mapping and unmapping a block asks of the device, and what becomes of its objects.
 use Rattle.std.specs.Prelude.{◌≡◌, ◌⊎◌, ℕ, ◌+◌, Bool, true, false, not, ◌||◌, cond, List, [], ◌∷◌, Option, Some, None, is_some}
 use Rattle.std.specs.Prelude.{Result, Ok, Err}
 use Rattle.gpu_alloc_types.specs.Device.{Object, Event, Range, Changes, IsMappedOver, IsUnmapped}
@@ -12,7 +12,7 @@ use Rattle.gpu_alloc_block.specs.Ranges.{rounded}
 use Rattle.gpu_alloc_block.specs.State.{Block, is_shared}
 use Rattle.gpu_alloc_block.specs.declared.block.Mapping.{Mapping}
 
--- why the block itself refuses: the host does not see its memory, or it is mapped already
+-- why the block itself refuses: its memory is not host-visible, or it is mapped already
 abbrev pub refusal : Block → Option MapError
 refusal b = cond (has_bit b.props host_visible) (cond (is_some b.mapping) (Some AlreadyMapped) None) (Some NonHostVisible)
 
@@ -28,7 +28,7 @@ pub record IsDeviceRefusal (b : Block) (r : Range) (e : MapError) (es : List Eve
   pub like : e ≡ map_like_device cause
   pub asked : es ≡ Mapped r (Err cause) ∷ []
 
--- A mapping is refused: by the block itself, which asks nothing, or by the device.
+-- A mapping is refused: by the block itself, without a call of the device, or by the device.
 abbrev pub IsMapRefused : Block → Range → MapError → List Event → Type 0
 IsMapRefused b r e es = ((refusal b ≡ Some e) × (es ≡ [])) ⊎ IsDeviceRefusal b r e es
 
@@ -41,25 +41,25 @@ AsksToMap b offset len (Err e) es = IsMapRefused b (rounded b offset len) e es
 abbrev pub mapping_of : Block → (offset len : ℕ) → Mapping
 mapping_of b offset len = record { start = b.offset + offset; len = len }
 
--- a range is mapped of its object, unless the object is shared: that one was mapped whole when it was made
+-- a range of the object is mapped, unless the object is shared: that one was mapped whole when it was made
 abbrev pub IsOpened : (shared : Bool) → Range → (ℕ → Option Object) → (ℕ → Option Object) → Type 0
 IsOpened true r old new = new ≡ old
 IsOpened false r old new = Changes (IsMappedOver r) old r.object new
 
--- what mapping makes of the device's objects: nothing where it is refused
+-- how mapping changes the device's objects: a refusal changes nothing
 abbrev pub ObjectsMapped : {T E : Type 0} → Block → Range → Result T E → (ℕ → Option Object) → (ℕ → Option Object) → Type 0
 ObjectsMapped b r (Ok _) old new = IsOpened (is_shared b.kind) r old new
 ObjectsMapped b r (Err e) old new = new ≡ old
 
--- what is asked to end a block's mapping: nothing where there is none, or where the object is shared
+-- what is asked to unmap a block: nothing where it is not mapped, or where the object is shared
 abbrev pub unmapping : Block → List Event
 unmapping b = cond (is_some b.mapping) (of_own b (Unmapped b.object ∷ [])) []
 
--- the mapping of an object is ended, unless the object is shared
+-- the object is unmapped, unless it is shared
 abbrev pub IsClosed : (shared : Bool) → ℕ → (ℕ → Option Object) → (ℕ → Option Object) → Type 0
 IsClosed true object old new = new ≡ old
 IsClosed false object old new = Changes IsUnmapped old object new
 
--- what it makes of the device's objects
+-- how unmapping changes the device's objects
 abbrev pub ObjectsUnmapped : Block → (ℕ → Option Object) → (ℕ → Option Object) → Type 0
 ObjectsUnmapped b old new = IsClosed (is_shared b.kind || not (is_some b.mapping)) b.object old new

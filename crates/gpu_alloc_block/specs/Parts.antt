@@ -1,4 +1,4 @@
--- What several parts hold and have live, as one, and what a store of chunks and blocks is as such a part.
+-- What several parts hold and have live, taken together, and how a store of chunks and blocks is such a part.
 use Rattle.std.specs.Prelude.{◌≡◌, ℕ, zero, suc, List, [], ◌∷◌, ◌++◌, map, Some, IsTrue}
 use Rattle.std.specs.FinMap as finite
 use Rattle.std.specs.FinSet as set
@@ -18,7 +18,7 @@ pub record Part : Type 0 where
   pub held : Held
   pub live : Live
 
--- both maps as one. Where both have a key, the first one's value counts
+-- both maps as one. Where both have a key, the first map's value counts
 abbrev pub join : {K X : Type 0} {R : K → K → Ordering} → finite.FinMap R X → finite.FinMap R X → finite.FinMap R X
 join m n = finite.from_entries (finite.entries m ++ finite.entries n)
 
@@ -51,7 +51,7 @@ pub record AreApart (IsPlace : ℕ → HeldObject → Type 0) (ps : List Part) :
       → Holds q object k → i ≡ j
   pub inside : (i : ℕ) (p : Part) (span : Span) → IsAt ps i p → HasLive p span → (h : HeldObject) × Holds p span.object h
 
--- these parts are apart, and hold and have live so much
+-- these parts are apart, and together hold and have live exactly this
 pub record Makes (IsPlace : ℕ → HeldObject → Type 0) (ps : List Part) (held : Held) (live : Live) : Type 0 where
   pub apart : AreApart IsPlace ps
   pub held_is : held_in ps ≡ held
@@ -66,7 +66,7 @@ IsUnused p object = (span : Span) → HasLive p span → span.object ≡ object 
 abbrev pub Chunks : Type 0
 Chunks = finite.FinMap nat_cmp Chunk
 
--- chunks by their objects' names, as the held objects that their keys and they make
+-- chunks by their objects' names, each as the held object that its key and the chunk make
 abbrev pub by_name : (ℕ → Chunk → HeldObject) → Chunks → Held
 by_name object_of chunks = finite.from_entries (map (λ e. (e.1.object, object_of e.0 e.1)) (finite.entries chunks))
 

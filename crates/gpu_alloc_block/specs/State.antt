@@ -13,7 +13,7 @@ use Rattle.gpu_alloc_block.specs.declared.block.Mapping.{Mapping}
 use Rattle.gpu_alloc_block.specs.declared.sharing.Sharing.{Sharing}
 use Rattle.gpu_alloc_base.specs.declared.config.Config.{Config}
 
--- whether many blocks may lie in an object that is held so
+-- whether many blocks may share an object that is held for this
 abbrev pub is_shared : Kind → Bool
 is_shared Dedicated = false
 is_shared Imported = false
@@ -45,7 +45,7 @@ abbrev pub span_cmp : Span → Span → Ordering
 span_cmp a b = slice_cmp nat_cmp (span_numbers a) (span_numbers b)
 
 -- A block: its span, the memory type of its object with that type's property bits and atom, what its object is held
--- for, and what it has mapped of it.
+-- for, and what it has mapped.
 pub record Block : Type 0 where
   pub object : ℕ
   pub offset : ℕ
@@ -59,16 +59,16 @@ pub record Block : Type 0 where
 abbrev pub span_of : Block → Span
 span_of b = record { object = b.object; offset = b.offset; size = b.size }
 
--- of one memory type: the next buddy chunk's least size, the next free-list chunk's, the number of the latest free-list
--- chunk, and the next fit chunk's least size
+-- The state of one memory type: the next buddy chunk's least size, the next free-list chunk's least size, the number of
+-- the latest free-list chunk, and the next fit chunk's least size.
 pub record TypeState : Type 0 where
   pub next_chunk : ℕ
   pub list_chunk : ℕ
   pub number : ℕ
   pub fit_chunk : ℕ
 
--- An allocator: the held objects by name, the live spans, how many more objects may be held, how many bytes may be asked
--- of each heap in all, the chunk sizes of each memory type, how requests share objects, and what `new` was given.
+-- An allocator: the held objects by name, the live spans, how many more objects may be held, and the limit of each heap
+-- in bytes. Also the chunk sizes of each memory type, how requests share objects, and what `new` was given.
 pub record State : Type 0 where
   pub held : map.FinMap nat_cmp HeldObject
   pub live : set.FinSet span_cmp
@@ -79,7 +79,7 @@ pub record State : Type 0 where
   pub config : Config
   pub properties : Properties
 
--- the block that a grant gives: the span, in an object of the memory type that is held so, with nothing mapped
+-- the block that a grant gives: the span, unmapped, in an object of this memory type and kind
 abbrev pub granted_block : State → ℕ → Kind → Span → Block
 granted_block s t kind span = record {
   object = span.object;
@@ -103,7 +103,7 @@ share p heap entry = cond (heap_at p entry.1.memory_type == heap) entry.1.counte
 abbrev pub ledger : State → ℕ → ℕ
 ledger s heap = sum_by (share s.properties heap) (map.entries s.held)
 
--- how many bytes may be asked of a heap in all, 0 where there is none
+-- the limit of a heap, in bytes, 0 where there is no such heap
 abbrev pub heap_limit : State → ℕ → ℕ
 heap_limit s heap = get_or s.heap_limits heap 0
 

@@ -1,5 +1,5 @@
-//! A block of memory, which has to be given back. What takes one apart is no method of it: `gpu_alloc`, from which users
-//! have the type, does not give it on.
+//! A block of memory, which must be returned. The function that takes one apart is not a method: `gpu_alloc`, where
+//! users find the type, does not export it.
 
 ghost use Rattle.std.specs.Prelude.{◌≡◌, ℕ, ◌+◌, ◌<◌, ◌≤◌, true, false, None, Some, length, List, [], ◌∷◌, is_some, cond};
 ghost use Rattle.std.specs.Prelude.{IfOk, IfErr, OnOk, OnErr};
@@ -44,12 +44,12 @@ pub enum Kind {
     /// The blocks of a free list, whose chunks are numbered.
     FreeListChunk(u64),
 
-    /// Blocks that are as long as asked, in whole grains (`Sharing::Fit`).
+    /// Blocks as long as asked, in whole grains (`Sharing::Fit`).
     FitChunk,
 }
 
 impl Kind {
-    /// Whether many blocks may lie in an object that is held so.
+    /// Whether many blocks may share an object that is held for this.
     #[inline(always)]
     pub fn is_shared(self) -> bool
         ensures { result ≡ is_shared self }
@@ -64,25 +64,25 @@ impl Kind {
 /// What a block has mapped: a range of its object, in bytes.
 #[derive(Clone, Copy, Debug, PartialEq, Eq, Hash)]
 pub struct Mapping {
-    /// Where it starts in the object.
+    /// Where it starts in the object, in bytes.
     pub start: u64,
 
-    /// Its length.
+    /// Its length, in bytes.
     pub len: u64,
 }
 
-/// A block of memory: a span of a memory object. It cannot be dropped: it is given back to its allocator.
+/// A block of memory: a span of a memory object. It cannot be dropped: it is returned to its allocator.
 pub struct MemoryBlock<M: MemoryObject> {
     memory: M,
     offset: u64,
     size: u64,
     memory_type: u32,
     props: KeptProps,
-    // The least unit of what has to be flushed of it, in bytes. A block's calls see no properties of the device.
+    // The unit of the block's flushes, in bytes. A block's calls do not see the device's properties.
     atom: u64,
     kind: Kind,
     mapping: KeptMapping,
-    // Under which its store has it. Contracts don't see it, since the store confirms it.
+    // The key under which its store has it. Contracts don't mention it, since the store confirms it.
     key: usize,
 }
 
@@ -111,8 +111,8 @@ impl<M: MemoryObject> Model for MemoryBlock<M> {
 }
 
 impl<M: MemoryObject> MemoryBlock<M> {
-    /// An unmapped block, which its store has under a key. It is public for the crate above, whose stores confirm each
-    /// block: users get theirs of a `GpuAllocator`.
+    /// An unmapped block, which its store has under this key. It is public for the crate above, whose stores confirm
+    /// each block: users get theirs from a `GpuAllocator`.
     #[inline(always)]
     pub fn new(
         memory: M,
@@ -189,8 +189,8 @@ impl<M: MemoryObject> MemoryBlock<M> {
         self.memory_type
     }
 
-    /// The least unit of what has to be flushed of it, in bytes: Vulkan's `nonCoherentAtomSize`, or 1 where its memory
-    /// needs no flush.
+    /// The unit of the block's flushes and invalidates, in bytes: Vulkan's `nonCoherentAtomSize`, or 1 where its memory
+    /// needs none.
     #[inline(always)]
     pub fn atom(&self) -> u64
         ensures atom { result ≡ self.now.atom }
@@ -207,7 +207,7 @@ impl<M: MemoryObject> MemoryBlock<M> {
         self.mapping.is_some()
     }
 
-    /// What the block has mapped of its object, in bytes, while it is mapped.
+    /// The range of its object that the block has mapped, in bytes, or `None` while it is unmapped.
     #[inline(always)]
     pub fn mapping(&self) -> Option<Mapping>
         ensures { result ≡ self.now.mapping }
@@ -215,20 +215,19 @@ impl<M: MemoryObject> MemoryBlock<M> {
         self.mapping.get()
     }
 
-    /// Maps `size` bytes of the block from `offset` on, in bytes from its start, so that the host sees them until
-    /// [`unmap`](MemoryBlock::unmap). It gives where they lie in the block's object.
+    /// Maps `size` bytes of the block for the host, from `offset` on, in bytes from the block's start, until
+    /// [`unmap`](MemoryBlock::unmap). It returns where they lie in the block's object.
     ///
-    /// Where the object is the block's own (the block is dedicated or imported) the device maps it, from the atom in
-    /// which the range begins to the end of the one in which it ends, or where the block ends: these are the bytes that
-    /// a flush of the range needs (the Vulkan specification's rule on `VkMappedMemoryRange`). A shared object was mapped
-    /// whole when it was made, so the device is asked nothing, and an unmapped block of it that the host sees can always
-    /// be mapped.
+    /// Where the object is the block's own (the block is dedicated or imported), the device maps it. The mapped range
+    /// begins and ends with whole atoms, cut at the block's end: the bytes that a flush of the range needs (the Vulkan
+    /// specification's rule on `VkMappedMemoryRange`). A shared object was mapped whole when it was made. So the device
+    /// is not called, and an unmapped block in host-visible memory can always be mapped.
     ///
-    /// The range has to be at least 1 byte and inside the block, and the device has to hold the block's object as the
-    /// allocator left it (`BlockAgrees`, which each grant tells). The refusals: `NonHostVisible` where the host does not
-    /// see the block's memory, then `AlreadyMapped` where the block is mapped; the device is asked nothing then.
-    /// `OutOfDeviceMemory`, `OutOfHostMemory` and `MapFailed` are the device's. After a refusal the block and the
-    /// device's objects are as before.
+    /// The range must be at least 1 byte and lie inside the block. The device must hold the block's object as the
+    /// allocator left it (`BlockAgrees`, which each grant states). `NonHostVisible` where the block's memory is not
+    /// host-visible, then `AlreadyMapped` where the block is mapped: the device is not called in either case.
+    /// `OutOfDeviceMemory`, `OutOfHostMemory` and `MapFailed` are the device's answers. After an error the block and
+    /// the device's objects are unchanged.
     pub fn map<D: ObjectDevice<M>>(
         &mut self,
         device: &mut D,
@@ -270,10 +269,10 @@ impl<M: MemoryObject> MemoryBlock<M> {
         }
     }
 
-    /// Ends the block's mapping, and tells whether there was one. The device is asked to end that of the object where
-    /// it is the block's own. No byte changes, and it cannot fail.
+    /// Unmaps the block, and returns whether it was mapped. Where the object is the block's own, the device unmaps it.
+    /// No byte changes, and it cannot fail.
     ///
-    /// The device has to hold the block's object as the allocator and the block's calls left it (`BlockAgrees`).
+    /// The device must hold the block's object as the allocator and the block's calls left it (`BlockAgrees`).
     #[tactic(auto, unfolding(crate::specs::Agreement::BlockAgrees))]
     pub fn unmap<D: ObjectDevice<M>>(&mut self, device: &mut D) -> bool
         requires { BlockAgrees self.old (D.properties device.old) (D.objects device.old) }
@@ -299,19 +298,21 @@ impl<M: MemoryObject> MemoryBlock<M> {
         true
     }
 
-    /// Writes bytes to the block from `offset` on, in bytes from its start, so that the device sees them: where the
-    /// memory is non-coherent, the bytes' range is flushed in whole atoms, cut at the block's end (the Vulkan
-    /// specification's rule on `VkMappedMemoryRange`).
+    /// Writes bytes to the block from `offset` on, in bytes from the block's start, so that the device sees them. In
+    /// non-coherent memory it flushes their range in whole atoms, cut at the block's end (the Vulkan specification's
+    /// rule on `VkMappedMemoryRange`).
     ///
-    /// The block has to be unmapped. Its object is mapped for the call where it is the block's own, and unmapped after
-    /// it in every case. An empty slice asks the device nothing.
+    /// The block must be unmapped. Where its object is its own, the call maps it and always unmaps it again. With an
+    /// empty slice the device is not called.
     ///
-    /// The range has to be inside the block, and the device has to hold the block's object as the allocator left it
-    /// (`BlockAgrees`). The refusals: `NonHostVisible` where the host does not see the block's memory, then
-    /// `AlreadyMapped` where the block is mapped; the device is asked nothing then. `OutOfDeviceMemory`,
-    /// `OutOfHostMemory` and `MapFailed` are the device's. After a refused mapping no byte has changed. After a refused
-    /// flush the host's bytes are the data, and each of the device's bytes of the flushed range is that of before or
-    /// the host's. In every case all bytes outside that range are as before, and of the host's all but the data's own.
+    /// The range must lie inside the block. The device must hold the block's object as the allocator left it
+    /// (`BlockAgrees`). `NonHostVisible` where the block's memory is not host-visible, then `AlreadyMapped` where the
+    /// block is mapped: the device is not called in either case. `OutOfDeviceMemory`, `OutOfHostMemory` and `MapFailed`
+    /// are the device's answers.
+    ///
+    /// After a refused mapping no byte has changed. After a refused flush the host's bytes are the data, and each of
+    /// the device's bytes of the flushed range is its old value or the host's. In every case, all bytes outside the
+    /// flushed range are unchanged, and so are the host's bytes outside the data's own range.
     pub fn write_bytes<D: MemoryDevice<M>>(
         &mut self,
         device: &mut D,
@@ -345,16 +346,16 @@ impl<M: MemoryObject> MemoryBlock<M> {
         self.write(device, offset, bytes)
     }
 
-    /// Reads bytes of the block from `offset` on, in bytes from its start, as the device sees them: where the memory is
-    /// non-coherent, the bytes' range is invalidated before, in whole atoms, cut at the block's end (the Vulkan
+    /// Reads bytes of the block from `offset` on, in bytes from the block's start, as the device sees them. In
+    /// non-coherent memory it first invalidates their range in whole atoms, cut at the block's end (the Vulkan
     /// specification's rule on `VkMappedMemoryRange`).
     ///
-    /// The block has to be unmapped. Its object is mapped for the call where it is the block's own, and unmapped after
-    /// it in every case. An empty slice asks the device nothing.
+    /// The block must be unmapped. Where its object is its own, the call maps it and always unmaps it again. With an
+    /// empty slice the device is not called.
     ///
-    /// The conditions and the refusals are those of [`write_bytes`](MemoryBlock::write_bytes). After a refusal `bytes`
-    /// is as before. After a refused invalidate each of the host's bytes of its range is that of before or the
-    /// device's. In every case all bytes outside that range, and all bytes of the device, are as before.
+    /// The conditions and errors are those of [`write_bytes`](MemoryBlock::write_bytes). After an error `bytes` is
+    /// unchanged. After a refused invalidate each of the host's bytes of the range is its old value or the device's. In
+    /// every case, the host's bytes outside that range and all of the device's bytes are unchanged.
     pub fn read_bytes<D: MemoryDevice<M>>(
         &mut self,
         device: &mut D,
@@ -404,7 +405,7 @@ impl<M: MemoryObject> MemoryBlock<M> {
         self.key
     }
 
-    /// Nothing is done: its contract tells what every block keeps.
+    /// A lemma about every block: does nothing at run time.
     pub(crate) fn keeps_end(&self)
         ensures { HasEnd self.now.offset self.now.size self.now.atom }
     {
@@ -424,7 +425,7 @@ impl<M: MemoryObject> MemoryBlock<M> {
         }
     }
 
-    /// Writes bytes: of the call's contract what tells how it went.
+    /// Writes bytes, with that part of the call's contract which says how it ended.
     fn write<D: MemoryDevice<M>>(
         &self,
         device: &mut D,
@@ -464,7 +465,7 @@ impl<M: MemoryObject> MemoryBlock<M> {
         }
     }
 
-    /// Reads bytes: of the call's contract what tells how it went.
+    /// Reads bytes, with that part of the call's contract which says how it ended.
     fn read<D: MemoryDevice<M>>(
         &self,
         device: &mut D,
@@ -506,7 +507,7 @@ impl<M: MemoryObject> MemoryBlock<M> {
         }
     }
 
-    /// The end of the first atom that ends at this place of the block's object or behind it, or the block's end where
+    /// The end of the first atom that ends at this place of the block's object or after it, or the block's end where
     /// that comes first.
     fn atom_end(&self, place: u64) -> u64
         ensures { result ≡ atom_end self.now place }
@@ -518,10 +519,11 @@ impl<M: MemoryObject> MemoryBlock<M> {
         }
     }
 
-    /// Some bytes of the block in whole atoms of its object, cut where the block ends: `len` of them from `offset` on, in
-    /// bytes from the block's start, which have to be inside it. While the block is mapped and its memory non-coherent,
-    /// this is what its user has flushed once the host wrote them, and has invalidated before it reads them (the Vulkan
-    /// specification's rule on `VkMappedMemoryRange`). An import's may begin before the block, by less than an atom.
+    /// The range of the block's object that holds `len` bytes from `offset` on in whole atoms, cut at the block's end.
+    /// Both are in bytes, `offset` from the block's start, and those bytes must lie inside the block. While the block
+    /// is mapped and its memory non-coherent, flush this range after the host's writes, and invalidate it before its
+    /// reads (the Vulkan specification's rule on `VkMappedMemoryRange`). An import's range may begin before the block,
+    /// by less than an atom.
     pub fn rounded(&self, offset: u64, len: u64) -> MappedMemoryRange<'_, M>
         requires { offset + len ≤ self.now.size }
         ensures { range_of M.object result ≡ rounded self.now offset len }
@@ -563,7 +565,7 @@ impl<M: MemoryObject> MemoryBlock<M> {
         device.map_memory(&self.memory, range.offset, range.size)
     }
 
-    /// Ends the mapping of the object where it is the block's own.
+    /// Unmaps the object where it is the block's own.
     fn close<D: ObjectDevice<M>>(&self, device: &mut D)
         requires { is_shared self.now.kind ≡ false → HeldWith (D.objects device.old) self.now.object IsMapped }
         ensures asked { Asked D.step device.old device.new (λ es. es ≡ of_own self.now (Unmapped self.now.object ∷ [])) }
@@ -576,7 +578,7 @@ impl<M: MemoryObject> MemoryBlock<M> {
         }
     }
 
-    /// Makes some bytes of the host's, in whole atoms, the device's too: by a flush where the memory is non-coherent.
+    /// Makes some of the host's bytes, in whole atoms, the device's too: flushes them where the memory is non-coherent.
     fn flush<D: ObjectDevice<M>>(
         &self,
         device: &mut D,
@@ -600,7 +602,7 @@ impl<M: MemoryObject> MemoryBlock<M> {
         device.flush_memory_ranges(&[range])
     }
 
-    /// Makes some bytes of the device's, in whole atoms, the host's too: by an invalidate where the memory is
+    /// Makes some of the device's bytes, in whole atoms, the host's too: invalidates them where the memory is
     /// non-coherent.
     fn invalidate<D: ObjectDevice<M>>(
         &self,
@@ -648,7 +650,7 @@ impl<M: MemoryObject> MemoryBlock<M> {
         self.flush(device, offset, bytes.len() as u64)
     }
 
-    /// Gets bytes, once they are those of the device.
+    /// Makes the device's bytes the host's too, and then gets them.
     fn get<D: MemoryDevice<M>>(
         &self,
         device: &mut D,
@@ -680,8 +682,8 @@ impl<M: MemoryObject> MemoryBlock<M> {
     }
 }
 
-/// Takes a block apart, for its handle. It gives nothing back: `gpu_alloc` lets the handle go once the block's span is
-/// free.
+/// Takes a block apart and returns its handle. The block's span stays live: `gpu_alloc` drops the handle once it has
+/// freed the span.
 #[inline(always)]
 pub fn into_memory<M: MemoryObject>(block: MemoryBlock<M>) -> M
     ensures { M.object result ≡ block.object }

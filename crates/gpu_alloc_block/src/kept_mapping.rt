@@ -1,12 +1,12 @@
-//! What is mapped of a block, in two numbers.
+//! A block's mapping, in two numbers.
 
 ghost use Rattle.std.specs.Prelude.{◌≡◌, ◌<◌, None, Some, is_some};
 
 use crate::block::Mapping;
 use std::marker::Model;
 
-/// What is mapped of a block, or nothing, whose length is 0. (An `Option` has a tag beside it, and carries bytes that
-/// nobody reads where there is nothing.)
+/// A block's mapping, or no mapping, whose length is 0. (An `Option` adds a tag, and carries bytes that nobody reads
+/// where it is `None`.)
 #[derive(Drop)]
 pub(crate) struct KeptMapping {
     start: u64,
@@ -26,8 +26,8 @@ impl Model for KeptMapping {
 }
 
 impl KeptMapping {
-    /// Nothing. (Where it starts says nothing then. It is not 0, since a compiler takes two zeros for a run of bytes, and
-    /// carries those through memory where it would drop two numbers that it knows.)
+    /// No mapping. (Its start then means nothing. It is not 0, because a compiler takes two zeros for a run of bytes
+    /// and carries those through memory, where it would drop two numbers that it knows.)
     #[inline(always)]
     pub(crate) fn none() -> KeptMapping
         ensures { result ≡ None }
@@ -35,7 +35,7 @@ impl KeptMapping {
         KeptMapping { start: 1, len: 0 }
     }
 
-    /// This, which is of some bytes.
+    /// Keeps this mapping, which has at least 1 byte.
     #[inline(always)]
     pub(crate) fn of(mapping: Mapping) -> KeptMapping
         requires { 0 < mapping.len }
@@ -47,7 +47,7 @@ impl KeptMapping {
         }
     }
 
-    /// Whether anything is mapped.
+    /// Whether there is a mapping.
     #[inline(always)]
     pub(crate) fn is_some(&self) -> bool
         ensures { result ≡ is_some self.now }
@@ -55,7 +55,7 @@ impl KeptMapping {
         self.len > 0
     }
 
-    /// What is mapped.
+    /// The mapping.
     #[inline(always)]
     pub(crate) fn get(&self) -> Option<Mapping>
         ensures { result ≡ self.now }

@@ -6,8 +6,8 @@ ghost use Rattle.gpu_alloc_types.specs.Flags.{property_bits};
 use gpu_alloc_types::MemoryPropertyFlags;
 use std::marker::Model;
 
-/// The properties of a memory type, as a number of four bytes. (Beside the type's index they leave no byte unused. The
-/// unused ones would be zeroed and copied with each answer on the way to the caller.)
+/// The properties of a memory type, as a number of four bytes. (Next to the type's index they leave no padding. Padding
+/// would be zeroed and copied with each answer on the way to the caller.)
 #[derive(Drop)]
 pub(crate) struct KeptProps {
     bits: u32,
@@ -27,7 +27,7 @@ impl Model for KeptProps {
 }
 
 impl KeptProps {
-    /// These.
+    /// Keeps these properties.
     #[inline(always)]
     pub(crate) fn of(props: MemoryPropertyFlags) -> KeptProps
         ensures { result ≡ property_bits props }
@@ -37,7 +37,7 @@ impl KeptProps {
         }
     }
 
-    /// What they are.
+    /// The properties.
     #[inline(always)]
     pub(crate) fn get(&self) -> MemoryPropertyFlags
         ensures { property_bits result ≡ self.now }

@@ -1,4 +1,4 @@
-//! Laws of the definitions that contracts cite. The functions do nothing.
+//! Laws of the definitions that contracts cite. The functions are lemmas: they do nothing at run time.
 
 ghost use Rattle.std.specs.Prelude.{◌≡◌, ℕ, ◌+◌, ◌<◌, ◌≤◌, Option, Some};
 ghost use Rattle.gpu_alloc_types.specs.Device.{Object, HeldWith, IsInMapped};
@@ -11,9 +11,9 @@ ghost use Rattle.gpu_alloc_block.specs.State.{State};
 use crate::{Mapping, MemoryBlock};
 use gpu_alloc_types::{MemoryObject, ObjectDevice};
 
-/// What is flushed or invalidated of a block covers the bytes that it is for, and lies inside the block; an import's
-/// alone may begin before it, by less than one atom. So a call of a block changes no byte of another, as its clause
-/// `in_hand` tells.
+/// The flushed or invalidated range of a block covers the bytes that it is for and lies inside the block. Only an
+/// import's may begin before it, by less than one atom. So a block's call changes no byte of another block, as its
+/// clause `in_hand` says.
 pub fn rounded_ranges_lie_in_their_block<M: MemoryObject>(block: &MemoryBlock<M>)
     ensures covers { (offset len : ℕ) → offset + len ≤ block.now.size
         → HasAll (rounded block.now offset len) (block.now.offset + offset) len }
@@ -23,15 +23,15 @@ pub fn rounded_ranges_lie_in_their_block<M: MemoryObject>(block: &MemoryBlock<M>
     block.keeps_end();
 }
 
-/// Bytes inside a block's mapping may be put and got by the device's own calls (`put_bytes`, `get_bytes`), on each
-/// device that the block agrees with.
+/// Bytes inside a block's mapping may be moved by the device's own calls (`put_bytes`, `get_bytes`), on each device
+/// that the block agrees with.
 pub fn bytes_of_a_mapping_may_be_moved<M: MemoryObject>(block: &MemoryBlock<M>)
     ensures { MayBeMoved block.now }
 {
     block.keeps_end();
 }
 
-/// The same of `len` bytes from `place` on, in bytes from the start of the block's object: by this call a caller may
+/// The same of `len` bytes from `place` on, in bytes from the start of the block's object: after this call a caller may
 /// put or get them.
 pub fn these_bytes_may_be_moved<M: MemoryObject, D: ObjectDevice<M>>(
     block: &MemoryBlock<M>,
@@ -50,8 +50,8 @@ pub fn these_bytes_may_be_moved<M: MemoryObject, D: ObjectDevice<M>>(
     bytes_of_a_mapping_may_be_moved(block);
 }
 
-/// A device that puts or gets bytes, flushes or invalidates for its caller, whatever its answer was, leaves every
-/// allocator and every block in agreement. `gpu_alloc::laws::byte_calls_keep_agreement` is that of one allocator.
+/// After a device puts or gets bytes, flushes or invalidates for its caller, every allocator and every block still
+/// agrees with it, whatever it answered. `gpu_alloc::laws::byte_calls_keep_agreement` says this of one allocator.
 pub fn byte_calls_keep_each_agreement<M: MemoryObject, D: ObjectDevice<M>>(device: &D)
     ensures { (s : State) → BytesMoved s D.step D.properties D.objects device.now }
 {

@@ -1,4 +1,4 @@
-//! Blocks of memory, and how their bytes are mapped, written and read. Users find what is theirs of it in `gpu_alloc`.
+//! Blocks of memory, and how their bytes are mapped, written and read. `gpu_alloc` exports what users need of it.
 #![tactic(auto)]
 
 pub mod block;

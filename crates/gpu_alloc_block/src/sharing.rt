@@ -1,14 +1,14 @@
 //! How requests share objects.
 
-/// How requests that are not `TRANSIENT`, and not large enough for an object of their own, share objects. It is chosen
-/// when an allocator is opened. (The original crate has buddies alone.)
+/// How requests share objects if they are not `TRANSIENT` and not large enough for an object of their own. It is chosen
+/// when an allocator is opened. (The original crate has only buddies.)
 #[derive(Clone, Copy, Debug, PartialEq, Eq, Hash)]
 pub enum Sharing {
-    /// In buddy chunks: each block has a power of two of bytes and starts at a multiple of its size. A return looks at no
-    /// more than 63 lengths.
+    /// In buddy chunks: each block has a power of two of bytes and starts at a multiple of its size. A return looks at
+    /// no more than 63 lengths.
     Buddy,
 
-    /// In fit chunks: each block is as long as asked, rounded up to a multiple of 256 bytes and of the memory type's atom.
-    /// They hold less memory for the same requests.
+    /// In fit chunks: each block is as long as asked, rounded up to a multiple of 256 bytes and of the memory type's
+    /// atom. They hold less memory for the same requests.
     Fit,
 }

@@ -27,7 +27,7 @@ use Rattle.gpu_alloc_base.specs.declared.heap.Heap.{Heap}
 use Rattle.gpu_alloc_base.specs.Wanted.{Wanted}
 
 -- the size of the block: the least power of two that is not below the request's size and alignment, the atom and the
--- least block
+-- smallest block
 abbrev pub rounded : Buddy → Wanted → ℕ
 rounded b w = next_power_of_two (max (max w.size (w.align_mask + 1)) (max b.atom b.minimal))
 
@@ -39,7 +39,7 @@ chunk_size b size = max b.next_chunk (2 * size)
 abbrev pub Fits : ℕ → Type 0
 Fits size = 2 * size < 2 ^ 64
 
--- whether the host sees the chunks
+-- whether the chunks are host-visible
 abbrev pub sees_chunks : Buddy → Bool
 sees_chunks b = has_bit b.props host_visible
 
@@ -47,7 +47,7 @@ abbrev pub question : Buddy → ℕ → ℕ → ChunkQuestion
 question b size flags =
     record { size = chunk_size b size; memory_type = b.memory_type; flags = flags; mapped = sees_chunks b }
 
--- somewhere in a held chunk there is room for a block of this size
+-- there is room for a block of this size in a held chunk
 abbrev pub HasPlace : Buddy → ℕ → Type 0
 HasPlace b = spaces.HasPlace (space_of b)
 
@@ -63,7 +63,7 @@ BeginsChunk b = spaces.BeginsChunk (space_of b)
 abbrev pub with_leaf : Buddy → Leaf → Buddy
 with_leaf b leaf = record b { live = set.insert b.live leaf }
 
--- one more chunk is held, of the block's object, and the next one will be as large at least
+-- one more chunk is held, of the block's object, and the next one will be at least as large
 abbrev pub with_chunk : Buddy → Leaf → ℕ → Buddy
 with_chunk b leaf size = record b { chunks = chunks_with b.chunks leaf size; next_chunk = size }
 
@@ -74,7 +74,7 @@ in_new_chunk a leaf size = record {
   remaining = a.remaining - 1;
 }
 
--- A request for a block of the rounded size. Chunks are told apart by keys, of which there is always one more.
+-- A request for a block of the rounded size. Chunks are told apart by keys, and a key is always left.
 abbrev pub buddy_case : Account Buddy → ℕ → ℕ → Case Leaf (Account Buddy)
 buddy_case a size flags = record {
   before = a;
@@ -100,8 +100,8 @@ case_of a w = buddy_case a (rounded a.allocator w) w.flags
 abbrev pub Allocates : Account Buddy → Wanted → List Event → Result Leaf AllocationError → Account Buddy → Type 0
 Allocates a w es answer new = Answers (case_of a w) es answer new
 
--- What a call answers, by what it has before and after it: the allocator, the heap, and how many more objects may be
--- held. The one is asked for what is wanted, the other for a block of the rounded size.
+-- What a call answers, from the allocator, the heap and the number of objects that may still be held, before and after
+-- it. The first takes the request, the second a block of the rounded size.
 abbrev pub CallAllocates : Buddy → Heap → ℕ → Wanted → Result Leaf AllocationError → Buddy → Heap → ℕ → List Event
     → Type 0
 CallAllocates b heap remaining w answer new new_heap new_remaining es =
@@ -123,11 +123,11 @@ TakesPlace b size (Err e) new = HasPlace b size × (new ≡ b)
 abbrev pub IsUnusedChunk : Buddy → ℕ → Type 0
 IsUnusedChunk b = spaces.IsUnusedChunk (space_of b)
 
--- one block less
+-- one block fewer
 abbrev pub without_leaf : Buddy → Leaf → Buddy
 without_leaf b leaf = record b { live = set.remove b.live leaf }
 
--- A block comes back: its chunk goes with it where no other block of the chunk is live, and stays where one is.
+-- A block is returned: its chunk is released with it if no other block in it is live, and kept otherwise.
 abbrev pub Frees : Account Buddy → Leaf → List Event → Account Buddy → Type 0
 Frees a leaf es new =
     ((IsUnusedChunk (without_leaf a.allocator leaf) leaf.chunk → ⊥)
@@ -172,14 +172,14 @@ pub record IsGranted (old : Buddy) (w : Wanted) (new : Buddy) (leaf : Leaf) : Ty
 abbrev pub Agrees : Buddy → Properties → (ℕ → Option Object) → Type 0
 Agrees b p objects = accounts.Agrees b.memory_type b.props b.chunks p objects
 
--- what a request makes of the device's objects
+-- how a request changes the device's objects
 abbrev pub ObjectsAfter : Buddy → Result Leaf AllocationError → Buddy → (ℕ → Option Object) → (ℕ → Option Object)
     → Type 0
 ObjectsAfter b answer after old new =
     accounts.ObjectsAfter (λ leaf. leaf.chunk) (λ leaf. leaf.object) b.memory_type b.props b.chunks answer after.chunks
     old new
 
--- what a return makes of them: the block's chunk goes with its last block
+-- how a return changes them: the block's chunk is released with its last block
 abbrev pub ObjectsFreed : Buddy → Leaf → (ℕ → Option Object) → (ℕ → Option Object) → Type 0
 ObjectsFreed b leaf old new =
     ((IsUnusedChunk (without_leaf b leaf) leaf.chunk → ⊥) × (new ≡ old))
@@ -203,7 +203,7 @@ pub record IsPieceOf (b : Buddy) (r : FreeRange) : Type 0 where
 abbrev pub bytes_of : Leaf → Bytes
 bytes_of leaf = record { object = leaf.object; offset = leaf.offset; size = leaf.size }
 
--- a call leaves each block that was in hand
+-- a call that takes no block keeps each block that was in hand
 abbrev pub Leaves : Buddy → Buddy → Type 0
 Leaves b new = in_hand.Leaves bytes_of b.live new.live
 
@@ -211,7 +211,7 @@ Leaves b new = in_hand.Leaves bytes_of b.live new.live
 abbrev pub Adds : Buddy → Buddy → Leaf → Type 0
 Adds b new leaf = in_hand.Adds bytes_of b.live new.live leaf
 
--- a return takes its block away, and no other
+-- a return removes its block, and no other
 abbrev pub Removes : Buddy → Leaf → Buddy → Type 0
 Removes b leaf new = in_hand.Removes bytes_of b.live leaf new.live
 

@@ -1,9 +1,9 @@
--- What the fields of a buddy allocator keep.
+-- The invariants of a buddy allocator's fields.
 use Rattle.std.specs.Prelude.{ℕ, ◌^◌}
 use Rattle.gpu_alloc_buddy.specs.BuddyState.{Buddy}
 use Rattle.gpu_alloc_pairs.specs.Space.{Space}
 
--- the fields as a contract sees them, what the store holds as a space
+-- the fields as contracts see them, with the store's content as a space
 abbrev pub buddy_in : Space → ℕ → ℕ → ℕ → ℕ → ℕ → Buddy
 buddy_in s next_order minimal memory_type props atom = record {
   chunks = s.chunks;

@@ -9,7 +9,7 @@ use Rattle.gpu_alloc_pairs.specs.Space as spaces
 abbrev pub LiesInChunk : Buddy → Leaf → Type 0
 LiesInChunk b = spaces.LiesInChunk (space_of b)
 
--- chunks are of objects of their own, with a live block each, and live blocks are apart; the sizes are powers of two
+-- chunks have objects of their own, with a live block each, and live blocks are apart; the sizes are powers of two
 pub record IsSound (b : Buddy) : Type 0 where
   pub space : IsSoundSpace (space_of b)
   pub next_chunk : IsPowerUpTo 63 b.next_chunk

@@ -1,4 +1,4 @@
--- What a buddy allocator holds and has given out, all of it of one memory type.
+-- What a buddy allocator of one memory type holds and has given out.
 use Rattle.std.specs.Prelude.{ℕ}
 use Rattle.std.specs.FinMap as map
 use Rattle.std.specs.FinSet as set
@@ -9,7 +9,7 @@ use Rattle.gpu_alloc_base.specs.Leaves.{leaf_cmp}
 use Rattle.gpu_alloc_pairs.specs.Space as space
 use Rattle.gpu_alloc_pairs.specs.Space.{Space}
 
--- The held chunks by key, the live blocks, the next chunk's least size, the least block, the memory type with its
+-- The held chunks by key, the live blocks, the next chunk's least size, the smallest block, the memory type with its
 -- property bits, and the atom, of which block sizes are multiples.
 pub record Buddy : Type 0 where
   pub chunks : map.FinMap nat_cmp Chunk
@@ -20,7 +20,7 @@ pub record Buddy : Type 0 where
   pub props : ℕ
   pub atom : ℕ
 
--- the chunks and the blocks alone
+-- only the chunks and the blocks
 abbrev pub space_of : Buddy → Space
 space_of b = record { chunks = b.chunks; live = b.live }
 

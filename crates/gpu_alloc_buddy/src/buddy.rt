@@ -40,10 +40,11 @@ use std::alloc::{AllocError, Allocator, Global};
 use std::marker::Model;
 use std::sync::ledger::Ledger;
 
-/// Gives out blocks of shared chunks of one memory type. It cannot be let go: [`close`](BuddyAllocator::close) ends it.
+/// Gives out blocks of shared chunks of one memory type. It cannot be dropped: [`close`](BuddyAllocator::close) ends
+/// it.
 ///
-/// Between calls each held chunk is of an object of its own, of a power of two of at most 2^63 bytes, and some block in
-/// it is live. Each live block lies whole in its chunk, at a multiple of its size, and no two of them share a byte.
+/// Between calls each held chunk has an object of its own, of a power of two of at most 2^63 bytes, and a live block in
+/// it. Each live block lies inside its chunk, at a multiple of its size, and no two of them share a byte.
 pub struct BuddyAllocator<M: MemoryObject, A: Allocator = Global> {
     pairs: Pairs<M, A>,
     next_order: u32,
@@ -73,14 +74,14 @@ impl<M: MemoryObject, A: Allocator> Model for BuddyAllocator<M, A> {
 
 impl<M: MemoryObject, A: Allocator + Copy> BuddyAllocator<M, A> {
     /// An allocator that holds nothing, for a memory type with these properties. Each size is in bytes and a power of
-    /// two, as the original crate asserts: no block is smaller than `minimal_size`, and the first chunk has at least
-    /// the greater of `minimal_size` and `initial_dedicated_size`, and at least twice its first block. Block sizes are
+    /// two, as the original crate asserts. No block is smaller than `minimal_size`. The first chunk has at least the
+    /// greater of `minimal_size` and `initial_dedicated_size`, and at least twice its first block. Block sizes are
     /// multiples of `atom_mask + 1`, a power of two of at most 2^62.
     ///
-    /// `alloc` gives the memory of its lists. The only refusal is `OutOfHostMemory`.
+    /// Its lists take their memory from `alloc`. The only error is `OutOfHostMemory`.
     ///
-    /// Nothing is held or live (`empty`): by [`agrees_at_first`](crate::laws::agrees_at_first) a caller learns that
-    /// the allocator agrees with a device that offers the memory type.
+    /// Nothing is held or live (`empty`). By [`agrees_at_first`](crate::laws::agrees_at_first) a caller knows that the
+    /// allocator agrees with a device that offers the memory type.
     pub fn new(
         alloc: A,
         minimal_size: u64,
@@ -113,11 +114,11 @@ impl<M: MemoryObject, A: Allocator + Copy> BuddyAllocator<M, A> {
         })
     }
 
-    /// The free pieces of the held chunks: the longest ranges of a power of two of bytes, at a multiple of their length,
-    /// that lie in a chunk and in no live block, by the name of their object, then by start. Each is in bytes of its
-    /// object. Of one length there are no more of them than live blocks (`few`).
+    /// The free pieces of the held chunks: the longest ranges of a power of two of bytes, at a multiple of their
+    /// length, that lie in a chunk and in no live block. They are sorted by the name of their object, then by start.
+    /// Each is in bytes of its object. No length has more free pieces than live blocks (`few`).
     ///
-    /// The only refusal is want of host memory. Nothing changes.
+    /// The only error is want of host memory. Nothing changes.
     pub fn free_ranges(&self) -> Result<Vec<FreeRange, A>, AllocError>
         ensures pieces { IfOk result (λ ranges. (r : Range) → Contains ranges.items r ↔ IsPieceOf self.now r) }
         ensures order { IfOk result (λ ranges. AreInOrder ranges.items) }
@@ -131,37 +132,42 @@ impl<M: MemoryObject, A: Allocator + Copy> BuddyAllocator<M, A> {
 }
 
 impl<M: MemoryObject, A: Allocator> BuddyAllocator<M, A> {
-    /// Allocates a block of at least `size` bytes at a multiple of `align_mask + 1`: the front of a shortest free piece
-    /// that is long enough, or, where none is, of a new chunk that the device is asked for with these flags.
+    /// Allocates a block of at least `size` bytes at a multiple of `align_mask + 1`. It is the front of a shortest free
+    /// piece that is long enough. Where there is none, it is the front of a new chunk that the device is asked for with
+    /// these flags.
     ///
-    /// The block's size is the least power of two that is not below the size, the alignment, the atom and the least
-    /// block. The block starts at a multiple of its size and lies whole in a held chunk, whose object is its own. A new
-    /// chunk has exactly the greater of twice the block and the size of the latest chunk that was made, which counts
-    /// even where that one is held no more. A chunk that the host sees is mapped whole. `heap` is the ledger of the
-    /// memory type's heap, to which a chunk is added, and `allocations_remains` how many more objects may be held,
-    /// which a chunk lowers.
+    /// The block's size is the least power of two that is not below the size, the alignment, the atom and the smallest
+    /// block. The block starts at a multiple of its size and lies inside a held chunk, whose object is its own. A new
+    /// chunk has exactly the greater of twice the block and the size of the latest chunk that was made, even where that
+    /// one is no longer held. A chunk is mapped whole where it is host-visible. `heap` is the ledger of the memory
+    /// type's heap, to which a chunk is added. `allocations_remains` is how many more objects may be held, which a
+    /// chunk lowers.
     ///
-    /// The size has to be at least 1, `align_mask + 1` a power of two of at most 2^63, the address flag set only where
-    /// the device has the feature, and the device the one that this allocator has served: it has the memory type with
-    /// the properties given to `new`, and each held chunk.
+    /// The size must be at least 1, and `align_mask + 1` a power of two of at most 2^63. The address flag may be set
+    /// only where the device has the feature. The device must be the one that this allocator has served: it has the
+    /// memory type with the properties given to `new`, and each held chunk.
     ///
-    /// Refusals, after which all is as before: `OutOfDeviceMemory` where a chunk would be of 2^64 bytes or more, where
-    /// one is wanted that `heap` has no room for (`Heap::fits`), of which the device is not asked, and where the device
-    /// answers so; `TooManyObjects` where a chunk is wanted and no more objects may be held; `OutOfHostMemory` where the
-    /// host's memory is refused to the allocator or to the device, and where a chunk cannot be mapped for another
-    /// reason. A chunk that was made is given back then. A block in a held chunk is given whatever `heap` counts.
+    /// Errors, after which nothing has changed, and a chunk that was made is released:
     ///
-    /// `heap` has to count no less than the sum of the held chunks; what remains and the number of held chunks have to fit
-    /// 32 bits together. Both is so again after the call. The ledger never passes the greater of what it was and the
-    /// heap's limit (`ledger`).
+    /// - `OutOfDeviceMemory` where a chunk would have 2^64 bytes or more, where one is needed that `heap` has no room
+    ///   for (`Heap::fits`; the device is then not asked), and where the device gives that answer
+    /// - `TooManyObjects` where a chunk is needed and no more objects may be held
+    /// - `OutOfHostMemory` where the allocator or the device lacks host memory, and where a chunk cannot be mapped for
+    ///   another reason.
     ///
-    /// Each block that a caller had in hand is live still (`leaves`). The new one is live too, and shares no byte with
+    /// A block in a held chunk is given whatever `heap` counts.
+    ///
+    /// `heap` must count no less than the sum of the held chunks, and how many more objects may be held plus the number
+    /// of held chunks must fit 32 bits. Both hold again after the call. The ledger never exceeds the greater of its old
+    /// value and the heap's limit (`ledger`).
+    ///
+    /// Each block that a caller had in hand is still live (`leaves`). The new one is live too, and shares no byte with
     /// any of them (`added`).
     ///
-    /// `looks` counts the lengths at which a free piece was looked for, at most 63 (`looked`), and `splits` how often a
-    /// piece was halved, at most 62 (`split`): whatever is live, a piece of 2^k times the block's size takes k + 1 looks
-    /// and k splits (`steps`). A new chunk of 2^k times the block's size, which comes as its two halves, takes k - 1
-    /// splits, after a look at each length from the block's up to 2^62 bytes (`begun`).
+    /// `looks` counts the lengths at which a free piece was looked for, at most 63 (`looked`). `splits` counts how
+    /// often a piece was halved, at most 62 (`split`). Whatever is live, a piece of 2^k times the block's size takes k
+    /// + 1 looks and k splits (`steps`). A new chunk of 2^k times the block's size, which comes as its two halves,
+    /// takes k - 1 splits, after a look at each length from the block's up to 2^62 bytes (`begun`).
     pub fn alloc<D: ObjectDevice<M>, L: Ledger, K: Ledger>(
         &mut self,
         device: &mut D,
@@ -180,7 +186,7 @@ impl<M: MemoryObject, A: Allocator> BuddyAllocator<M, A> {
         requires agrees { Agrees self.old (D.properties device.old) (D.objects device.old) }
         requires counted { IsCounted self.old.chunks heap.old allocations_remains.old }
 
-        // What was asked of the device, the answer, and what changed.
+        // The calls of the device, the answer, and what changed.
         ensures allocates { Asked D.step device.old device.new
             (CallAllocates self.old heap.old allocations_remains.old (requested size align_mask flags) result
             self.new heap.new allocations_remains.new) }
@@ -220,17 +226,17 @@ impl<M: MemoryObject, A: Allocator> BuddyAllocator<M, A> {
         answer
     }
 
-    /// The refusal that `alloc` gives such a request before it takes any memory or asks anything: `OutOfDeviceMemory`
-    /// where a chunk for it would be of 2^64 bytes or more, `TooManyObjects` where a chunk is wanted and no more
-    /// objects may be held, and else `OutOfDeviceMemory` where a chunk is wanted that `heap` has no room for
-    /// (`Heap::fits`). None where it goes further. It takes no memory.
+    /// The error that `alloc` gives such a request before it takes any memory or asks anything, or `None` where it goes
+    /// further. It is `OutOfDeviceMemory` where a chunk for it would have 2^64 bytes or more. Where a chunk is needed,
+    /// it is `TooManyObjects` if no more objects may be held, and otherwise `OutOfDeviceMemory` if `heap` has no room
+    /// for the chunk (`Heap::fits`). It allocates nothing.
     ///
-    /// The size has to be at least 1, and `align_mask + 1` a power of two of at most 2^63, as of `alloc`.
+    /// As for `alloc`, the size must be at least 1, and `align_mask + 1` a power of two of at most 2^63.
     ///
-    /// `looks` counts the lengths at which a free piece was looked for, at most 63 (`looked`). It looks only where a chunk
-    /// would have less than 2^64 bytes and may not be asked for: k + 1 times where a shortest free piece that is long
-    /// enough has 2^k times the block's size, and where there is none once at each length from the block's up to 2^62
-    /// bytes (`steps`).
+    /// `looks` counts the lengths at which a free piece was looked for, at most 63 (`looked`). It looks only where a
+    /// chunk would have less than 2^64 bytes and may not be asked for. Where a shortest free piece that is long enough
+    /// has 2^k times the block's size, it looks k + 1 times. Where there is none, it looks once at each length from the
+    /// block's up to 2^62 bytes (`steps`).
     pub fn refuses<L: Ledger>(
         &self,
         size: u64,
@@ -260,19 +266,18 @@ impl<M: MemoryObject, A: Allocator> BuddyAllocator<M, A> {
         Some(refusal)
     }
 
-    /// Takes a block back. Free halves are joined, and a chunk in which no other block is live goes back to the device
-    /// at once: then `heap` is lowered by its size, and one more object may be held. It takes no memory and cannot
-    /// fail.
+    /// Returns a block. Free halves are joined, and a chunk in which no other block is live is released at once: then
+    /// `heap` is lowered by its size, and one more object may be held. It allocates nothing and cannot fail.
     ///
-    /// The block has to be live here, by its object, chunk, offset, size and index, and the device the one that this
-    /// allocator has served. `heap` has to count no less than the sum of the held chunks; what remains and the number
-    /// of held chunks have to fit 32 bits together. Both is so again after the call.
+    /// The block must be live here, by its object, chunk, offset, size and index. The device must be the one that this
+    /// allocator has served. `heap` must count no less than the sum of the held chunks, and how many more objects may
+    /// be held plus the number of held chunks must fit 32 bits. Both hold again after the call.
     ///
-    /// Each other block that a caller has in hand is live still, and may be returned next (`removed`). Where no block
+    /// Each other block that a caller has in hand is still live, and may be returned next (`removed`). Where no block
     /// is live, no chunk is held (`rest`), and [`close`](BuddyAllocator::close) may be called without a test. The
     /// ledger does not grow (`ledger`).
     ///
-    /// `releases` counts the halves that are given back: the block, and each half that two joined ones become. They are
+    /// `releases` counts the halves that are released: the block, and each half that two joined ones become. They are
     /// at most 63 (`at_most`), whatever is live, and in a chunk of 2^k times the block's size at most k (`few`).
     pub fn dealloc<D: ObjectDevice<M>, L: Ledger>(
         &mut self,
@@ -314,12 +319,13 @@ impl<M: MemoryObject, A: Allocator> BuddyAllocator<M, A> {
         booking::let_go(heap, allocations_remains, size);
     }
 
-    /// The live block of this span of an object, exactly where there is one. `offset` is where it starts in the object
-    /// and `size` how long it is, in bytes: any two numbers. It is public for `gpu_alloc`, whose blocks carry an index.
+    /// The live block of this span of an object, or `None` where there is none. `offset` is where it starts in the
+    /// object and `size` how long it is, in bytes: any two numbers. It is public for `gpu_alloc`, whose blocks carry an
+    /// index.
     ///
-    /// The answer is the same whatever `key` is. The block's own index makes it constant time; with another key the time
-    /// grows with the number of pairs of halves of that length. Who knows a live block of this span learns that it is
-    /// the one that is found (`exact`).
+    /// The answer is the same for any `key`. With the block's own index it takes constant time, and with any other time
+    /// linear in the pairs of halves of that length. A caller that knows a live block of this span knows that it is the
+    /// one found (`exact`).
     #[inline(always)]
     pub fn find(&self, key: usize, object: u64, offset: u64, size: u64) -> Option<Leaf>
         ensures found { MatchOption result (IsNoLiveSpan self.now object offset size)
@@ -336,10 +342,10 @@ impl<M: MemoryObject, A: Allocator> BuddyAllocator<M, A> {
         self.pairs.chunks()
     }
 
-    /// Adds to a list each live block, once, in no order that is told. It is public for `gpu_alloc`. The time grows with
-    /// the number of pairs of halves.
+    /// Adds each live block to a list, once, in no particular order. It is public for `gpu_alloc`. It takes time linear
+    /// in the number of pairs of halves.
     ///
-    /// The only refusal is want of host memory, after which nothing is said of the list.
+    /// The only error is want of host memory, after which nothing is known of the list.
     pub fn list_live<B: Allocator>(&self, leaves: &mut Vec<Leaf, B>) -> Result<(), AllocError>
         ensures { OnOk result (AddsLeaves self.now.live leaves.old.items leaves.new.items) }
     {
@@ -361,7 +367,7 @@ impl<M: MemoryObject, A: Allocator> BuddyAllocator<M, A> {
         pairs.close();
     }
 
-    /// Nothing is done: its contract tells what every allocator keeps.
+    /// A lemma about every allocator: does nothing at run time.
     fn keeps_sound(&self)
         ensures { IsSound self.now }
     {
@@ -390,8 +396,8 @@ impl<M: MemoryObject, A: Allocator> BuddyAllocator<M, A> {
         self.next_order.max(order + 1)
     }
 
-    /// Why the device may not be asked for a chunk for a block of 2^order bytes: nothing remains, or the heap has no room
-    /// for it. None where it may.
+    /// Why the device may not be asked for a chunk for a block of 2^order bytes, or `None` where it may: no more
+    /// objects may be held, or the heap has no room for it.
     fn refuses_chunk(
         &self,
         order: u32,
@@ -450,8 +456,8 @@ impl<M: MemoryObject, A: Allocator> BuddyAllocator<M, A> {
         }
     }
 
-    /// Takes the front of a shortest free piece that is long enough: none where there is none. It fails only for want
-    /// of host memory.
+    /// Takes the front of a shortest free piece that is long enough, or returns `None` where there is no such piece. It
+    /// fails only for want of host memory.
     #[inline(always)]
     fn take_place<L: Ledger, K: Ledger>(
         &mut self,

@@ -1,4 +1,4 @@
-//! What callers learn from the definitions that contracts cite. The functions do nothing.
+//! What callers learn from the definitions that contracts cite. The functions are lemmas: they do nothing at run time.
 
 ghost use Rattle.gpu_alloc_types.specs.Flags.{property_bits};
 ghost use Rattle.gpu_alloc_base.specs.Accounts.{IsCounted};
@@ -11,7 +11,7 @@ use gpu_alloc_types::{MemoryObject, MemoryPropertyFlags, ObjectDevice};
 use std::alloc::Allocator;
 
 /// An allocator that holds nothing agrees with every device that offers its memory type with these properties, and
-/// every ledger counts what it holds: a caller that made one learns it by this call.
+/// every ledger counts what it holds. A caller that made one calls this to know it.
 pub fn agrees_at_first<M: MemoryObject, D: ObjectDevice<M>, A: Allocator>(
     allocator: &BuddyAllocator<M, A>,
     device: &D,

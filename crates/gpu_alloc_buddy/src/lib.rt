@@ -1,5 +1,4 @@
-//! The buddy allocator of one memory type, on the device that is handed to its calls. Users find it in
-//! `gpu_alloc::buddy`.
+//! The buddy allocator of one memory type, on the device that its calls get. Users find it in `gpu_alloc::buddy`.
 #![tactic(auto)]
 
 mod buddy;

@@ -1,4 +1,4 @@
--- How the values that contracts see are stored.
+-- How contracts see these values.
 use Rattle.std.specs.Prelude.{ℕ, refl}
 use Rattle.std.specs.Coded.{Coded, code_by, coded×, coded_ℕ}
 use Rattle.gpu_alloc_fit.specs.Fit.{Fitting}

@@ -36,7 +36,7 @@ pub record Fitting : Type 0 where
 abbrev pub rounded : Fitting → Wanted → ℕ
 rounded f w = up w.size f.atom
 
--- the alignment that is used: the greater of the request's and the atom
+-- the alignment of a block: the greater of the request's and the atom
 abbrev pub alignment : Fitting → Wanted → ℕ
 alignment f w = max (w.align_mask + 1) f.atom
 
@@ -47,7 +47,7 @@ chunk_size f size = grown_chunk f.next_chunk f.final_chunk size
 abbrev pub next_size : Fitting → ℕ → ℕ
 next_size f whole = doubled_chunk f.final_chunk whole
 
--- whether the host sees the chunks
+-- whether the chunks are host-visible
 abbrev pub sees_chunks : Fitting → Bool
 sees_chunks f = has_bit f.props host_visible
 
@@ -71,7 +71,7 @@ in_new_chunk a slot whole = record {
   remaining = a.remaining - 1;
 }
 
--- A request for a block of the rounded size. A chunk of the largest size always fits, and there is always one more key.
+-- A request for a block of the rounded size. A chunk of the largest size always fits, and a key is always left.
 abbrev pub fit_case : Account Fitting → ℕ → ℕ → ℕ → Case Slot (Account Fitting)
 fit_case a size alignment flags = record {
   before = a;
@@ -94,8 +94,8 @@ fit_case a size alignment flags = record {
 abbrev pub case_of : Account Fitting → Wanted → Case Slot (Account Fitting)
 case_of a w = fit_case a (rounded a.allocator w) (alignment a.allocator w) w.flags
 
--- What a call answers, by what it has before and after it: the allocator, the heap, and how many more objects may be
--- held. The one is asked for what is wanted, the other for a block of the rounded size.
+-- What a call answers, from the allocator, the heap and the number of objects that may still be held, before and after
+-- it. The first takes the request, the second a block of the rounded size.
 abbrev pub CallAllocates : Fitting → Heap → ℕ → Wanted → Result Slot AllocationError → Fitting → Heap → ℕ → List Event
     → Type 0
 CallAllocates f heap remaining w answer new new_heap new_remaining es =
@@ -107,13 +107,13 @@ CallAnswers f heap remaining size alignment flags answer new new_heap new_remain
     Answers (fit_case (account f heap remaining) size alignment (allocation_bits flags)) es answer
     (account new new_heap new_remaining)
 
--- Chunks that go.
+-- Chunks that are released.
 
--- the block is live no more
+-- the block is no longer live
 abbrev pub account_without : Account Fitting → Slot → Account Fitting
 account_without a slot = record a { allocator = record a.allocator { space = without_slot a.allocator.space slot } }
 
--- the chunk goes back to the device
+-- the chunk is released
 abbrev pub Goes : Account Fitting → ℕ → List Event → Account Fitting → Type 0
 Goes a key es new =
     (chunk : Chunk) × (map.get a.allocator.space.chunks key ≡ Some chunk)
@@ -124,13 +124,14 @@ Goes a key es new =
       remaining = a.remaining + 1;
     }))
 
--- A block comes back: its chunk goes with it where it is wholly free then and another one is too, and stays elsewhere.
+-- A block is returned: its chunk is released with it if it is then wholly free and another one is too, and kept
+-- otherwise.
 abbrev pub Frees : Account Fitting → Slot → List Event → Account Fitting → Type 0
 Frees a slot es new =
     ((IsSpare (without_slot a.allocator.space slot) slot.chunk → ⊥) × ((es ≡ []) × (new ≡ account_without a slot)))
     ⊎ (IsSpare (without_slot a.allocator.space slot) slot.chunk × Goes (account_without a slot) slot.chunk es new)
 
--- The wholly free chunk goes, if there is one.
+-- The wholly free chunk is released, if there is one.
 abbrev pub Cleans : Account Fitting → List Event → Account Fitting → Type 0
 Cleans a es new =
     (((key : ℕ) → IsWhollyFree a.allocator.space key → ⊥) × ((es ≡ []) × (new ≡ a)))
@@ -165,20 +166,20 @@ pub record IsGranted (old : Fitting) (w : Wanted) (new : Fitting) (slot : Slot) 
 abbrev pub Agrees : Fitting → Properties → (ℕ → Option Object) → Type 0
 Agrees f p objects = accounts.Agrees f.memory_type f.props f.space.chunks p objects
 
--- what a request makes of the device's objects
+-- how a request changes the device's objects
 abbrev pub ObjectsAfter : Fitting → Result Slot AllocationError → Fitting → (ℕ → Option Object) → (ℕ → Option Object)
     → Type 0
 ObjectsAfter f answer after old new =
     accounts.ObjectsAfter (λ slot. slot.chunk) (λ slot. slot.object) f.memory_type f.props f.space.chunks answer
     after.space.chunks old new
 
--- what a return makes of them
+-- how a return changes them
 abbrev pub ObjectsFreed : Fitting → Slot → (ℕ → Option Object) → (ℕ → Option Object) → Type 0
 ObjectsFreed f slot old new =
     ((IsSpare (without_slot f.space slot) slot.chunk → ⊥) × (new ≡ old))
     ⊎ (IsSpare (without_slot f.space slot) slot.chunk × (new ≡ put old slot.object None))
 
--- and what a cleanup does
+-- and how a cleanup does
 abbrev pub ObjectsCleaned : Fitting → (ℕ → Option Object) → (ℕ → Option Object) → Type 0
 ObjectsCleaned f old new =
     (((key : ℕ) → IsWhollyFree f.space key → ⊥) × (new ≡ old))
@@ -187,14 +188,14 @@ ObjectsCleaned f old new =
 
 -- Blocks in hand.
 
--- what was given to `new` and decides what may be asked, which no call changes
+-- what was given to `new` and decides which requests are valid, which no call changes
 pub record KeepsSettings (f new : Fitting) : Type 0 where
   pub final_chunk : new.final_chunk ≡ f.final_chunk
   pub memory_type : new.memory_type ≡ f.memory_type
   pub props : new.props ≡ f.props
   pub atom : new.atom ≡ f.atom
 
--- a call leaves each block that was in hand
+-- a call that takes no block keeps each block that was in hand
 abbrev pub Leaves : Fitting → Fitting → Type 0
 Leaves f new = spaces.Leaves f.space new.space
 
@@ -202,7 +203,7 @@ Leaves f new = spaces.Leaves f.space new.space
 abbrev pub Adds : Fitting → Fitting → Slot → Type 0
 Adds f new slot = spaces.Adds f.space new.space slot
 
--- a return takes its block away, and no other
+-- a return removes its block, and no other
 abbrev pub Removes : Fitting → Slot → Fitting → Type 0
 Removes f slot new = spaces.Removes f.space slot new.space
 
@@ -212,7 +213,7 @@ HoldsNothing memory_type props f =
     (f.memory_type ≡ memory_type) × (f.props ≡ props)
     × in_hand.HoldsNothing memory_type props f.space.live f.space.chunks
 
--- what a cleanup leaves: the live blocks, and where there are none, no chunk
+-- what a cleanup leaves: the live blocks, and no chunk where there are none
 abbrev pub LeavesNoRest : Fitting → Fitting → Type 0
 LeavesNoRest f new =
     (new.space.live ≡ f.space.live) × in_hand.LeavesNoRest f.space.live new.space.chunks

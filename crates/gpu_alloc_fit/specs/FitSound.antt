@@ -18,7 +18,7 @@ fitting_in space next_chunk final_chunk memory_type props atom = record {
   atom = atom;
 }
 
--- chunks are no larger than the largest, and chunks and blocks are of whole atoms
+-- chunks are no larger than the largest, and chunks and blocks have whole atoms
 pub record IsSound (f : Fitting) : Type 0 where
   pub space : IsSoundSpace f.space
   pub chunks : (k : ℕ) (c : Chunk) → map.get f.space.chunks k ≡ Some c → IsMultipleOf f.atom c.size
@@ -28,7 +28,7 @@ pub record IsSound (f : Fitting) : Type 0 where
   pub final_chunk : IsMultipleOf f.atom f.final_chunk × (f.final_chunk ≤ 2 ^ 62)
   pub atom : IsPowerUpTo 62 f.atom
 
--- a largest chunk has room for the request: whole atoms, no more than its own, at an alignment no less than the atom
+-- the largest chunk has room for the request: whole atoms, no more than its own, at an alignment no less than the atom
 pub record FitsAChunk (f : Fitting) (size align_mask : ℕ) : Type 0 where
   pub nonempty : 0 < size
   pub fits : size ≤ f.final_chunk

@@ -38,10 +38,10 @@ use std::alloc::{AllocError, Allocator, Global};
 use std::marker::Model;
 use std::sync::ledger::Ledger;
 
-/// Gives out blocks of shared chunks of one memory type. It cannot be let go: [`close`](FitAllocator::close) ends it.
+/// Gives out blocks of shared chunks of one memory type. It cannot be dropped: [`close`](FitAllocator::close) ends it.
 ///
-/// Between calls each held chunk is of an object of its own, of at most 2^62 bytes, and at most one of them is wholly
-/// free. Each live block lies whole in its chunk, and no two of them share a byte. Chunks and blocks begin and end at
+/// Between calls each held chunk has an object of its own, of at most 2^62 bytes, and at most one of them is wholly
+/// free. Each live block lies inside its chunk, and no two of them share a byte. Chunks and blocks begin and end at
 /// multiples of the atom.
 pub struct FitAllocator<M: MemoryObject, A: Allocator = Global> {
     fits: Fits<M, A>,
@@ -73,13 +73,13 @@ impl<M: MemoryObject, A: Allocator> Model for FitAllocator<M, A> {
 
 impl<M: MemoryObject, A: Allocator + Copy> FitAllocator<M, A> {
     /// An allocator that holds nothing, for a memory type with these properties. Each size is in bytes and a multiple
-    /// of `atom_mask + 1`, which is a power of two of at most 2^62: the first chunk has at least `starting_chunk_size`,
-    /// which is at least one atom, and none has more than `final_chunk_size`, which is no less and at most 2^62.
+    /// of `atom_mask + 1`, which is a power of two of at most 2^62. The first chunk has at least `starting_chunk_size`,
+    /// which is at least one atom. None has more than `final_chunk_size`, which is no less and at most 2^62.
     ///
-    /// `alloc` gives the memory of its lists, of which this call takes none.
+    /// Its lists take their memory from `alloc`; this call takes none.
     ///
-    /// Nothing is held or live (`empty`): by [`agrees_at_first`](crate::laws::agrees_at_first) a caller learns that
-    /// the allocator agrees with a device that offers the memory type.
+    /// Nothing is held or live (`empty`). By [`agrees_at_first`](crate::laws::agrees_at_first) a caller knows that the
+    /// allocator agrees with a device that offers the memory type.
     pub fn new(
         alloc: A,
         starting_chunk_size: u64,
@@ -112,10 +112,11 @@ impl<M: MemoryObject, A: Allocator + Copy> FitAllocator<M, A> {
         }
     }
 
-    /// The free runs of the held chunks: the longest ranges of bytes that lie in a chunk and in no live block, by the
-    /// name of their object, then by start. Each is in bytes of its object. `alloc` gives the memory of the list.
+    /// The free runs of the held chunks: the longest ranges of bytes that lie in a chunk and in no live block. They are
+    /// sorted by the name of their object, then by start. Each is in bytes of its object. The list takes its memory
+    /// from `alloc`.
     ///
-    /// The only refusal is want of host memory. Nothing changes.
+    /// The only error is want of host memory. Nothing changes.
     pub fn free_ranges(&self, alloc: A) -> Result<Vec<FreeRange, A>, AllocError>
         ensures runs { IfOk result (λ ranges. (r : Range) → Contains ranges.items r ↔ IsRunOf (self.now).space r) }
         ensures order { IfOk result (λ ranges. AreInOrder ranges.items) }
@@ -125,32 +126,36 @@ impl<M: MemoryObject, A: Allocator + Copy> FitAllocator<M, A> {
 }
 
 impl<M: MemoryObject, A: Allocator> FitAllocator<M, A> {
-    /// Allocates a block of exactly `size` bytes, rounded up to whole atoms, at a multiple of `align_mask + 1` and of the
-    /// atom: in a free run that has room, or, only where none has, at the front of a new chunk that the device is asked
-    /// for with these flags.
+    /// Allocates a block of exactly `size` bytes, rounded up to whole atoms, at a multiple of `align_mask + 1` and of
+    /// the atom. It lies in a free run with room. Only where no run has room, it is the front of a new chunk that the
+    /// device is asked for with these flags.
     ///
-    /// A new chunk has the size that the allocator has come to: at first the starting one, and after each chunk twice
-    /// that chunk, cut at the final size. Where that is below the rounded size, it is its least product with a power of
-    /// two that suffices, cut at the final size too. (The original crate's rule for a free list's chunks.) A chunk that
-    /// the host sees is mapped whole. `heap` is the ledger of the memory type's heap, to which a chunk is added, and
-    /// `allocations_remains` how many more objects may be held, which a chunk lowers.
+    /// A new chunk has the allocator's next size: at first the starting one, and after each chunk twice that chunk, cut
+    /// at the final size. Where that is below the rounded size, it is its least product with a power of two that
+    /// suffices, cut at the final size too. (This is the original crate's rule for a free list's chunks.) A chunk is
+    /// mapped whole where it is host-visible. `heap` is the ledger of the memory type's heap, to which a chunk is
+    /// added. `allocations_remains` is how many more objects may be held, which a chunk lowers.
     ///
-    /// The size has to be at least 1, and at most the final size when it is rounded; `align_mask + 1` a power of two of
-    /// at most 2^63, the address flag set only where the device has the feature, and the device the one that this
-    /// allocator has served: it has the memory type with the properties given to `new`, and each held chunk.
+    /// The size must be at least 1, and rounded at most the final size. `align_mask + 1` must be a power of two of at
+    /// most 2^63. The address flag may be set only where the device has the feature. The device must be the one that
+    /// this allocator has served: it has the memory type with the properties given to `new`, and each held chunk.
     ///
-    /// Refusals, after which all is as before: `TooManyObjects` where a chunk is wanted and no more objects may be held;
-    /// `OutOfDeviceMemory` where a chunk is wanted that `heap` has no room for (`Heap::fits`), of which the device is not
-    /// asked, and where the device answers so; `OutOfHostMemory` where the host's memory is refused to the allocator or
-    /// to the device, and where a chunk cannot be mapped for another reason. A chunk that was made is given back then. A
-    /// block in a held chunk is given whatever `heap` counts.
+    /// Errors, after which nothing has changed, and a chunk that was made is released:
     ///
-    /// `heap` has to count no less than the sum of the held chunks; what remains and the number of held chunks have to
-    /// fit 32 bits together. Both is so again after the call. The ledger never passes the greater of what it was and the
-    /// heap's limit (`ledger`).
+    /// - `TooManyObjects` where a chunk is needed and no more objects may be held
+    /// - `OutOfDeviceMemory` where a chunk is needed that `heap` has no room for (`Heap::fits`; the device is then not
+    ///   asked), and where the device gives that answer
+    /// - `OutOfHostMemory` where the allocator or the device lacks host memory, and where a chunk cannot be mapped for
+    ///   another reason.
     ///
-    /// Each block that a caller had in hand is live still (`leaves`). The new one is live too, and shares no byte with
-    /// any of them (`added`). What may be asked next is what might be asked before (`settings`).
+    /// A block in a held chunk is given whatever `heap` counts.
+    ///
+    /// `heap` must count no less than the sum of the held chunks, and how many more objects may be held plus the number
+    /// of held chunks must fit 32 bits. Both hold again after the call. The ledger never exceeds the greater of its old
+    /// value and the heap's limit (`ledger`).
+    ///
+    /// Each block that a caller had in hand is still live (`leaves`). The new one is live too, and shares no byte with
+    /// any of them (`added`). The same requests as before are valid next (`settings`).
     pub fn alloc<D: ObjectDevice<M>>(
         &mut self,
         device: &mut D,
@@ -168,7 +173,7 @@ impl<M: MemoryObject, A: Allocator> FitAllocator<M, A> {
         requires agrees { Agrees self.old (D.properties device.old) (D.objects device.old) }
         requires counted { IsCounted (self.old).space.chunks heap.old allocations_remains.old }
 
-        // What was asked of the device, the answer, and what changed.
+        // The calls of the device, the answer, and what changed.
         ensures allocates { Asked D.step device.old device.new
             (CallAllocates self.old heap.old allocations_remains.old (requested size align_mask flags) result
             self.new heap.new allocations_remains.new) }
@@ -194,13 +199,13 @@ impl<M: MemoryObject, A: Allocator> FitAllocator<M, A> {
         self.alloc_rounded(device, size, align_mask, flags, heap, allocations_remains)
     }
 
-    /// The refusal that `alloc` gives such a request before it takes any memory or asks anything: `TooManyObjects`
-    /// where a chunk is wanted and no more objects may be held, and else `OutOfDeviceMemory` where a chunk is wanted
-    /// that `heap` has no room for (`Heap::fits`). None where it goes further. It takes no memory and changes nothing
-    /// (`kept`); where it had to search for a place, the next call with this request does not search again.
+    /// The error that `alloc` gives such a request before it takes any memory or asks anything, or `None` where it goes
+    /// further. Where a chunk is needed, it is `TooManyObjects` if no more objects may be held, and otherwise
+    /// `OutOfDeviceMemory` if `heap` has no room for the chunk (`Heap::fits`). It allocates nothing and changes nothing
+    /// (`kept`). Where it had to search for a place, the next call with this request does not search again.
     ///
-    /// The size has to be at least 1, and at most the final size when it is rounded; `align_mask + 1` a power of two of
-    /// at most 2^63, as of `alloc`.
+    /// As for `alloc`, the size must be at least 1 and rounded at most the final size, and `align_mask + 1` a power of
+    /// two of at most 2^63.
     pub fn refuses(
         &mut self,
         size: u64,
@@ -221,17 +226,17 @@ impl<M: MemoryObject, A: Allocator> FitAllocator<M, A> {
         self.refuses_rounded(size, used_mask, heap, allocations_remains)
     }
 
-    /// Takes a block back, and joins it with the free runs beside it. Where its chunk is then wholly free and another
-    /// chunk is too, its chunk goes back to the device: `heap` is lowered by its size, and one more object may be held.
-    /// It takes no memory and cannot fail.
+    /// Returns a block, and joins it with the free runs next to it. Where its chunk is then wholly free and another
+    /// chunk is too, its chunk is released: `heap` is lowered by its size, and one more object may be held. It
+    /// allocates nothing and cannot fail.
     ///
-    /// The block has to be live here, by its object, chunk, offset and size, and the device the one that this allocator
-    /// has served. `heap` has to count no less than the sum of the held chunks; what remains and the number of held
-    /// chunks have to fit 32 bits together. Both is so again after the call.
+    /// The block must be live here, by its object, chunk, offset and size. The device must be the one that this
+    /// allocator has served. `heap` must count no less than the sum of the held chunks, and how many more objects may
+    /// be held plus the number of held chunks must fit 32 bits. Both hold again after the call.
     ///
-    /// Each other block that a caller has in hand is live still, and may be returned next (`removed`). The settings stay
-    /// (`settings`), and the ledger does not grow (`ledger`). `looks` counts the tiles beside the block that are looked
-    /// at: at most two (`few`).
+    /// Each other block that a caller has in hand is still live, and may be returned next (`removed`). The settings
+    /// stay (`settings`), and the ledger does not grow (`ledger`). `looks` counts the tiles next to the block that are
+    /// looked at: at most two (`few`).
     pub fn dealloc<D: ObjectDevice<M>, L: Ledger>(
         &mut self,
         device: &mut D,
@@ -268,14 +273,14 @@ impl<M: MemoryObject, A: Allocator> FitAllocator<M, A> {
         booking::let_go(heap, allocations_remains, size);
     }
 
-    /// Gives the wholly free chunk back to the device, if there is one: `heap` is lowered by its size, and one more
-    /// object may be held. It takes no memory and cannot fail.
+    /// Releases the wholly free chunk, if there is one: `heap` is lowered by its size, and one more object may be held.
+    /// It allocates nothing and cannot fail.
     ///
-    /// The device has to be the one that this allocator has served. `heap` has to count no less than the sum of the
-    /// held chunks; what remains and the number of held chunks have to fit 32 bits together. Both is so again after the
-    /// call.
+    /// The device must be the one that this allocator has served. `heap` must count no less than the sum of the held
+    /// chunks, and how many more objects may be held plus the number of held chunks must fit 32 bits. Both hold again
+    /// after the call.
     ///
-    /// Each block that a caller has in hand is live still (`leaves`). Where no block is live, no chunk is held
+    /// Each block that a caller has in hand is still live (`leaves`). Where no block is live, no chunk is held
     /// afterwards (`rest`), and [`close`](FitAllocator::close) may be called without a test. The settings stay
     /// (`settings`), and the ledger does not grow (`ledger`).
     pub fn cleanup<D: ObjectDevice<M>>(
@@ -311,11 +316,11 @@ impl<M: MemoryObject, A: Allocator> FitAllocator<M, A> {
         booking::let_go(heap, allocations_remains, bytes);
     }
 
-    /// The live block of this span of an object and the key under which it stands, exactly where there is one. `offset`
-    /// is where it starts in the object and `size` how long it is, in bytes: any two numbers.
+    /// The live block of this span of an object and the key under which it stands, or `None` where there is none.
+    /// `offset` is where it starts in the object and `size` how long it is, in bytes: any two numbers.
     ///
-    /// The answer is the same whatever `key` is. The block's own key makes it constant time; with another key the time
-    /// grows with the number of live blocks and free runs.
+    /// The answer is the same for any `key`. With the block's own key it takes constant time, and with any other time
+    /// linear in the live blocks and free runs.
     #[inline(always)]
     pub fn find(&self, key: usize, object: u64, offset: u64, size: u64) -> Option<(Slot, usize)>
         ensures found { MatchOption result (IsNoLiveSpan (self.now).space object offset size)
@@ -333,10 +338,10 @@ impl<M: MemoryObject, A: Allocator> FitAllocator<M, A> {
         self.fits.chunks()
     }
 
-    /// Adds to a list each live block, once, in no order that is told, as a buddy allocator's are listed: with its chunk's
-    /// key, and an index of 0. The time grows with the number of live blocks and free runs.
+    /// Adds each live block to a list, once, in no particular order, in the form of a buddy allocator's: with its
+    /// chunk's key, and an index of 0. It takes time linear in the number of live blocks and free runs.
     ///
-    /// The only refusal is want of host memory, after which nothing is said of the list.
+    /// The only error is want of host memory, after which nothing is known of the list.
     pub fn list_live<B: Allocator>(&self, rows: &mut Vec<Leaf, B>) -> Result<(), AllocError>
         ensures { OnOk result (AddsSlots ((self.now).space).live rows.old.items rows.new.items) }
     {
@@ -364,13 +369,13 @@ impl<M: MemoryObject, A: Allocator> FitAllocator<M, A> {
         fits.close();
     }
 
-    /// Whether so many bytes in whole atoms are no more than a largest chunk, so that `alloc` takes a request of that
-    /// size, if it is at least 1.
+    /// Whether `size` bytes in whole atoms fit the largest chunk, so that `alloc` accepts a request of that size, if it
+    /// is at least 1.
     #[inline(always)]
     pub fn fits_a_chunk(&self, size: u64) -> bool
         ensures { result ≡ nat_le (up size (self.now).atom) (self.now).final_chunk }
     {
-        // (a largest chunk is of whole atoms itself)
+        // (the largest chunk has whole atoms already)
         size <= self.final_chunk_size
     }
 
@@ -422,7 +427,7 @@ impl<M: MemoryObject, A: Allocator> FitAllocator<M, A> {
         }
     }
 
-    /// The refusal that `alloc_rounded` gives first.
+    /// The error that `alloc_rounded` would give first.
     fn refuses_rounded(
         &mut self,
         size: u64,
@@ -444,8 +449,8 @@ impl<M: MemoryObject, A: Allocator> FitAllocator<M, A> {
         Some(refusal)
     }
 
-    /// Why the device may not be asked for a chunk with a block of this size: nothing remains, or the heap has no room
-    /// for it. None where it may.
+    /// Why the device may not be asked for a chunk with a block of this size, or `None` where it may: no more objects
+    /// may be held, or the heap has no room for it.
     fn refuses_chunk(
         &self,
         size: u64,

@@ -1,4 +1,4 @@
-//! The allocator of exact runs for one memory type, on the device that is handed to its calls.
+//! The allocator of exact runs for one memory type, on the device that its calls get.
 #![tactic(auto)]
 
 mod fit;

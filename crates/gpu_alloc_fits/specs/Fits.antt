@@ -3,7 +3,7 @@ use Rattle.std.specs.Prelude.{◌≡◌, ℕ, ◌<◌, ◌≤◌, Option, Some, 
 use Rattle.gpu_alloc_fits.specs.Space.{Space, HasPlace, IsFitting, with_slot}
 use Rattle.gpu_alloc_base.specs.declared.free_list_block.Slot.{Slot}
 
--- A store: its space, and for how many more chunks and tiles there is room.
+-- A store: its space, and how many more chunks and tiles there is room for.
 pub record Store : Type 0 where
   pub space : Space
   pub chunk_room : ℕ

@@ -1,4 +1,4 @@
--- What the fields of a store keep: its chunks and tiles, its wholly free chunk, and what is known to have no place.
+-- The invariants of a store's fields: its chunks and tiles, its wholly free chunk, and what is known to have no place.
 use Rattle.std.specs.Prelude.{◌≡◌, ◌≢◌, ◌⊎◌, ℕ, ◌+◌, ◌-◌, ◌<◌, ◌≤◌, ◌^◌, true, false, cond, List, [], ◌∷◌, Option, Some, None, filter_map}
 use Rattle.std.specs.FinMap as map
 use Rattle.std.specs.FinSet as set
@@ -20,7 +20,7 @@ use Rattle.gpu_alloc_fits.specs.declared.search.Full.{Full}
 use Rattle.gpu_alloc_fits.specs.declared.tile.Node.{Node}
 use Rattle.gpu_alloc_fits.specs.declared.tile.Tile.{Tile}
 
--- the chunk that a row says
+-- a row's chunk
 abbrev pub chunk_of : {M : Type 0} → (M → ℕ) → Row M → Chunk
 chunk_of object row = record { object = object row.memory; size = row.size }
 
@@ -32,7 +32,7 @@ abbrev pub size_of : {M : Type 0} → Option (Row M) → ℕ
 size_of None = 0
 size_of (Some row) = row.size
 
--- how many bytes the chunk under a key has: none where there is no chunk
+-- how many bytes the chunk under a key has, 0 where there is no chunk
 abbrev pub size_in : {M : Type 0} → Slab (Row M) → ℕ → ℕ
 size_in rows key = size_of (get rows key)
 
@@ -44,14 +44,14 @@ slot_of chunks t =
 abbrev pub live_slot : HeldChunks → Tile → Option Slot
 live_slot chunks t = cond t.free None (Some (slot_of chunks t))
 
--- a live block as a row of a list, as buddies' are
+-- a live block as a row of a list, in the form of a buddy allocator's
 abbrev pub row_of : Slot → Leaf
 row_of b = record { object = b.object; chunk = b.chunk; offset = b.offset; size = b.size; index = 0 }
 
 abbrev pub live_row : HeldChunks → Tile → Option Leaf
 live_row chunks t = cond t.free None (Some (row_of (slot_of chunks t)))
 
--- what is made of the tiles of a slab, where something is
+-- what the tiles of a slab give, where they give anything
 abbrev pub made_of : {Y : Type 0} → (Tile → Option Y) → List (ℕ × Node) → List Y
 made_of h rest = filter_map (λ e. h e.1.tile) rest
 
@@ -64,7 +64,7 @@ abbrev pub free_range : HeldChunks → Tile → Option FreeRange
 free_range chunks t =
     cond t.free (Some (record { object = object_in (map.get chunks t.chunk); start = t.start; end = t.end })) None
 
--- an element, or none, as a list
+-- an element, or nothing, as a list
 abbrev pub listed : {Y : Type 0} → Option Y → List Y
 listed None = []
 listed (Some y) = y ∷ []
@@ -100,7 +100,7 @@ pub record IsWholeTile (size : ℕ → ℕ) (T : ℕ → Option Tile) (x chunk :
   pub end : tile.end ≡ size chunk
   pub chunk_is : tile.chunk ≡ chunk
 
--- the same of some chunk, and no other one is wholly free
+-- the same for some chunk, and no other one is wholly free
 pub record IsTheWhole (s : Space) (size : ℕ → ℕ) (T : ℕ → Option Tile) (x : ℕ) : Type 0 where
   pub chunk : ℕ
   pub whole : IsWholeTile size T x chunk
@@ -111,12 +111,12 @@ abbrev pub IsSpareTile : Space → (ℕ → ℕ) → (ℕ → Option Tile) → O
 IsSpareTile s size T None = (key : ℕ) → IsWhollyFree s key → ⊥
 IsSpareTile s size T (Some x) = IsTheWhole s size T x
 
--- the key but where it is this one
+-- the key, unless it is this one
 abbrev pub IsWithout : Option ℕ → ℕ → Option ℕ → Type 0
 IsWithout None key new = new ≡ None
 IsWithout (Some z) key new = ((z ≡ key) × (new ≡ None)) ⊎ ((z ≢ key) × (new ≡ Some z))
 
--- what was looked for and had no place still has none
+-- a request that was found to have no place still has none
 pub record HasNone (s : Space) (f : Full) : Type 0 where
   pub nonempty : 0 < f.size
   pub alignment : IsAlignMask f.align_mask

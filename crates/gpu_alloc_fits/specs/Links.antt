@@ -1,4 +1,4 @@
--- The keys that each tile has of its neighbours, and what the writes of nodes change.
+-- The keys that each tile has for its neighbours, and what changes when nodes are written.
 use Rattle.std.specs.Prelude.{◌≡◌, ◌≢◌, ℕ, Bool, true, false, Option, Some, None}
 use Rattle.slab.specs.Slab.{Slab, ContainsKey, get}
 use Rattle.gpu_alloc_fits.specs.Tiles.{AreNeighbours, IsCalm, IsCalmBut, IsTiled, tile_in}
@@ -13,14 +13,14 @@ abbrev pub after_of : Option Node → ℕ
 after_of None = 0
 after_of (Some n) = n.after
 
--- the key that a tile has of the one that ends where it starts, and of the one that starts where it ends
+-- the key that a tile has for the one that ends where it starts, and for the one that starts where it ends
 abbrev pub before_in : Slab Node → ℕ → ℕ
 before_in nodes key = before_of (get nodes key)
 
 abbrev pub after_in : Slab Node → ℕ → ℕ
 after_in nodes key = after_of (get nodes key)
 
--- neighbours have the keys of each other
+-- neighbours have each other's keys
 abbrev pub AreLinked : (ℕ → Option Tile) → (ℕ → ℕ) → (ℕ → ℕ) → Type 0
 AreLinked T before after =
     (j k : ℕ) (a b : Tile) → T j ≡ Some a → T k ≡ Some b → AreNeighbours a b → (after j ≡ k) × (before k ≡ j)
@@ -40,13 +40,13 @@ pub record IsBeside (size : ℕ → ℕ) (x : ℕ) (nodes : Slab Node) : Type 0 
   pub at : tile_in nodes x ≡ Some tile
   pub free : tile.free ≡ true
 
--- tiles and neighbours stay
+-- tiles and neighbours are unchanged
 pub record Keeps (old new : Slab Node) : Type 0 where
   pub tiles : (k : ℕ) → tile_in new k ≡ tile_in old k
   pub before : (k : ℕ) → before_in new k ≡ before_in old k
   pub after : (k : ℕ) → after_in new k ≡ after_in old k
 
--- nothing but the neighbour before one tile changes, where the write is made
+-- only the neighbour before one tile changes, if the write is made
 pub record SetsBefore (old new : Slab Node) (there : Bool) (key value : ℕ) : Type 0 where
   pub tiles : (k : ℕ) → tile_in new k ≡ tile_in old k
   pub after : (k : ℕ) → after_in new k ≡ after_in old k
@@ -54,7 +54,7 @@ pub record SetsBefore (old new : Slab Node) (there : Bool) (key value : ℕ) : T
   pub written : there ≡ true → ContainsKey old key → before_in new key ≡ value
   pub left : there ≡ false → before_in new key ≡ before_in old key
 
--- nothing but the neighbour behind one tile
+-- only the neighbour after one tile changes
 pub record SetsAfter (old new : Slab Node) (there : Bool) (key value : ℕ) : Type 0 where
   pub tiles : (k : ℕ) → tile_in new k ≡ tile_in old k
   pub before : (k : ℕ) → before_in new k ≡ before_in old k

@@ -1,4 +1,4 @@
--- Shared chunks and the live blocks in them: what is free, where there is room, and what a grant and a return make of
+-- Shared chunks and the live blocks in them: what is free, where there is room, and how a grant and a return change
 -- them.
 use Rattle.std.specs.Prelude.{◌≡◌, ◌≢◌, ℕ, ◌+◌, ◌<◌, ◌≤◌, ◌^◌, Some, None, IsSome, IsTrue}
 use Rattle.std.specs.FinMap as map
@@ -42,7 +42,7 @@ pub record IsFreeIn (s : Space) (chunk at : ℕ) : Type 0 where
   pub inside : at < held.size
   pub unused : (slot : Slot) → IsLiveSlot s slot → slot.chunk ≡ chunk → IsIn slot.offset slot.size at → ⊥
 
--- somewhere in a held chunk there is room for a block of this size at a multiple of the alignment
+-- there is room for a block of this size, at a multiple of the alignment, in a held chunk
 abbrev pub HasPlace : Space → ℕ → ℕ → Type 0
 HasPlace s size alignment = (chunk start : ℕ) × IsListPlace (IsFreeIn s) size alignment chunk start
 
@@ -65,7 +65,7 @@ pub record BeginsChunk (s : Space) (size : ℕ) (slot : Slot) : Type 0 where
 abbrev pub with_slot : Space → Slot → Space
 with_slot s slot = record s { live = set.insert s.live slot }
 
--- one block less
+-- one block fewer
 abbrev pub without_slot : Space → Slot → Space
 without_slot s slot = record s { live = set.remove s.live slot }
 
@@ -74,7 +74,7 @@ abbrev pub with_chunk : Space → Slot → ℕ → Space
 with_chunk s slot size =
     record s { chunks = map.insert s.chunks slot.chunk (record { object = slot.object; size = size }) }
 
--- one chunk less
+-- one chunk fewer
 abbrev pub without_chunk : Space → ℕ → Space
 without_chunk s key = record s { chunks = map.remove s.chunks key }
 
@@ -110,7 +110,7 @@ pub record LiesInChunk (s : Space) (slot : Slot) : Type 0 where
   pub nonempty : 0 < slot.size
   pub inside : slot.offset + slot.size ≤ chunk.size
 
--- chunks are of objects of their own, live blocks are apart, and at most one chunk is wholly free
+-- chunks have objects of their own, live blocks are apart, and at most one chunk is wholly free
 pub record IsSoundSpace (s : Space) : Type 0 where
   pub one_object : (i k : ℕ) (c d : Chunk) → map.get s.chunks i ≡ Some c → map.get s.chunks k ≡ Some d
       → c.object ≡ d.object → i ≡ k
@@ -126,7 +126,7 @@ pub record IsSoundSpace (s : Space) : Type 0 where
 abbrev pub bytes_of : Slot → Bytes
 bytes_of slot = record { object = slot.object; offset = slot.offset; size = slot.size }
 
--- a call leaves each block that was in hand
+-- a call that takes no block keeps each block that was in hand
 abbrev pub Leaves : Space → Space → Type 0
 Leaves s new = in_hand.Leaves bytes_of s.live new.live
 
@@ -134,6 +134,6 @@ Leaves s new = in_hand.Leaves bytes_of s.live new.live
 abbrev pub Adds : Space → Space → Slot → Type 0
 Adds s new slot = in_hand.Adds bytes_of s.live new.live slot
 
--- a return takes its block away, and no other
+-- a return removes its block, and no other
 abbrev pub Removes : Space → Slot → Space → Type 0
 Removes s slot new = in_hand.Removes bytes_of s.live slot new.live

@@ -18,7 +18,7 @@ region_of t = record { chunk = t.chunk; start = t.start; end = t.end }
 abbrev pub Covers : Tile → ℕ → ℕ → Type 0
 Covers t chunk at = (t.chunk ≡ chunk) × ((t.start ≤ at) × (at < t.end))
 
--- the one ends where the other starts
+-- the first ends where the second starts
 pub record AreNeighbours (a b : Tile) : Type 0 where
   pub chunk : a.chunk ≡ b.chunk
   pub meet : a.end ≡ b.start
@@ -42,7 +42,7 @@ pub record IsTiled (size : ℕ → ℕ) (T : ℕ → Option Tile) : Type 0 where
 abbrev pub IsCalm : (ℕ → Option Tile) → Type 0
 IsCalm T = (j k : ℕ) (a b : Tile) → T j ≡ Some a → T k ≡ Some b → AreFreeNeighbours a b → ⊥
 
--- no two but with the one of this key
+-- no two touch, except with the one under this key
 abbrev pub IsCalmBut : ℕ → (ℕ → Option Tile) → Type 0
 IsCalmBut x T =
     (j k : ℕ) (a b : Tile) → j ≢ x → k ≢ x → T j ≡ Some a → T k ≡ Some b → AreFreeNeighbours a b → ⊥
@@ -70,26 +70,26 @@ IsFreeRight x T =
 
 -- What calls change.
 
--- the tile under one key becomes another, or goes
+-- the tile under one key becomes another, or is removed
 pub record Sets (T T' : ℕ → Option Tile) (x : ℕ) (o : Option Tile) : Type 0 where
   pub changed : T' x ≡ o
   pub others : (k : ℕ) → k ≢ x → T' k ≡ T k
 
--- the tiles of other chunks stay
+-- the tiles of other chunks are unchanged
 abbrev pub KeepsElsewhere : ℕ → (ℕ → Option Tile) → (ℕ → Option Tile) → Type 0
 KeepsElsewhere chunk T T' = (k : ℕ) (a : Tile) → T k ≡ Some a → a.chunk ≢ chunk → T' k ≡ Some a
 
--- the live tiles stay, and no other one is live
+-- the live tiles are unchanged, and no other one is live
 pub record KeepsLive (T T' : ℕ → Option Tile) : Type 0 where
   pub stays : (k : ℕ) (a : Tile) → IsLiveAt T k a → IsLiveAt T' k a
   pub was : (k : ℕ) (a : Tile) → IsLiveAt T' k a → IsLiveAt T k a
 
--- the same of all but that of one key
+-- the same for all but the tile under one key
 pub record KeepsOthers (T T' : ℕ → Option Tile) (x : ℕ) : Type 0 where
   pub stays : (k : ℕ) (a : Tile) → k ≢ x → IsLiveAt T k a → IsLiveAt T' k a
   pub was : (k : ℕ) (a : Tile) → k ≢ x → IsLiveAt T' k a → IsLiveAt T k a
 
--- that of one key is live no more, and the others are
+-- the tile under one key is no longer live, and the others are
 pub record GivesBack (T T' : ℕ → Option Tile) (x : ℕ) : Type 0 where
   pub stays : (k : ℕ) (a : Tile) → IsLiveAt T k a → k ≢ x → IsLiveAt T' k a
   pub was : (k : ℕ) (a : Tile) → IsLiveAt T' k a → IsLiveAt T k a × (k ≢ x)
@@ -110,7 +110,7 @@ HasRoomIn size alignment a = (a.free ≡ true) × HasRoom size alignment a.start
 abbrev pub HasRoomAt : (ℕ → Option Tile) → ℕ → ℕ → ℕ → Type 0
 HasRoomAt T size alignment k = (a : Tile) × ((T k ≡ Some a) × HasRoomIn size alignment a)
 
--- a free tile has all bytes from one on to before another
+-- one free tile has all bytes from one up to another
 pub record HasFree (T : ℕ → Option Tile) (x chunk start end : ℕ) : Type 0 where
   pub tile : Tile
   pub at : T x ≡ Some tile

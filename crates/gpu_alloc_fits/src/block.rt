@@ -1,5 +1,5 @@
-//! Blocks of chunks that are cut into exact runs. What takes one apart is no method of theirs, so that `gpu_alloc` need
-//! not give it on.
+//! Blocks of chunks that are cut into exact runs. The function that takes one apart is not a method, so `gpu_alloc`
+//! need not export it.
 
 ghost use Rattle.std.specs.Prelude.{◌≡◌};
 
@@ -7,13 +7,13 @@ use gpu_alloc_base::free_list_block::Slot;
 use gpu_alloc_types::MemoryObject;
 use std::marker::Model;
 
-/// A block, exactly as long as it was asked for. It cannot be let go, only given back to its store.
+/// A block, exactly as long as requested. It cannot be dropped, only returned to its store.
 pub struct FitBlock<M: MemoryObject> {
     memory: M,
     chunk: u64,
     offset: u64,
     size: u64,
-    // Where its store keeps it. The store confirms it, so that contracts see none.
+    // The key under which its store keeps it. The store confirms it, so contracts need not mention it.
     key: usize,
 }
 
@@ -29,8 +29,8 @@ impl<M: MemoryObject> Model for FitBlock<M> {
 }
 
 impl<M: MemoryObject> FitBlock<M> {
-    /// The block with this handle of its chunk's object, which its store keeps under this key. With any other key the
-    /// store finds it too, in a time that grows with the number of its tiles. `slot.chunk` is the key of its chunk.
+    /// A block with this handle of its chunk's object, which its store keeps under this key. With another key the store
+    /// still finds it, in time linear in its tiles. `slot.chunk` is the key of its chunk.
     #[inline(always)]
     pub fn new(memory: M, slot: Slot, key: usize) -> Self
         requires { slot.object ≡ M.object memory }
@@ -70,7 +70,7 @@ impl<M: MemoryObject> FitBlock<M> {
     }
 }
 
-/// What a block is known by.
+/// What identifies a block.
 #[inline(always)]
 pub fn slot_of<M: MemoryObject>(block: &FitBlock<M>) -> Slot
     ensures { result ≡ block.now }
@@ -89,7 +89,7 @@ pub fn key_of<M: MemoryObject>(block: &FitBlock<M>) -> usize {
     block.key
 }
 
-/// Takes a block apart, for its handle, what it was known by, and the key under which its store keeps it.
+/// Takes a block apart, into its handle, what identifies it, and the key under which its store keeps it.
 #[inline(always)]
 pub fn into_parts<M: MemoryObject>(block: FitBlock<M>) -> (M, Slot, usize)
     ensures handle { M.object result.0 ≡ block.object }

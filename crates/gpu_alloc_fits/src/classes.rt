@@ -1,5 +1,5 @@
-//! Free tiles in lists by classes of sizes: eight classes to each power of two, in units of 256 bytes. Nothing but speed
-//! rests on them: each tile that they name is looked at before it is used.
+//! Free tiles in lists by classes of sizes: eight classes to each power of two, in units of 256 bytes. Only speed
+//! depends on them: each tile that they name is looked at before it is used.
 
 ghost use Rattle.std.specs.Prelude.{◌≡◌};
 ghost use Rattle.slab.specs.Slab.{slab_len};
@@ -9,7 +9,7 @@ use crate::tile::{NONE, Node};
 use slab::Slab;
 use std::alloc::Allocator;
 
-/// How many classes there are: a tile of 4 TiB or more stands in none.
+/// How many classes there are. A tile of 4 TiB or more is in none.
 const CLASSES: usize = 256;
 
 /// The first tile of each class, and a bit for each class that has one.
@@ -20,7 +20,7 @@ pub(crate) struct Classes {
 }
 
 impl Classes {
-    /// No tile.
+    /// No tiles.
     pub(crate) fn new() -> Self {
         Classes {
             first: [NONE; 256],
@@ -28,7 +28,7 @@ impl Classes {
         }
     }
 
-    /// The first tile of a class, or no key.
+    /// The first tile of a class, or `NONE`.
     #[inline(always)]
     pub(crate) fn first(&self, class: usize) -> usize {
         match self.first.get(class) {
@@ -37,7 +37,7 @@ impl Classes {
         }
     }
 
-    /// The first class from this one on that has a tile, or no class.
+    /// The first class from this one on that has a tile, or `NONE`.
     #[inline(always)]
     pub(crate) fn filled_from(&self, class: usize) -> usize {
         let word = class >> 6;
@@ -58,7 +58,7 @@ impl Classes {
         NONE
     }
 
-    /// Makes this the first tile of a class: no key where the class has none any more.
+    /// Sets the first tile of a class: `NONE` where the class is now empty.
     #[inline(always)]
     fn set_first(&mut self, class: usize, key: usize) {
         if let Some(first) = self.first.get_mut(class) {
@@ -75,7 +75,7 @@ impl Classes {
     }
 }
 
-/// The class of a tile of this many bytes.
+/// The class of a tile of `bytes` bytes.
 #[inline(always)]
 pub(crate) fn class_of(bytes: u64) -> usize {
     let units = bytes >> 8;
@@ -86,7 +86,7 @@ pub(crate) fn class_of(bytes: u64) -> usize {
     ((shift as usize) << 3).wrapping_add((units >> (shift & 63)) as usize)
 }
 
-/// The least class all of whose tiles have this many bytes.
+/// The least class in which every tile has at least `bytes` bytes.
 #[inline(always)]
 pub(crate) fn class_above(bytes: u64) -> usize {
     let units = bytes.wrapping_add(255) >> 8;
@@ -98,7 +98,7 @@ pub(crate) fn class_above(bytes: u64) -> usize {
     ((shift as usize) << 3).wrapping_add((up >> shift) as usize)
 }
 
-/// Puts a free tile first into the list of its class.
+/// Adds a free tile at the front of the list of its class.
 #[inline(always)]
 pub(crate) fn file<A: Allocator>(nodes: &mut Slab<Node, A>, classes: &mut Classes, key: usize)
     ensures keeps { Keeps nodes.old nodes.new }
@@ -119,7 +119,7 @@ pub(crate) fn file<A: Allocator>(nodes: &mut Slab<Node, A>, classes: &mut Classe
     classes.set_first(class, key);
 }
 
-/// Takes a free tile off the list of its class.
+/// Removes a free tile from the list of its class.
 #[inline(always)]
 pub(crate) fn unfile<A: Allocator>(nodes: &mut Slab<Node, A>, classes: &mut Classes, key: usize)
     ensures keeps { Keeps nodes.old nodes.new }
@@ -144,7 +144,7 @@ pub(crate) fn unfile<A: Allocator>(nodes: &mut Slab<Node, A>, classes: &mut Clas
     }
 }
 
-/// Writes which tile stands above this one in its list.
+/// Sets the tile above this one in its list.
 #[inline(always)]
 fn set_up<A: Allocator>(nodes: &mut Slab<Node, A>, key: usize, value: usize)
     ensures keeps { Keeps nodes.old nodes.new }
@@ -156,7 +156,7 @@ fn set_up<A: Allocator>(nodes: &mut Slab<Node, A>, key: usize, value: usize)
     }
 }
 
-/// Writes which tile stands below this one in its list.
+/// Sets the tile below this one in its list.
 #[inline(always)]
 fn set_down<A: Allocator>(nodes: &mut Slab<Node, A>, key: usize, value: usize)
     ensures keeps { Keeps nodes.old nodes.new }

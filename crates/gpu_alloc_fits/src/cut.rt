@@ -13,8 +13,8 @@ use gpu_alloc_types::MemoryObject;
 use slab::Slab;
 use std::alloc::Allocator;
 
-/// Makes bytes of a free tile a live one, under its key: what the tile has before and behind them stays free. Room for
-/// two tiles was made.
+/// Turns bytes of a free tile into a live tile, under its key. What the tile has before and after them stays free. Room
+/// for two tiles was made.
 pub(crate) fn cut_out<M: MemoryObject, A: Allocator>(
     nodes: &mut Slab<Node, A>,
     classes: &mut Classes,
@@ -53,7 +53,7 @@ pub(crate) fn cut_out<M: MemoryObject, A: Allocator>(
     cut_back(nodes, classes, chunks, key, rest, end);
 }
 
-/// Frees the front of a live tile up to here, if it has bytes before here.
+/// Frees the front of a live tile, before `at`, if it has bytes there.
 #[inline(always)]
 fn cut_front<M: MemoryObject, A: Allocator>(
     nodes: &mut Slab<Node, A>,
@@ -99,7 +99,7 @@ fn cut_front<M: MemoryObject, A: Allocator>(
     file(nodes, classes, front);
 }
 
-/// Frees the back of a live tile from here on, if it has bytes from here on.
+/// Frees the back of a live tile, from `at` on, if it has bytes there.
 #[inline(always)]
 fn cut_back<M: MemoryObject, A: Allocator>(
     nodes: &mut Slab<Node, A>,

@@ -60,12 +60,12 @@ impl<M: MemoryObject> Chunk<M> {
     }
 }
 
-/// The held chunks of one memory type, cut into blocks exactly as long as asked and the free runs between them. It knows
-/// no device: chunks are handed in, and handed out when no block of theirs is live. It cannot be let go:
+/// The held chunks of one memory type, cut into blocks exactly as long as requested and the free runs between them. It
+/// knows no device: its caller hands in chunks, and gets them back when no block in them is live. It cannot be dropped:
 /// [`close`](Fits::close) ends it.
 ///
-/// Between calls the free tiles are exactly the free runs: the longest ranges of bytes that lie in a chunk and in no live
-/// block. At most one chunk is wholly free.
+/// Between calls the free tiles are exactly the free runs: the longest ranges of bytes that lie in a chunk and in no
+/// live block. At most one chunk is wholly free.
 pub struct Fits<M: MemoryObject, A: Allocator = Global> {
     chunks: Slab<Chunk<M>, A>,
     tiles: Slab<Node, A>,
@@ -93,7 +93,7 @@ impl<M: MemoryObject, A: Allocator> Model for Fits<M, A> {
 }
 
 impl<M: MemoryObject, A: Allocator + Copy> Fits<M, A> {
-    /// A store of no chunk. `alloc` gives the memory of its slabs, of which this call takes none.
+    /// A store without chunks. Its slabs take their memory from `alloc`; this call takes none.
     pub fn new(alloc: A) -> Self
         ensures empty { result.space ≡ no_space }
     {
@@ -106,10 +106,10 @@ impl<M: MemoryObject, A: Allocator + Copy> Fits<M, A> {
         }
     }
 
-    /// The free runs as ranges of their objects, by the name of their object, then by start. Each is in bytes of its
-    /// object.
+    /// The free runs as ranges of their objects, sorted by the name of their object, then by start. Each is in bytes of
+    /// its object.
     ///
-    /// The only refusal is want of host memory. Nothing changes.
+    /// The only error is want of host memory. Nothing changes.
     pub fn free_ranges(&self, alloc: A) -> Result<Vec<FreeRange, A>, AllocError>
         ensures runs { IfOk result (λ ranges. (r : Range) → Contains ranges.items r ↔ IsRunOf (self.now).space r) }
         ensures order { IfOk result (λ ranges. AreInOrder ranges.items) }
@@ -126,7 +126,7 @@ impl<M: MemoryObject, A: Allocator + Copy> Fits<M, A> {
 impl<M: MemoryObject, A: Allocator> Fits<M, A> {
     /// Makes room for one more chunk with one more block.
     ///
-    /// The only refusal is want of memory. Nothing but the room changes, after a refusal too.
+    /// The only error is want of memory. Nothing but the room changes, even after an error.
     pub fn reserve(&mut self) -> Result<(), AllocError>
         ensures room { OnOk result (HasRooms self.new) }
         ensures kept { (self.new).space ≡ (self.old).space }
@@ -135,11 +135,11 @@ impl<M: MemoryObject, A: Allocator> Fits<M, A> {
         self.tiles.reserve(3)
     }
 
-    /// Whether somewhere in a held chunk there is room for a block of this many bytes at a multiple of `align_mask + 1`.
-    /// The size has to be at least 1, and `align_mask + 1` a power of two of at most 2^63.
+    /// Whether there is room in a held chunk for a block of `size` bytes at a multiple of `align_mask + 1`. The size
+    /// must be at least 1, and `align_mask + 1` a power of two of at most 2^63.
     ///
-    /// All tiles are searched only where the lists of free tiles show none with room. What has no place is remembered
-    /// until a block comes back or a chunk comes, and a tile that a search found is tried by the next call.
+    /// All tiles are searched only where the lists of free tiles show none with room. A request without a place is
+    /// remembered until a block is returned or a chunk is added. A tile that a search found is tried by the next call.
     pub fn has_place(&mut self, size: u64, align_mask: u64) -> bool
         requires nonempty { 0 < size }
         requires alignment { IsAlignMask align_mask }
@@ -157,11 +157,11 @@ impl<M: MemoryObject, A: Allocator> Fits<M, A> {
         .is_some()
     }
 
-    /// Takes a block of exactly this many bytes, at least 1, at a multiple of `align_mask + 1`, in a free run that has
-    /// room: none where no free run has. `align_mask + 1` is a power of two of at most 2^63.
+    /// Takes a block of exactly `size` bytes, at least 1, at a multiple of `align_mask + 1`, in a free run with room.
+    /// `None` where no free run has room. `align_mask + 1` is a power of two of at most 2^63.
     ///
-    /// The only refusal is want of host memory, for tiles or for a second handle of the chunk's object, and nothing but
-    /// room changes then. Each block that a caller had in hand is live still (`leaves`). The new one is live too, and
+    /// The only error is want of host memory, for tiles or for a second handle of the chunk's object, and then nothing
+    /// but room changes. Each block that a caller had in hand is still live (`leaves`). The new one is live too, and
     /// shares no byte with any of them (`added`).
     pub fn take(&mut self, size: u64, align_mask: u64) -> Result<Option<FitBlock<M>>, AllocError>
         requires nonempty { 0 < size }
@@ -206,7 +206,7 @@ impl<M: MemoryObject, A: Allocator> Fits<M, A> {
     }
 
     /// Holds a new chunk of `memory_size` bytes, and makes a block of its first `size` bytes. `memory` and `handle` are
-    /// handles of its object. Room for both was made. It takes no memory and cannot fail.
+    /// handles of its object. Room for both was made. It allocates nothing and cannot fail.
     pub fn begin(&mut self, memory: M, handle: M, memory_size: u64, size: u64) -> FitBlock<M>
         requires same { M.object handle ≡ M.object memory }
         requires room { HasRooms self.old }
@@ -251,11 +251,12 @@ impl<M: MemoryObject, A: Allocator> Fits<M, A> {
         FitBlock::new(handle, slot, key)
     }
 
-    /// Takes a live block back, and joins it with the free runs beside it. Where its chunk is then wholly free and another
-    /// one is too, its chunk goes: its handle is answered, and its size in bytes. It takes no memory and cannot fail.
+    /// Returns a live block, and joins it with the free runs next to it. Where its chunk is then wholly free and
+    /// another one is too, its chunk is removed, and its handle is returned with its size in bytes. It allocates
+    /// nothing and cannot fail.
     ///
-    /// Each other block that a caller has in hand is live still, and may be returned next (`removed`). `looks` counts the
-    /// tiles beside the block that are looked at: at most two.
+    /// Each other block that a caller has in hand is still live, and may be returned next (`removed`). `looks` counts
+    /// the tiles next to the block that are looked at: at most two.
     pub fn give_back<L: Ledger>(
         &mut self,
         block: FitBlock<M>,
@@ -303,8 +304,8 @@ impl<M: MemoryObject, A: Allocator> Fits<M, A> {
         }
     }
 
-    /// Takes the wholly free chunk out, if there is one: a handle of its object, its size in bytes and its key. There is
-    /// at most one. It takes no memory and cannot fail.
+    /// Takes the wholly free chunk out, if there is one, and returns a handle of its object, its size in bytes and its
+    /// key. There is at most one. It allocates nothing and cannot fail.
     pub fn take_whole(&mut self) -> Option<(M, u64, usize)>
         ensures none { IfNone result (((key : ℕ) → IsWhollyFree (self.old).space key → ⊥)
             × ((self.new).space ≡ (self.old).space)) }
@@ -328,11 +329,11 @@ impl<M: MemoryObject, A: Allocator> Fits<M, A> {
         Some((memory, size, chunk))
     }
 
-    /// The live block of this span of an object and the key under which it stands, exactly where there is one. `offset`
-    /// is where it starts in the object and `size` how long it is, in bytes: any two numbers.
+    /// The live block of this span of an object and the key under which it stands, or `None` where there is none.
+    /// `offset` is where it starts in the object and `size` how long it is, in bytes: any two numbers.
     ///
-    /// The answer is the same whatever `key` is. The block's own key makes it constant time; with another key the time
-    /// grows with the number of tiles.
+    /// The answer is the same for any `key`. With the block's own key it takes constant time, and with any other time
+    /// linear in the tiles.
     #[inline(always)]
     pub fn find(&self, key: usize, object: u64, offset: u64, size: u64) -> Option<(Slot, usize)>
         ensures found { MatchOption result (IsNoLiveSpan (self.now).space object offset size)
@@ -357,10 +358,10 @@ impl<M: MemoryObject, A: Allocator> Fits<M, A> {
         self.chunks.iter()
     }
 
-    /// Adds to a list each live block, once, in no order that is told, as a buddy allocator's are listed: with its chunk's
-    /// key, and an index of 0. The time grows with the number of tiles.
+    /// Adds each live block to a list, once, in no particular order, in the form of a buddy allocator's: with its
+    /// chunk's key, and an index of 0. It takes time linear in the number of tiles.
     ///
-    /// The only refusal is want of memory, after which nothing is said of the list.
+    /// The only error is want of memory, after which nothing is known of the list.
     pub fn list_live<B: Allocator>(&self, rows: &mut Vec<Leaf, B>) -> Result<(), AllocError>
         ensures { OnOk result (AddsSlots ((self.now).space).live rows.old.items rows.new.items) }
     {
@@ -370,7 +371,7 @@ impl<M: MemoryObject, A: Allocator> Fits<M, A> {
         Ok(())
     }
 
-    /// How many times all tiles were searched for a place, modulo 2^64: about once for each chunk that comes. Tests look at
+    /// How many times all tiles were searched for a place, modulo 2^64: about once for each new chunk. Tests look at
     /// it, and no contract.
     pub fn searches(&self) -> u64 {
         self.known.searches()
@@ -383,7 +384,7 @@ impl<M: MemoryObject, A: Allocator> Fits<M, A> {
         let _ = &self.chunks;
     }
 
-    /// Ends a store of no chunk.
+    /// Ends a store without chunks.
     pub fn close(self)
         requires { map.len ((self.space).chunks) ≡ 0 }
     {
@@ -397,7 +398,7 @@ impl<M: MemoryObject, A: Allocator> Fits<M, A> {
     }
 }
 
-/// A key, but where it is this one.
+/// A key, unless it is this one.
 #[inline(always)]
 fn without(spare: Option<usize>, key: usize) -> Option<usize>
     ensures { IsWithout spare key result }
@@ -408,7 +409,7 @@ fn without(spare: Option<usize>, key: usize) -> Option<usize>
     }
 }
 
-/// Whether a tile is all of a chunk of this many bytes.
+/// Whether a tile is all of a chunk of `size` bytes.
 #[inline(always)]
 fn is_whole(tile: Tile, size: u64) -> bool
     ensures { IsTrue result ↔ (tile.start ≡ 0) × (tile.end ≡ size) }
@@ -416,7 +417,8 @@ fn is_whole(tile: Tile, size: u64) -> bool
     tile.start == 0 && tile.end == size
 }
 
-/// Lets the wholly free chunk go that is the tile of this key: a handle of its object is answered, and its size in bytes.
+/// Removes the wholly free chunk that is the tile under this key, and returns a handle of its object and its size in
+/// bytes.
 fn end<M: MemoryObject, A: Allocator>(
     chunks: &mut Slab<Chunk<M>, A>,
     tiles: &mut Slab<Node, A>,
@@ -438,7 +440,7 @@ fn end<M: MemoryObject, A: Allocator>(
     (memory, size)
 }
 
-/// The key of the tile that is the live block of this span: this one where it is, and else the one that a search finds.
+/// The key of the tile that is the live block of this span: `key` if its tile is, or else the one that a search finds.
 #[inline(always)]
 fn key_of<M: MemoryObject, A: Allocator>(
     chunks: &Slab<Chunk<M>, A>,
@@ -507,7 +509,7 @@ fn is_live_tile(tile: Tile, offset: u64, size: u64) -> bool
     !tile.free && tile.start == offset && tile.end - tile.start == size
 }
 
-/// Adds a tile to a list of blocks, where it is live. It fails only for want of memory.
+/// Adds a tile to a list of blocks if it is live. It fails only for want of memory.
 #[inline(always)]
 fn list_live<M: MemoryObject, A: Allocator, B: Allocator>(
     chunks: &Slab<Chunk<M>, A>,
@@ -532,7 +534,7 @@ fn list_live<M: MemoryObject, A: Allocator, B: Allocator>(
     Ok(())
 }
 
-/// Adds a tile to a list of ranges, where it is free. It fails only for want of memory.
+/// Adds a tile to a list of ranges if it is free. It fails only for want of memory.
 #[inline(always)]
 fn list_free<M: MemoryObject, A: Allocator, B: Allocator>(
     chunks: &Slab<Chunk<M>, A>,

@@ -1,4 +1,4 @@
-//! How a live tile is freed, and joined with the free tiles beside it.
+//! How a live tile is freed, and joined with the free tiles next to it.
 
 ghost use Rattle.std.specs.Prelude.{◌≡◌, ◌≤◌, ◌+◌, ◌↔◌, ℕ, Some, true, false, IsTrue};
 ghost use Rattle.slab.specs.Slab.{ContainsKey, get};
@@ -16,8 +16,8 @@ use slab::Slab;
 use std::alloc::Allocator;
 use std::sync::ledger::Ledger;
 
-/// Frees a live tile and joins it with the free ones beside it: its key becomes that of the joint, which is answered.
-/// `looks` counts the tiles that are looked at: two at most. It takes no memory.
+/// Frees a live tile and joins it with the free ones next to it. Its key becomes that of the joint, which is returned.
+/// `looks` counts the tiles that are looked at: at most two. It allocates nothing.
 pub(crate) fn put_back<M: MemoryObject, A: Allocator, L: Ledger>(
     nodes: &mut Slab<Node, A>,
     classes: &mut Classes,
@@ -49,7 +49,7 @@ pub(crate) fn put_back<M: MemoryObject, A: Allocator, L: Ledger>(
     joint
 }
 
-/// Looks at a tile beside a freed one, and counts that.
+/// Looks at a tile next to a freed one, and counts the look.
 #[inline(always)]
 fn look<A: Allocator, L: Ledger>(nodes: &Slab<Node, A>, other: usize, looks: &mut Steps<L>) -> Node
     requires { ContainsKey nodes.now other }
@@ -99,7 +99,7 @@ fn join_before<M: MemoryObject, A: Allocator, L: Ledger>(
     set_after(nodes, front.tile.start > 0, front.before, key);
 }
 
-/// Joins a free tile with the free one behind it, if there is one.
+/// Joins a free tile with the free one after it, if there is one.
 #[inline(always)]
 fn join_after<M: MemoryObject, A: Allocator, L: Ledger>(
     nodes: &mut Slab<Node, A>,

@@ -1,4 +1,4 @@
-//! Where a free tile with room is looked for: where the classes say, or among all tiles.
+//! How a free tile with room is found: through the classes, or among all tiles.
 
 ghost use Rattle.std.specs.Prelude.{◌≡◌, ◌↔◌, ◌+◌, ◌≤◌, ◌<◌, ℕ, None, IfSome, IsTrue, MatchOption, true, false};
 ghost use Rattle.gpu_alloc_base.specs.AlignMasks.{IsAlignMask};
@@ -25,10 +25,10 @@ pub(crate) struct Full {
 /// What earlier searches found.
 #[derive(Clone, Copy)]
 pub(crate) struct Known {
-    /// No tile has room for as much as this, until a block comes back or a chunk comes.
+    /// No tile has room for as much as this, until a block is returned or a chunk is added.
     pub(crate) full: Option<Full>,
 
-    /// The tile that a search of all tiles found last: a hint.
+    /// The tile that the last search of all tiles found: a hint.
     found: usize,
 
     /// How many searches of all tiles were made.
@@ -36,7 +36,7 @@ pub(crate) struct Known {
 }
 
 impl Known {
-    /// Nothing was looked for.
+    /// Nothing is known yet.
     pub(crate) fn new() -> Self
         ensures { result.full ≡ None }
     {
@@ -47,7 +47,7 @@ impl Known {
         }
     }
 
-    /// Whether no tile has room for a block, as an earlier search found for one that is no larger.
+    /// Whether no tile has room for a block: an earlier search found none for a block that is no larger.
     #[inline(always)]
     fn is_full(&self, size: u64, align_mask: u64) -> bool
         ensures { IsTrue result ↔ IsBeyond self.now.full size align_mask }
@@ -64,11 +64,11 @@ impl Known {
     }
 }
 
-/// How many tiles are looked at from the request's own class on, before the first class is taken all of whose tiles have
-/// room.
+/// How many tiles are looked at from the request's own class on. After them the first class is taken in which every
+/// tile has room.
 const LOOKS: usize = 4;
 
-/// Where a block of this size starts that ends where a tile does, or as little before as its alignment asks.
+/// Where a block of this size starts that ends with its tile, or as little before the end as its alignment requires.
 #[inline(always)]
 pub(crate) fn last_start(end: u64, size: u64, align_mask: u64) -> u64
     requires alignment { IsAlignMask align_mask }
@@ -89,8 +89,8 @@ fn has_room(tile: Tile, size: u64, align_mask: u64) -> bool
     tile.free && size <= tile.end && tile.start <= last_start(tile.end, size, align_mask)
 }
 
-/// The key of a free tile with room for a block of this size at a multiple of `align_mask + 1`, in bytes: none exactly
-/// where no held chunk has a place for it. What has none is remembered, and the tile that was found is.
+/// The key of a free tile with room for a block of this size at a multiple of `align_mask + 1`, in bytes, or `None`
+/// exactly where no held chunk has a place for it. It remembers a request without a place, and the tile that it finds.
 #[inline(always)]
 pub(crate) fn find_place<M: MemoryObject, A: Allocator>(
     chunks: &Slab<Chunk<M>, A>,
@@ -119,8 +119,9 @@ pub(crate) fn find_place<M: MemoryObject, A: Allocator>(
     Some(key)
 }
 
-/// The key of a free tile with room for a block of this size at a multiple of `align_mask + 1`, in bytes: none exactly
-/// where no free tile has. All tiles are searched where neither the classes nor the tile that was found last has room.
+/// The key of a free tile with room for a block of this size at a multiple of `align_mask + 1`, in bytes, or `None`
+/// exactly where no free tile has room. All tiles are searched where neither the classes nor the tile that was found
+/// last has room.
 #[inline(always)]
 fn find_room<A: Allocator>(
     nodes: &Slab<Node, A>,
@@ -140,8 +141,8 @@ fn find_room<A: Allocator>(
     }
 }
 
-/// A free tile with room, as the classes show it: one of the first four from the request's own class on, or else the first
-/// of a class all of whose tiles have room.
+/// A free tile with room, from the classes: one of the first four from the request's own class on, or the first of a
+/// class in which every tile has room.
 #[inline(always)]
 fn find_listed<A: Allocator>(
     nodes: &Slab<Node, A>,
@@ -175,7 +176,7 @@ fn find_listed<A: Allocator>(
     }
 }
 
-/// The same beyond the classes: the tile that was found last, where it has room, or one that a search finds.
+/// The same beyond the classes: the tile that was found last, if it has room, or one that a search finds.
 #[cold]
 #[inline(never)]
 fn find_beyond<A: Allocator>(

@@ -26,7 +26,7 @@ pub(crate) struct Tile {
     pub(crate) free: bool,
 }
 
-/// A tile, the keys of the tiles beside it, and its place in the list of its class while it is free.
+/// A tile, the keys of the tiles next to it, and its place in the list of its class while it is free.
 #[derive(Clone, Copy)]
 pub(crate) struct Node {
     pub(crate) tile: Tile,
@@ -44,7 +44,7 @@ pub(crate) struct Node {
     pub(crate) down: usize,
 }
 
-/// A node that stands in no list of a class.
+/// A node that is in no list of a class.
 #[inline(always)]
 pub(crate) fn unlisted(tile: Tile, before: usize, after: usize) -> Node
     ensures tile { result.tile ≡ tile }
@@ -60,7 +60,7 @@ pub(crate) fn unlisted(tile: Tile, before: usize, after: usize) -> Node
     }
 }
 
-/// Puts a node in the place of the one that stands under a key.
+/// Replaces the node under a key.
 #[inline(always)]
 pub(crate) fn put<A: Allocator>(nodes: &mut Slab<Node, A>, key: usize, node: Node)
     requires { ContainsKey nodes.old key }
@@ -71,7 +71,7 @@ pub(crate) fn put<A: Allocator>(nodes: &mut Slab<Node, A>, key: usize, node: Nod
     nodes[key] = node;
 }
 
-/// Writes which tile ends where this one starts, where `there` says that this one stands.
+/// Sets the tile that ends where this one starts, if `there` says that this one exists.
 #[inline(always)]
 pub(crate) fn set_before<A: Allocator>(
     nodes: &mut Slab<Node, A>,
@@ -90,7 +90,7 @@ pub(crate) fn set_before<A: Allocator>(
     }
 }
 
-/// Writes which tile starts where this one ends, where `there` says that this one stands.
+/// Sets the tile that starts where this one ends, if `there` says that this one exists.
 #[inline(always)]
 pub(crate) fn set_after<A: Allocator>(
     nodes: &mut Slab<Node, A>,

@@ -11,7 +11,7 @@ use Rattle.gpu_alloc_base.specs.declared.region.FreeListRegion.{FreeListRegion}
 use Rattle.gpu_alloc_freelist.specs.declared.freelist.chunks.NumberedChunk.{NumberedChunk}
 use Rattle.gpu_alloc_freelist.specs.declared.freelist.chunks.NumberedKey.{NumberedKey}
 
--- the held chunks by number, and for how many more there is room
+-- the held chunks by number, and how many more there is room for
 pub record NumberedChunks : Type 0 where
   pub held : HeldChunks
   pub room : ℕ
@@ -23,9 +23,9 @@ pub record IsWholeChunk (held : HeldChunks) (r : FreeListRegion) : Type 0 where
   pub is : map_of.get held r.chunk ≡ Some chunk
   pub end : chunk.size ≡ r.end
 
--- What the fields keep.
+-- The invariants of the fields.
 
--- rows as a finite map from their numbers to what they say
+-- a finite map from the rows' numbers to their values
 abbrev pub by_number : {T X : Type 0} → (T → ℕ) → (T → X) → List T → map_of.FinMap nat_cmp X
 by_number number value rows = map_of.from_entries (map (λ row. (number row, value row)) rows)
 
@@ -38,7 +38,7 @@ AreNumbered {T} number rows =
 abbrev pub keys_in : List NumberedKey → map_of.FinMap nat_cmp ℕ
 keys_in numbers = by_number (λ n. n.number) (λ n. n.key) numbers
 
--- the chunk that a row says, by the name of its object
+-- a row's chunk, by the name of its object
 abbrev pub chunk_of : {M : Type 0} → (M → ℕ) → NumberedChunk M → Chunk
 chunk_of object row = record { object = object row.memory; size = row.size }
 

@@ -14,11 +14,11 @@ use Rattle.gpu_alloc_base.specs.declared.region.FreeListRegion.{FreeListRegion}
 abbrev pub no_space : Space
 no_space = record { chunks = map.empty; live = set.empty; latest = 0 }
 
--- somewhere in a held chunk there is room for a block of this size at a multiple of the alignment
+-- there is room for a block of this size, at a multiple of the alignment, in a held chunk
 abbrev pub HasPlace : Space → ℕ → ℕ → Type 0
 HasPlace s size alignment = (chunk start : ℕ) × IsListPlace (IsFreeIn s) size alignment chunk start
 
--- the block is the tail of the last run that has room: all from the last aligned start that leaves the size
+-- the block is the tail of the last run with room, from the last aligned start that leaves the size
 pub record IsTail (s : Space) (size alignment : ℕ) (slot : Slot) : Type 0 where
   pub run : FreeListRegion
   pub last : IsLastWithRoom (IsFreeIn s) size alignment run
@@ -31,11 +31,11 @@ pub record IsTail (s : Space) (size alignment : ℕ) (slot : Slot) : Type 0 wher
 abbrev pub with_slot : Space → Slot → Space
 with_slot s slot = record s { live = set.insert s.live slot }
 
--- one block less
+-- one block fewer
 abbrev pub without_slot : Space → Slot → Space
 without_slot s slot = record s { live = set.remove s.live slot }
 
--- the bytes of a block, by its chunk's number: a list may be given two chunks of one object
+-- the bytes of a block, by its chunk's number: a list may get two chunks of one object
 abbrev pub chunk_bytes_of : Slot → Bytes
 chunk_bytes_of slot = record { object = slot.chunk; offset = slot.offset; size = slot.size }
 
@@ -43,15 +43,15 @@ chunk_bytes_of slot = record { object = slot.chunk; offset = slot.offset; size =
 abbrev pub AddsBlock : Space → Space → Slot → Type 0
 AddsBlock s new slot = in_hand.Adds chunk_bytes_of s.live new.live slot
 
--- each block that was in hand is left
+-- a call that takes no block keeps each block that was in hand
 abbrev pub LeavesBlocks : Space → Space → Type 0
 LeavesBlocks s new = in_hand.Leaves chunk_bytes_of s.live new.live
 
--- a return takes its block away, and no other
+-- a return removes its block, and no other
 abbrev pub RemovesBlock : Space → Slot → Space → Type 0
 RemovesBlock s slot new = in_hand.Removes chunk_bytes_of s.live slot new.live
 
--- a run that has room is looked for: a block in the last one, or none there, or no host memory for a block in one
+-- a run with room is looked for: there is a block in the last one, or no such run, or no host memory for a block in one
 abbrev pub TakesTail : {E : Type 0} → Space → ℕ → ℕ → Result (Option Slot) E → Space → Type 0
 TakesTail s size alignment (Ok None) new = (HasPlace s size alignment → ⊥) × (new ≡ s)
 TakesTail s size alignment (Ok (Some slot)) new = IsTail s size alignment slot × (new ≡ with_slot s slot)
@@ -64,7 +64,7 @@ with_chunk s object size = record s {
   latest = s.latest + 1;
 }
 
--- the tail of a chunk under that number, of which nothing is used
+-- the tail of an unused chunk under that number
 abbrev pub first_tail : Space → ℕ → ℕ → ℕ → ℕ → Slot
 first_tail s object whole size alignment = record {
   object = object;
@@ -73,7 +73,7 @@ first_tail s object whole size alignment = record {
   size = whole - tail_start size alignment whole;
 }
 
--- there is a number for one more chunk
+-- a number is left for one more chunk
 abbrev pub HasNumber : Space → Type 0
 HasNumber s = s.latest + 1 < 2 ^ 64
 
@@ -86,15 +86,15 @@ pub record IsWhollyFree (s : Space) (number : ℕ) : Type 0 where
 abbrev pub HasLastRun : Space → ℕ → Type 0
 HasLastRun s number = (r : FreeListRegion) × (IsLastRun (IsFreeIn s) r × (r.chunk ≡ number))
 
--- the chunk may go: it is wholly free, and not that of the last run where this one is kept
+-- the chunk may be released: it is wholly free, and not that of the last run if that is to be kept
 abbrev pub MayGo : Space → Bool → ℕ → Type 0
 MayGo s keep_last number = IsWhollyFree s number × (keep_last ≡ true → HasLastRun s number → ⊥)
 
--- of those that may go it has the least number
+-- it has the least number of those that may be released
 pub record IsFirstToGo (s : Space) (keep_last : Bool) (number : ℕ) : Type 0 where
   pub goes : MayGo s keep_last number
   pub least : (other : ℕ) → MayGo s keep_last other → number ≤ other
 
--- one chunk less
+-- one chunk fewer
 abbrev pub without_chunk : Space → ℕ → Space
 without_chunk s number = record s { chunks = map.remove s.chunks number }

@@ -30,11 +30,11 @@ use Rattle.gpu_alloc_base.specs.declared.free_list_block.Slot.{Slot}
 use Rattle.gpu_alloc_base.specs.declared.error.AllocationError.{AllocationError}
 use Rattle.gpu_alloc_base.specs.declared.heap.Heap.{Heap}
 
--- the size that is looked for, in whole atoms
+-- the size of a block for a request, in whole atoms
 abbrev pub rounded : Listing → Wanted → ℕ
 rounded l w = up w.size l.atom
 
--- the alignment that is used: the greater of the request's and the atom
+-- the alignment of a block: the greater of the request's and the atom
 abbrev pub alignment : Listing → Wanted → ℕ
 alignment l w = max (w.align_mask + 1) l.atom
 
@@ -45,7 +45,7 @@ chunk_size l size = grown_chunk l.next_chunk l.final_chunk size
 abbrev pub next_size : Listing → ℕ → ℕ
 next_size l size = doubled_chunk l.final_chunk size
 
--- whether the host sees the chunks
+-- whether the chunks are host-visible
 abbrev pub sees_chunks : Listing → Bool
 sees_chunks l = has_bit l.props host_visible
 
@@ -57,7 +57,7 @@ question l size flags =
 abbrev pub listing_with_slot : Listing → Slot → Listing
 listing_with_slot l slot = record l { space = with_slot l.space slot }
 
--- one more chunk is held, with a block that is its tail
+-- one more chunk is held, with a block at its tail
 abbrev pub in_new_chunk : Account Listing → ℕ → ℕ → ℕ → Account Listing
 in_new_chunk a object size alignment =
     let l = a.allocator in
@@ -98,8 +98,8 @@ case_of a w = list_case a (rounded a.allocator w) (alignment a.allocator w) w.fl
 abbrev pub Allocates : Account Listing → Wanted → List Event → Result Slot AllocationError → Account Listing → Type 0
 Allocates a w es answer new = Answers (case_of a w) es answer new
 
--- What a call answers, by what it has before and after it: the allocator, the heap, and how many more objects may be
--- held. The one is asked for what is wanted, the other for a block of the rounded size.
+-- What a call answers, from the allocator, the heap and the number of objects that may still be held, before and after
+-- it. The first takes the request, the second a block of the rounded size.
 abbrev pub CallAllocates : Listing → Heap → ℕ → Wanted → Result Slot AllocationError → Listing → Heap → ℕ → List Event
     → Type 0
 CallAllocates l heap remaining w answer new new_heap new_remaining es =
@@ -111,17 +111,17 @@ CallAnswers l heap remaining size alignment flags answer new new_heap new_remain
     Answers (list_case (account l heap remaining) size alignment (allocation_bits flags)) es answer
     (account new new_heap new_remaining)
 
--- Chunks that go.
+-- Chunks that are released.
 
 abbrev pub AreRisingNumbers : List ℕ → Type 0
 AreRisingNumbers numbers = (i j d : ℕ) → i < j → j < length numbers → get_or numbers i d < get_or numbers j d
 
--- These chunks go, in rising number: all that may.
+-- These chunks are released, in rising number: all that may be.
 pub record AreGone (s : Space) (keep_last : Bool) (gone : List ℕ) : Type 0 where
   pub rising : AreRisingNumbers gone
   pub all : (number : ℕ) → Contains gone number ↔ MayGo s keep_last number
 
--- what a number says of its chunk's size, 0 where none is held under it
+-- the size of the chunk under a number, 0 where no chunk is held there
 abbrev pub size_in : Option Chunk → ℕ
 size_in None = 0
 size_in (Some chunk) = chunk.size
@@ -136,7 +136,7 @@ abbrev pub without_numbers : map.FinMap nat_cmp Chunk → List ℕ → map.FinMa
 without_numbers chunks [] = chunks
 without_numbers chunks (number ∷ numbers) = without_numbers (map.remove chunks number) numbers
 
--- their objects go back to the device in this order
+-- their objects are released in this order
 abbrev pub LetsGo : Account Listing → List ℕ → List Event → Account Listing → Type 0
 LetsGo a gone es new =
     (es ≡ list.map (λ number. Deallocated (object_of a.allocator.space number)) gone)
@@ -147,22 +147,22 @@ LetsGo a gone es new =
       remaining = a.remaining + length gone;
     })
 
--- the same of the device's objects
+-- the same for the device's objects
 abbrev pub without_objects_of : Space → (ℕ → Option Object) → List ℕ → ℕ → Option Object
 without_objects_of s objects [] = objects
 without_objects_of s objects (number ∷ numbers) = without_objects_of s (put objects (object_of s number) None) numbers
 
--- the block is live no more
+-- the block is no longer live
 abbrev pub account_without : Account Listing → Slot → Account Listing
 account_without a slot = record a { allocator = record a.allocator { space = without_slot a.allocator.space slot } }
 
--- A block comes back, and then every wholly free chunk goes but that of the last run.
+-- A block is returned, and then every wholly free chunk is released except that of the last run.
 abbrev pub Frees : Account Listing → Slot → List Event → Account Listing → Type 0
 Frees a slot es new =
     (gone : List ℕ)
     × (AreGone (without_slot a.allocator.space slot) true gone × LetsGo (account_without a slot) gone es new)
 
--- every wholly free chunk goes
+-- every wholly free chunk is released
 abbrev pub Cleans : Account Listing → List Event → Account Listing → Type 0
 Cleans a es new = (gone : List ℕ) × (AreGone a.allocator.space false gone × LetsGo a gone es new)
 
@@ -194,30 +194,30 @@ pub record IsGranted (old : Listing) (w : Wanted) (new : Listing) (slot : Slot) 
 abbrev pub Agrees : Listing → Properties → (ℕ → Option Object) → Type 0
 Agrees l p objects = accounts.Agrees l.memory_type l.props l.space.chunks p objects
 
--- what a request makes of the device's objects
+-- how a request changes the device's objects
 abbrev pub ObjectsAfter : Listing → Result Slot AllocationError → Listing → (ℕ → Option Object) → (ℕ → Option Object)
     → Type 0
 ObjectsAfter l answer after old new =
     accounts.ObjectsAfter (λ slot. slot.chunk) (λ slot. slot.object) l.memory_type l.props l.space.chunks answer
     after.space.chunks old new
 
--- what a return makes of them: the chunks that go with it
+-- how a return changes them: by the chunks that are released with it
 abbrev pub ObjectsFreed : Listing → Slot → (ℕ → Option Object) → (ℕ → Option Object) → Type 0
 ObjectsFreed l slot old new =
     (gone : List ℕ) × (AreGone (without_slot l.space slot) true gone × (new ≡ without_objects_of l.space old gone))
 
--- and what is given back without one
+-- and by those that are released without a return
 abbrev pub ObjectsCleaned : Listing → (ℕ → Option Object) → (ℕ → Option Object) → Type 0
 ObjectsCleaned l old new = (gone : List ℕ) × (AreGone l.space false gone × (new ≡ without_objects_of l.space old gone))
 
--- The chunks go one by one, each the first that may, until none may.
+-- The chunks are released one by one, each the first that may be, until none may be.
 abbrev pub GivesBack : Bool → Account Listing → List ℕ → List Event → Account Listing → (ℕ → Option Object)
     → (ℕ → Option Object) → Type 0
 GivesBack keep_last a gone es new old_objects new_objects =
     AreGone a.allocator.space keep_last gone
     × (LetsGo a gone es new × (new_objects ≡ without_objects_of a.allocator.space old_objects gone))
 
--- so a call gives them back, and the device is asked so
+-- a call releases them so, with the matching calls of the device
 abbrev pub CallGivesBack : {D : Type 0} → (D → Event → D → Type 0) → (D → ℕ → Option Object) → D → D → Bool
     → Account Listing → Account Listing → Type 0
 CallGivesBack step objects old_device new_device keep_last a new =
@@ -240,14 +240,14 @@ pub record IsRunOf (s : Space) (r : FreeRange) : Type 0 where
 abbrev pub bytes_of : Slot → Bytes
 bytes_of slot = record { object = slot.object; offset = slot.offset; size = slot.size }
 
--- what was given to `new` and decides what may be asked, which no call changes
+-- what was given to `new` and decides which requests are valid, which no call changes
 pub record KeepsSettings (l new : Listing) : Type 0 where
   pub final_chunk : new.final_chunk ≡ l.final_chunk
   pub memory_type : new.memory_type ≡ l.memory_type
   pub props : new.props ≡ l.props
   pub atom : new.atom ≡ l.atom
 
--- a call leaves each block that was in hand
+-- a call that takes no block keeps each block that was in hand
 abbrev pub Leaves : Listing → Listing → Type 0
 Leaves l new = in_hand.Leaves bytes_of l.space.live new.space.live
 
@@ -255,7 +255,7 @@ Leaves l new = in_hand.Leaves bytes_of l.space.live new.space.live
 abbrev pub Adds : Listing → Listing → Slot → Type 0
 Adds l new slot = in_hand.Adds bytes_of l.space.live new.space.live slot
 
--- a return takes its block away, and no other
+-- a return removes its block, and no other
 abbrev pub Removes : Listing → Slot → Listing → Type 0
 Removes l slot new = in_hand.Removes bytes_of l.space.live slot new.space.live
 
@@ -265,7 +265,7 @@ HoldsNothing memory_type props l =
     (l.memory_type ≡ memory_type) × (l.props ≡ props)
     × in_hand.HoldsNothing memory_type props l.space.live l.space.chunks
 
--- what a cleanup leaves: the live blocks, and where there are none, no chunk
+-- what a cleanup leaves: the live blocks, and no chunk where there are none
 abbrev pub LeavesNoRest : Listing → Listing → Type 0
 LeavesNoRest l new =
     (new.space.live ≡ l.space.live) × in_hand.LeavesNoRest l.space.live new.space.chunks

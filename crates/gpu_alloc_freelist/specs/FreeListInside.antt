@@ -1,4 +1,4 @@
--- What the fields of a free list and of its allocator keep.
+-- The invariants of the fields of a free list and of its allocator.
 use Rattle.std.specs.Prelude.{◌≡◌, ℕ, ◌+◌, ◌/◌, ◌<◌, ◌≤◌, Bool, true, List, length, min, get_or}
 use Rattle.std.specs.FinSet as set
 use Rattle.gpu_alloc_base.specs.Accounts.{HeldChunks}
@@ -14,7 +14,7 @@ use Rattle.gpu_alloc_base.specs.declared.region.FreeListRegion.{FreeListRegion}
 abbrev pub space_in : HeldChunks → set.FinSet slot_cmp → ℕ → Space
 space_in chunks live latest = record { chunks = chunks; live = live; latest = latest }
 
--- For how many more chunks with a block each there is room, by what three stores can still take: each brings a chunk, a
+-- How many more chunks with a block each there is room for, by what three stores can still take: each brings a chunk, a
 -- block and up to two runs.
 abbrev pub room_for : ℕ → ℕ → ℕ → ℕ
 room_for chunks live runs = min chunks (min live (runs / 2))
@@ -22,8 +22,8 @@ room_for chunks live runs = min chunks (min live (runs / 2))
 abbrev pub store_in : Space → ℕ → Store
 store_in space room = record { space = space; room = room }
 
--- The regions are the free runs, there is room for a run more with each of so many live blocks, and so many runs are
--- whole chunks.
+-- The regions are the free runs, there is room for one more run for each live block, and `counted` runs are whole
+-- chunks.
 pub record IsListed (s : Space) (regions : List FreeListRegion) (live spare counted : ℕ) : Type 0 where
   pub sound : IsSoundSpace s
   pub runs : AreRuns regions (IsFreeIn s)
@@ -40,16 +40,16 @@ listing_in space next_chunk final_chunk memory_type props atom = record {
   atom = atom;
 }
 
--- a largest chunk has room for the request: some bytes, no more than its own, at an alignment no less than the atom
+-- the largest chunk has room for the request: some bytes, no more than its own, at an alignment no less than the atom
 pub record FitsAChunk (l : Listing) (size align_mask : ℕ) : Type 0 where
   pub nonempty : 0 < size
   pub fits : size ≤ l.final_chunk
   pub alignment : IsAlignMask align_mask
   pub aligned : l.atom ≤ align_mask + 1
 
--- How a chunk is found that goes.
+-- How a chunk to release is found.
 
--- the run at this place is a whole chunk, and not the last run where that is kept
+-- the run at this place is a whole chunk, and not the last run if that is to be kept
 pub record MayBeTaken (held : HeldChunks) (regions : List FreeListRegion) (keep_last : Bool) (d : FreeListRegion) (i : ℕ)
     : Type 0 where
   pub within : i < length regions

@@ -22,7 +22,7 @@ pub record IsSoundSpace (s : Space) : Type 0 where
   pub apart : (x y : Slot) → IsLiveSlot s x → IsLiveSlot s y → x.chunk ≡ y.chunk → (at : ℕ) → IsIn x.offset x.size at
       → IsIn y.offset y.size at → x ≡ y
 
--- chunks are of objects of their own and no larger than the largest, and chunks and blocks are of whole atoms
+-- chunks have objects of their own and are no larger than the largest, and chunks and blocks have whole atoms
 pub record IsSound (l : Listing) : Type 0 where
   pub space : IsSoundSpace l.space
   pub one_object : (k n : ℕ) (c d : Chunk) → map.get l.space.chunks k ≡ Some c → map.get l.space.chunks n ≡ Some d

@@ -1,4 +1,4 @@
--- What a free list holds and has given out, and what its allocator keeps beside it.
+-- What a free list holds and has given out, and what its allocator keeps besides.
 use Rattle.std.specs.Prelude.{◌≡◌, ℕ, ◌<◌, Some, IsTrue}
 use Rattle.std.specs.FinMap as map
 use Rattle.std.specs.FinSet as set
@@ -14,7 +14,7 @@ pub record Space : Type 0 where
   pub live : set.FinSet slot_cmp
   pub latest : ℕ
 
--- A free list: its space, and for how many more chunks with a block each there is room.
+-- A free list: its space, and how many more chunks with a block each there is room for.
 pub record Store : Type 0 where
   pub space : Space
   pub room : ℕ

@@ -6,13 +6,13 @@ use Rattle.gpu_alloc_base.specs.SlabViews.{set_by, HasOneKeyEach}
 use Rattle.gpu_alloc_base.specs.Slots.{slot_cmp}
 use Rattle.gpu_alloc_base.specs.declared.free_list_block.Slot.{Slot}
 
--- the live blocks, how many they are, and for how many more there is room
+-- the live blocks, how many they are, and how many more there is room for
 pub record LiveBlocks : Type 0 where
   pub slots : set.FinSet slot_cmp
   pub count : ℕ
   pub room : ℕ
 
--- the blocks of a slab, under whatever keys
+-- the blocks of a slab, under any keys
 abbrev pub slots_in : Slab Slot → set.FinSet slot_cmp
 slots_in slots = set_by (λ slot. slot) slots
 

@@ -6,7 +6,7 @@ use Rattle.gpu_alloc_base.specs.Accounts.{HeldChunks}
 use Rattle.gpu_alloc_base.specs.Chunks.{Chunk}
 use Rattle.gpu_alloc_base.specs.declared.region.FreeListRegion.{FreeListRegion}
 
--- the chunk is so large
+-- the chunk has this size
 abbrev pub has_size : Option Chunk → ℕ → Bool
 has_size None size = false
 has_size (Some chunk) size = chunk.size == size
@@ -15,6 +15,6 @@ has_size (Some chunk) size = chunk.size == size
 abbrev pub is_whole : HeldChunks → FreeListRegion → Bool
 is_whole held r = (r.start == 0) && has_size (map.get held r.chunk) r.end
 
--- how many runs do
+-- how many runs are whole chunks
 abbrev pub wholes : HeldChunks → List FreeListRegion → ℕ
 wholes held regions = count_by (is_whole held) regions

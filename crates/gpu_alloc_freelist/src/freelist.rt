@@ -51,10 +51,10 @@ use std::alloc::{AllocError, Allocator, Global};
 use std::marker::{Brand, Model};
 use std::sync::ledger::{Blank, Ledger};
 
-/// Gives out blocks of shared chunks of one memory type. It cannot be let go: [`close`](FreeListAllocator::close) ends
+/// Gives out blocks of shared chunks of one memory type. It cannot be dropped: [`close`](FreeListAllocator::close) ends
 /// it.
 ///
-/// Between calls each held chunk is of an object of its own, of at most 2^62 bytes. Each live block lies whole in its
+/// Between calls each held chunk has an object of its own, of at most 2^62 bytes. Each live block lies inside its
 /// chunk, and no two of them share a byte. Chunks and blocks begin and end at multiples of the atom.
 pub struct FreeListAllocator<M: MemoryObject, A: Allocator = Global> {
     freelist: FreeList<M, A>,
@@ -87,14 +87,14 @@ impl<M: MemoryObject, A: Allocator> Model for FreeListAllocator<M, A> {
 
 impl<M: MemoryObject, A: Allocator + Copy> FreeListAllocator<M, A> {
     /// An allocator that holds nothing, for a memory type with these properties. Each size is in bytes and a multiple
-    /// of `atom_mask + 1`, which is a power of two of at most 2^62: the first chunk has at least `starting_chunk_size`,
-    /// which is at least one atom, and none has more than `final_chunk_size`, which is no less and at most 2^62. (The
+    /// of `atom_mask + 1`, which is a power of two of at most 2^62. The first chunk has at least `starting_chunk_size`,
+    /// which is at least one atom. None has more than `final_chunk_size`, which is no less and at most 2^62. (The
     /// original crate asserts the multiples.)
     ///
-    /// `alloc` gives the memory of its lists, of which this call takes none.
+    /// Its lists take their memory from `alloc`; this call takes none.
     ///
-    /// Nothing is held or live (`empty`): by [`agrees_at_first`](crate::laws::agrees_at_first) a caller learns that
-    /// the allocator agrees with a device that offers the memory type.
+    /// Nothing is held or live (`empty`). By [`agrees_at_first`](crate::laws::agrees_at_first) a caller knows that the
+    /// allocator agrees with a device that offers the memory type.
     pub fn new(
         alloc: A,
         starting_chunk_size: u64,
@@ -125,11 +125,11 @@ impl<M: MemoryObject, A: Allocator + Copy> FreeListAllocator<M, A> {
         }
     }
 
-    /// The free ranges of the held chunks: the longest ranges of bytes that lie in a chunk and in no live block, by the
-    /// name of their object, then by start. Each is in bytes of its object. There are no more of them than live blocks and
-    /// held chunks together (`few`).
+    /// The free ranges of the held chunks: the longest ranges of bytes that lie in a chunk and in no live block. They
+    /// are sorted by the name of their object, then by start. Each is in bytes of its object. There are no more of them
+    /// than live blocks and held chunks together (`few`).
     ///
-    /// The only refusal is want of host memory. Nothing changes.
+    /// The only error is want of host memory. Nothing changes.
     pub fn free_ranges(&self) -> Result<Vec<FreeRange, A>, AllocError>
         ensures runs { IfOk result (λ ranges. (r : Range) → Contains ranges.items r ↔ IsRunOf (self.now).space r) }
         ensures order { IfOk result (λ ranges. AreInOrder ranges.items) }
@@ -151,33 +151,38 @@ impl<M: MemoryObject, A: Allocator + Copy> FreeListAllocator<M, A> {
 }
 
 impl<M: MemoryObject, A: Allocator> FreeListAllocator<M, A> {
-    /// Allocates a block of at least `size` bytes at a multiple of `align_mask + 1`: the tail of the last free run with
-    /// room for it, or, where none has, of a new chunk that the device is asked for with these flags.
+    /// Allocates a block of at least `size` bytes at a multiple of `align_mask + 1`. It is the tail of the last free
+    /// run with room for it. Where no run has room, it is the tail of a new chunk that the device is asked for with
+    /// these flags.
     ///
     /// The size is rounded up to whole atoms, and the alignment is the greater of the request's and the atom. The block
-    /// is all from the last aligned byte that leaves the rounded size to the end of its run. Runs are ordered by chunk,
-    /// the oldest first, then by start. A new chunk has the size that the allocator has come to: at first the starting
-    /// one, and after each chunk twice that chunk, cut at the final size. Where that is below the rounded size, it is
-    /// its least product with a power of two that suffices, cut at the final size too. (All this is the original
-    /// crate's rule.) A chunk that the host sees is mapped whole. `heap` is the ledger of the memory type's heap, to
-    /// which a chunk is added, and `allocations_remains` how many more objects may be held, which a chunk lowers.
+    /// begins at the last aligned byte that leaves the rounded size, and ends with its run. Runs are ordered by chunk,
+    /// the oldest first, then by start. A new chunk has the allocator's next size: at first the starting one, and after
+    /// each chunk twice that chunk, cut at the final size. Where that is below the rounded size, it is its least
+    /// product with a power of two that suffices, cut at the final size too. (All this is the original crate's rule.) A
+    /// chunk is mapped whole where it is host-visible. `heap` is the ledger of the memory type's heap, to which a chunk
+    /// is added. `allocations_remains` is how many more objects may be held, which a chunk lowers.
     ///
-    /// The size has to be at least 1, and at most the final size when it is rounded; `align_mask + 1` a power of two of
-    /// at most 2^63, the address flag set only where the device has the feature, and the device the one that this
-    /// allocator has served: it has the memory type with the properties given to `new`, and each held chunk.
+    /// The size must be at least 1, and rounded at most the final size. `align_mask + 1` must be a power of two of at
+    /// most 2^63. The address flag may be set only where the device has the feature. The device must be the one that
+    /// this allocator has served: it has the memory type with the properties given to `new`, and each held chunk.
     ///
-    /// Refusals, after which all is as before: `TooManyObjects` where a chunk is wanted and no more objects may be
-    /// held, or 2^64 - 1 chunks were made; `OutOfDeviceMemory` where a chunk is wanted that `heap` has no room for
-    /// (`Heap::fits`), of which the device is not asked, and where the device answers so; `OutOfHostMemory` where the
-    /// host's memory is refused to the allocator or to the device, and where a chunk cannot be mapped for another
-    /// reason. A chunk that was made is given back then. A block in a held chunk is given whatever `heap` counts.
+    /// Errors, after which nothing has changed, and a chunk that was made is released:
     ///
-    /// `heap` has to count no less than the sum of the held chunks; what remains and the number of held chunks have to
-    /// fit 32 bits together. Both is so again after the call. The ledger never passes the greater of what it was and the
-    /// heap's limit (`ledger`).
+    /// - `TooManyObjects` where a chunk is needed and no more objects may be held, or 2^64 - 1 chunks were made
+    /// - `OutOfDeviceMemory` where a chunk is needed that `heap` has no room for (`Heap::fits`; the device is then not
+    ///   asked), and where the device gives that answer
+    /// - `OutOfHostMemory` where the allocator or the device lacks host memory, and where a chunk cannot be mapped for
+    ///   another reason.
     ///
-    /// Each block that a caller had in hand is live still (`leaves`). The new one is live too, and shares no byte with
-    /// any of them (`added`). What may be asked next is what might be asked before (`settings`).
+    /// A block in a held chunk is given whatever `heap` counts.
+    ///
+    /// `heap` must count no less than the sum of the held chunks, and how many more objects may be held plus the number
+    /// of held chunks must fit 32 bits. Both hold again after the call. The ledger never exceeds the greater of its old
+    /// value and the heap's limit (`ledger`).
+    ///
+    /// Each block that a caller had in hand is still live (`leaves`). The new one is live too, and shares no byte with
+    /// any of them (`added`). The same requests as before are valid next (`settings`).
     pub fn alloc<D: ObjectDevice<M>>(
         &mut self,
         device: &mut D,
@@ -195,7 +200,7 @@ impl<M: MemoryObject, A: Allocator> FreeListAllocator<M, A> {
         requires agrees { Agrees self.old (D.properties device.old) (D.objects device.old) }
         requires counted { IsCounted (self.old).space.chunks heap.old allocations_remains.old }
 
-        // What was asked of the device, the answer, and what changed.
+        // The calls of the device, the answer, and what changed.
         ensures allocates { Asked D.step device.old device.new
             (CallAllocates self.old heap.old allocations_remains.old (requested size align_mask flags) result
             self.new heap.new allocations_remains.new) }
@@ -221,13 +226,12 @@ impl<M: MemoryObject, A: Allocator> FreeListAllocator<M, A> {
         self.alloc_rounded(device, size, align_mask, flags, heap, allocations_remains)
     }
 
-    /// The refusal that `alloc` gives such a request before it takes any memory or asks anything: `TooManyObjects`
-    /// where a chunk is wanted and no more objects may be held, or no number is left for it, and else
-    /// `OutOfDeviceMemory` where a chunk is wanted that `heap` has no room for (`Heap::fits`). None where it goes
-    /// further. It takes no memory.
+    /// The error that `alloc` gives such a request before it takes any memory or asks anything, or `None` where it goes
+    /// further. Where a chunk is needed, it is `TooManyObjects` if no more objects may be held or no number is left,
+    /// and otherwise `OutOfDeviceMemory` if `heap` has no room for the chunk (`Heap::fits`). It allocates nothing.
     ///
-    /// The size has to be at least 1, and at most the final size when it is rounded; `align_mask + 1` a power of two of
-    /// at most 2^63, as of `alloc`.
+    /// As for `alloc`, the size must be at least 1 and rounded at most the final size, and `align_mask + 1` a power of
+    /// two of at most 2^63.
     pub fn refuses(
         &self,
         size: u64,
@@ -242,7 +246,7 @@ impl<M: MemoryObject, A: Allocator> FreeListAllocator<M, A> {
             → RefusesFirst (case_of (account self.now heap.now allocations_remains) (wanted size align_mask flags))
             result }
     {
-        // (a heap with room for a largest chunk has room for any: most requests need no more than this test)
+        // (a heap with room for the largest chunk has room for any: most requests need no more than this test)
         if allocations_remains > 0
             && self.freelist.has_number()
             && heap.fits(self.final_chunk_size)
@@ -254,18 +258,18 @@ impl<M: MemoryObject, A: Allocator> FreeListAllocator<M, A> {
         self.refuses_rounded(size, used_mask, heap, allocations_remains)
     }
 
-    /// Takes a block back, and joins it with the free runs beside it. Then each chunk in which no block is live goes
-    /// back to the device, but not the chunk in which the last run lies (the original crate's rule), and the oldest
-    /// first (in the original crate in no certain order): `heap` is lowered by its size, and one more object may be
-    /// held. It takes no memory and cannot fail.
+    /// Returns a block, and joins it with the free runs next to it. Then each chunk without a live block is released,
+    /// the oldest first (in the original crate in no particular order). Only the chunk with the last run is kept (the
+    /// original crate's rule). For each, `heap` is lowered by its size, and one more object may be held. It allocates
+    /// nothing and cannot fail.
     ///
-    /// The block has to be live here, by its object, chunk, offset and size, and the device the one that this allocator
-    /// has served. `heap` has to count no less than the sum of the held chunks; what remains and the number of held
-    /// chunks have to fit 32 bits together. Both is so again after the call.
+    /// The block must be live here, by its object, chunk, offset and size. The device must be the one that this
+    /// allocator has served. `heap` must count no less than the sum of the held chunks, and how many more objects may
+    /// be held plus the number of held chunks must fit 32 bits. Both hold again after the call.
     ///
-    /// One list of numbers tells what was asked of the device and what it has left (`gives`). Each other block that a
-    /// caller has in hand is live still, and may be returned next (`removed`). The settings stay (`settings`), and the
-    /// ledger does not grow (`ledger`).
+    /// One list of numbers says both what was asked of the device and what it no longer has (`gives`). Each other block
+    /// that a caller has in hand is still live, and may be returned next (`removed`). The settings stay (`settings`),
+    /// and the ledger does not grow (`ledger`).
     pub fn dealloc<D: ObjectDevice<M>>(
         &mut self,
         device: &mut D,
@@ -298,14 +302,14 @@ impl<M: MemoryObject, A: Allocator> FreeListAllocator<M, A> {
         self.give_back(device, true, heap, allocations_remains);
     }
 
-    /// Gives each chunk in which no block is live back to the device, the oldest first: `heap` is lowered by its size,
-    /// and one more object may be held. It takes no memory and cannot fail.
+    /// Releases each chunk without a live block, the oldest first: `heap` is lowered by its size, and one more object
+    /// may be held. It allocates nothing and cannot fail.
     ///
-    /// The device has to be the one that this allocator has served. `heap` has to count no less than the sum of the
-    /// held chunks; what remains and the number of held chunks have to fit 32 bits together. Both is so again after the
-    /// call.
+    /// The device must be the one that this allocator has served. `heap` must count no less than the sum of the held
+    /// chunks, and how many more objects may be held plus the number of held chunks must fit 32 bits. Both hold again
+    /// after the call.
     ///
-    /// Each block that a caller has in hand is live still (`leaves`). Where no block is live, no chunk is held
+    /// Each block that a caller has in hand is still live (`leaves`). Where no block is live, no chunk is held
     /// afterwards (`rest`), and [`close`](FreeListAllocator::close) may be called without a test. The settings stay
     /// (`settings`), and the ledger does not grow (`ledger`).
     pub fn cleanup<D: ObjectDevice<M>>(
@@ -338,15 +342,15 @@ impl<M: MemoryObject, A: Allocator> FreeListAllocator<M, A> {
         self.give_back(device, false, heap, allocations_remains);
     }
 
-    /// The held chunks, each once, in no order that is told. It is public for `gpu_alloc`.
+    /// The held chunks, each once, in no particular order. It is public for `gpu_alloc`.
     pub fn chunks(&self) -> Iter<'_, NumberedChunk<M>>
         ensures { ListsChunks M.object (self.now).space.chunks result }
     {
         self.freelist.chunks()
     }
 
-    /// The live blocks, each once, in no order that is told. What stands beside each is its key, of which no contract
-    /// speaks. It is public for `gpu_alloc`.
+    /// The live blocks, each once, in no particular order, with their keys, which no contract mentions. It is public
+    /// for `gpu_alloc`.
     pub fn slots(&self) -> Iter<'_, Slot>
         ensures { ListsSlots (self.now).space.live result }
     {
@@ -355,8 +359,8 @@ impl<M: MemoryObject, A: Allocator> FreeListAllocator<M, A> {
 
     /// Whether a block is live here: by its object, chunk, offset and size. It is public for `gpu_alloc`.
     ///
-    /// The answer is the same whatever the key is. The key that the block carries makes it fast: another one costs a
-    /// search of the live blocks.
+    /// The answer is the same for any key. The key that the block carries makes it fast; any other costs a search of
+    /// the live blocks.
     pub fn is_live(&self, key: usize, slot: Slot) -> bool
         ensures { IsTrue result ↔ IsLiveSlot (self.now).space slot }
     {
@@ -378,13 +382,13 @@ impl<M: MemoryObject, A: Allocator> FreeListAllocator<M, A> {
         freelist.close();
     }
 
-    /// Whether so many bytes in whole atoms are no more than a largest chunk, so that `alloc` takes a request of that
-    /// size, if it is at least 1. It is public for `gpu_alloc`.
+    /// Whether `size` bytes in whole atoms fit the largest chunk, so that `alloc` accepts a request of that size, if it
+    /// is at least 1. It is public for `gpu_alloc`.
     #[inline(always)]
     pub fn fits_a_chunk(&self, size: u64) -> bool
         ensures { result ≡ nat_le (up size (self.now).atom) (self.now).final_chunk }
     {
-        // (a largest chunk is of whole atoms itself)
+        // (the largest chunk has whole atoms already)
         size <= self.final_chunk_size
     }
 
@@ -432,8 +436,8 @@ impl<M: MemoryObject, A: Allocator> FreeListAllocator<M, A> {
         }
     }
 
-    /// The refusal that `alloc_rounded` gives first. (It stands apart, since most requests need no more than the test of
-    /// a largest chunk.)
+    /// The error that `alloc_rounded` would give first. (It stands apart, since most requests need no more than the
+    /// test of the largest chunk.)
     #[cold]
     #[inline(never)]
     fn refuses_rounded(
@@ -456,8 +460,8 @@ impl<M: MemoryObject, A: Allocator> FreeListAllocator<M, A> {
         Some(refusal)
     }
 
-    /// Why the device may not be asked for a chunk with a block of this size: nothing remains, no number is left for it,
-    /// or the heap has no room for it. None where it may.
+    /// Why the device may not be asked for a chunk with a block of this size, or `None` where it may. No more objects
+    /// may be held, no number is left, or the heap has no room for the chunk.
     fn refuses_chunk(
         &self,
         size: u64,
@@ -538,8 +542,8 @@ impl<M: MemoryObject, A: Allocator> FreeListAllocator<M, A> {
             .min(self.final_chunk_size)
     }
 
-    /// Gives wholly free chunks back to the device, but not that of the last run where this one is kept. (Most returns
-    /// leave none, and learn that from a count.)
+    /// Releases wholly free chunks, except that of the last run if it is to be kept. (Most returns leave no such chunk,
+    /// and see that from a count.)
     #[inline(always)]
     fn give_back<D: ObjectDevice<M>>(
         &mut self,
@@ -567,7 +571,7 @@ impl<M: MemoryObject, A: Allocator> FreeListAllocator<M, A> {
     }
 }
 
-/// Takes a block back into a list, and counts nothing.
+/// Returns a block to a list, and counts nothing.
 fn insert_uncounted<M: MemoryObject, A: Allocator, L: Ledger>(
     freelist: &mut FreeList<M, A>,
     block: FreeListBlock<M>,

@@ -1,4 +1,4 @@
-//! The free list and its allocator for one memory type, on the device that is handed to its calls. Users find them in
+//! The free list and its allocator for one memory type, on the device that its calls get. Users find them in
 //! `gpu_alloc::freelist`.
 #![tactic(auto)]
 

@@ -1,5 +1,5 @@
--- Which halves are live blocks, by their spans: the object of the chunk, where the block starts in it, and the order of its
--- length.
+-- Which halves are live blocks, by their spans: the object of the chunk, where the block starts in it, and the order of
+-- its length.
 use Rattle.std.specs.Prelude.{◌≡◌, ℕ, ◌+◌, ◌^◌, ◌<◌, Some}
 use Rattle.std.specs.FinMap as finite
 use Rattle.slab.specs.Slab.{Slab, ContainsKey, get}
@@ -17,7 +17,7 @@ pub record IsBlock (order : ℕ) (e : Entry) (start : ℕ) (side : Side) : Type 
   pub taken : use_of e side ≡ Taken
   pub starts : half_start (2 ^ order) e.offset side ≡ start
 
--- one of the two is
+-- one of the pair's two halves is
 abbrev pub HasBlock : ℕ → Entry → ℕ → Type 0
 HasBlock order e start = (side : Side) × IsBlock order e start side
 

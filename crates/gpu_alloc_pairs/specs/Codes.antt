@@ -1,4 +1,4 @@
--- How the values that contracts see are stored.
+-- How contracts see these values.
 use Rattle.std.specs.Prelude.{◌≡◌, ℕ, Bool, true, false, Option, refl}
 use Rattle.std.specs.Prelude.{List}
 use Rattle.std.specs.Coded.{Coded, code_by, coded×, coded_ℕ, coded_bool, coded_list, coded_option}

@@ -1,5 +1,5 @@
--- What is seen of a pair: where it lies, what it divides, and what its halves are used for. Its place in a ring is not
--- seen.
+-- What contracts see of a pair: where it lies, what it divides, and what its halves are used for. They do not see its
+-- place in a ring.
 use Rattle.std.specs.Prelude.{ℕ, ◌+◌, Bool, true, false, Option}
 use Rattle.gpu_alloc_pairs.specs.declared.pair.Pair.{Pair}
 use Rattle.gpu_alloc_pairs.specs.declared.pair.Parent.{Parent}
@@ -22,7 +22,7 @@ abbrev pub use_of : Entry → Side → Use
 use_of e Left = e.left
 use_of e Right = e.right
 
--- one half is used otherwise
+-- one half is used for something else
 abbrev pub with_use : Entry → Side → Use → Entry
 with_use e Left now = record e { left = now }
 with_use e Right now = record e { right = now }
@@ -31,7 +31,7 @@ abbrev pub other_side : Side → Side
 other_side Left = Right
 other_side Right = Left
 
--- what a half that is not free is used for
+-- the use of a half that is not free
 abbrev pub taken_as : Bool → Use
 taken_as true = Divided
 taken_as false = Taken
@@ -41,7 +41,7 @@ abbrev pub half_start : ℕ → ℕ → Side → ℕ
 half_start length offset Left = offset
 half_start length offset Right = offset + length
 
--- A stored pair as it is seen.
+-- A stored pair as contracts see it.
 
 abbrev pub use_in : State → Side → Bool → Use
 use_in Exhausted side divided = taken_as divided

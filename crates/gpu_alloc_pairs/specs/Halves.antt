@@ -1,4 +1,4 @@
--- The halves that are used so, in a list: by length, then by key, and the left one first.
+-- The halves of one use, in a list: by length, then by key, and the left one first.
 use Rattle.std.specs.Prelude.{ℕ, ◌+◌, ◌^◌, Bool, true, false, List, [], ◌∷◌, ◌++◌, map, cond}
 use Rattle.std.specs.List.{flat_map}
 use Rattle.std.specs.FinMap as finite
@@ -39,7 +39,7 @@ half_at order key e side = record {
   side = side;
 }
 
--- this half of a pair, where it is used so
+-- this half of a pair, if it has this use
 abbrev pub half_used : Use → ℕ → ℕ → Entry → Side → List HalfAt
 half_used now order key e side = cond (same_use (use_of e side) now) (half_at order key e side ∷ []) []
 

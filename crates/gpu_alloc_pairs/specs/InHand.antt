@@ -1,4 +1,4 @@
--- Pairs as a half of one is used otherwise, or one comes or goes; and what is in hand meanwhile.
+-- How pairs change when a half of one gets another use, or one is added or removed, and what is in hand meanwhile.
 use Rattle.std.specs.Prelude.{◌≡◌, ◌≢◌, ◌⊎◌, ℕ, ◌^◌, Bool, Option, Some, None}
 use Rattle.std.specs.FinMap as map
 use Rattle.gpu_alloc_base.specs.Accounts.{HeldChunks}
@@ -15,13 +15,13 @@ use Rattle.gpu_alloc_pairs.specs.declared.pair.Use.TheVariants.{Free, Taken, Div
 
 -- One pair changes.
 
--- a half is used otherwise
+-- a half gets another use
 pub record SetsHalf (P Q : Pairs) (order key : ℕ) (side : Side) (e : Entry) (now : Use) : Type 0 where
   pub was : P order key ≡ Some e
   pub there : Q order key ≡ Some (with_use e side now)
   pub others : (n k : ℕ) → (n ≡ order → k ≡ key → ⊥) → Q n k ≡ P n k
 
--- a pair comes; the other way round one goes
+-- a pair is added; read backwards, one is removed
 pub record AddsPair (P Q : Pairs) (order key : ℕ) (e : Entry) : Type 0 where
   pub vacant : P order key ≡ None
   pub there : Q order key ≡ Some e
@@ -52,14 +52,14 @@ pub record IsSplitting (P : Pairs) (s : Space) (z : Piece) (o : Option Parent) :
   pub hand : IsHandAt P s.chunks z o
   pub beside : IsBeside (IsReady P) (IsFreeAt s) z
 
--- the half is in hand, as one to be divided or as a block, and not free any more
+-- the half is in hand, to be divided or as a block, and no longer free
 pub record IsTakenOut (Q : Pairs) (s : Space) (z : Piece) (key : ℕ) (side : Side) (d : Bool) : Type 0 where
   pub tree : IsTree Q s.chunks
   pub half : IsHalf Q z key side (taken_as d)
   pub whole : IsUndivided Q z.order key side
   pub beside : IsBeside (IsReady Q) (IsFreeAt s) z
 
--- the half is in hand and comes back: it is not free, and no pair divides it
+-- the half is in hand and is being released: it is not free, and no pair divides it
 pub record IsReturning (P : Pairs) (s : Space) (z : Piece) (key : ℕ) (side : Side) : Type 0 where
   pub tree : IsTree P s.chunks
   pub now : Use
@@ -82,12 +82,12 @@ pub record IsTakenMore (P Q : Pairs) (z : Piece) (key : ℕ) (side : Side) : Typ
   pub cases : (p : Piece) (k : ℕ) (a : Side) → IsHalf Q p k a Taken
       → ((p ≡ z) × ((k ≡ key) × (a ≡ side))) ⊎ IsHalf P p k a Taken
 
--- those of the one that are not this piece are those of the other that are not that piece
+-- the live blocks of the first other than this piece are those of the second other than that piece
 pub record IsTakenBeside (P Q : Pairs) (z w : Piece) : Type 0 where
   pub to : (p : Piece) (k : ℕ) (a : Side) → IsHalf P p k a Taken → p ≢ z → IsHalf Q p k a Taken × (p ≢ w)
   pub from : (p : Piece) (k : ℕ) (a : Side) → IsHalf Q p k a Taken → p ≢ w → IsHalf P p k a Taken × (p ≢ z)
 
--- those of the one that are not this piece are those of the other
+-- the live blocks of the first other than this piece are those of the second
 pub record IsTakenLess (P Q : Pairs) (z : Piece) : Type 0 where
   pub to : (p : Piece) (k : ℕ) (a : Side) → IsHalf P p k a Taken → p ≢ z → IsHalf Q p k a Taken
   pub from : (p : Piece) (k : ℕ) (a : Side) → IsHalf Q p k a Taken → IsHalf P p k a Taken × (p ≢ z)

@@ -8,7 +8,7 @@ use Rattle.gpu_alloc_pairs.specs.declared.pair.Side.{Side}
 use Rattle.gpu_alloc_pairs.specs.declared.pair.Use.{Use}
 use Rattle.gpu_alloc_pairs.specs.declared.pair.Use.TheVariants.{Free}
 
--- the half is used so
+-- the half has this use
 pub record IsUsedAs (pairs : Slab Entry) (key : ℕ) (side : Side) (now : Use) : Type 0 where
   pub entry : Entry
   pub at : get pairs key ≡ Some entry
@@ -20,7 +20,7 @@ pub record IsInUse (pairs : Slab Entry) (key : ℕ) (side : Side) : Type 0 where
   pub at : get pairs key ≡ Some entry
   pub used : use_of entry side ≢ Free
 
--- a half that is free, with where its pair lies
+-- a free half, with where its pair lies
 pub record IsReadyHalf (pairs : Slab Entry) (h : Half) : Type 0 where
   pub entry : Entry
   pub at : get pairs h.key ≡ Some entry
@@ -28,20 +28,20 @@ pub record IsReadyHalf (pairs : Slab Entry) (h : Half) : Type 0 where
   pub chunk : h.chunk ≡ entry.chunk
   pub offset : h.offset ≡ entry.offset
 
--- a half is used otherwise, and nothing else changes
+-- a half gets another use, and nothing else changes
 pub record SetsUse (old new : Slab Entry) (key : ℕ) (side : Side) (now : Use) : Type 0 where
   pub entry : Entry
   pub at : get old key ≡ Some entry
   pub updates : Updates old new key (Some (with_use entry side now))
 
--- a half is free, and its pair stays, since the other half is not
+-- a half becomes free, and its pair stays, since the other half is not free
 pub record Frees (old new : Slab Entry) (key : ℕ) (side : Side) : Type 0 where
   pub entry : Entry
   pub at : get old key ≡ Some entry
   pub other : use_of entry (other_side side) ≢ Free
   pub updates : Updates old new key (Some (with_use entry side Free))
 
--- a pair goes, since its other half is free
+-- a pair is removed, since its other half is free
 pub record Merges (old new : Slab Entry) (key : ℕ) (side : Side) (w : Whole) : Type 0 where
   pub entry : Entry
   pub at : get old key ≡ Some entry

@@ -1,4 +1,4 @@
--- What is done to pairs of all lengths.
+-- What happens to pairs of all lengths.
 use Rattle.std.specs.Prelude.{◌≡◌, ◌≢◌, ℕ, ◌+◌, ◌-◌, ◌^◌, ◌≤◌, ◌<◌, Bool, List, false, map, slice_index_or, Option, Some, None}
 use Rattle.std.specs.FinMap as finite
 use Rattle.slab.specs.Slab.{Slab, HasRoomFor}
@@ -57,20 +57,20 @@ pub record IsFound (P : Pairs) (order : ℕ) (f : Found) : Type 0 where
   pub half : IsFreeHalf P f.order f.half
   pub first : FindsNoneUpTo P order f.order
 
--- each length is looked at, from this order up to the one in which a half is found, or else to the last
+-- each length is looked at once, from this order up to the one in which a half is found, or else to the last
 abbrev pub LooksUpTo : ℕ → Option Found → ℕ → ℕ → Type 0
 LooksUpTo order None old new = new + order ≡ old + 63
 LooksUpTo order (Some f) old new = new + order ≡ old + f.order + 1
 
--- only the room of pairs changes
+-- only the room for pairs changes
 abbrev pub HasSameSlots : List (Slab Entry) → List (Slab Entry) → Type 0
 HasSameSlots old new = map (λ s. s.slots) new ≡ map (λ s. s.slots) old
 
--- shorter pairs stay as they are, with the room for more
+-- shorter pairs are unchanged, with the room for more
 abbrev pub KeepsShorter : List (Slab Entry) → List (Slab Entry) → ℕ → Type 0
 KeepsShorter old new order = (n : ℕ) → n < order → slice_index_or new n no_pairs ≡ slice_index_or old n no_pairs
 
--- there is room for one pair more of each order from the first up to the second
+-- there is room for one more pair of each order from the first up to the second
 abbrev pub HasRoomsFor : List (Slab Entry) → ℕ → ℕ → Type 0
 HasRoomsFor lengths low high = (n : ℕ) → low ≤ n → n < high → HasRoomFor (slice_index_or lengths n no_pairs) 1
 
@@ -80,7 +80,7 @@ pub record HasPair (P : Pairs) (order key : ℕ) (side : Side) : Type 0 where
   pub at : P order key ≡ Some entry
   pub used : use_of entry side ≢ Free
 
--- A half came back: it is free, since the other half is not; or its pair went, since the other half is free.
+-- A half was released: it is free, since the other half is not; or its pair was removed, since the other half is free.
 abbrev pub Releases : Pairs → Pairs → ℕ → ℕ → Side → Option Whole → Type 0
 Releases P Q order key side None =
     (e : Entry) × (SetsHalf P Q order key side e Free × (use_of e (other_side side) ≢ Free))
@@ -106,7 +106,7 @@ pub record IsFrontTaken (P Q : Pairs) (s : Space) (order : ℕ) (front : Front) 
   pub out : IsTakenOut Q s (piece_of front order) front.key side false
   pub more : IsTakenMore P Q (piece_of front order) front.key side
 
--- A half comes back, whatever blocks are live beside it.
+-- A half may be released, whatever other blocks are live.
 
 pub record ComesBack (P : Pairs) (order key : ℕ) (side : Side) : Type 0 where
   pub space : Space
@@ -114,7 +114,7 @@ pub record ComesBack (P : Pairs) (order key : ℕ) (side : Side) : Type 0 where
   pub of_order : piece.order ≡ order
   pub returning : IsReturning P space piece key side
 
--- it is free then, and the other live blocks are the same
+-- it is then free, and the other live blocks are the same
 pub record IsFreeAgain (P Q : Pairs) (s : Space) (z : Piece) : Type 0 where
   pub tree : IsTree Q s.chunks
   pub canonical : IsCanonical (IsReady Q) (IsFreeAt s)
@@ -137,7 +137,7 @@ abbrev pub GoesWhole : Pairs → Pairs → ℕ → ℕ → Side → ℕ → Type
 GoesWhole P Q order key side chunk =
     (s : Space) (z : Piece) → z.order ≡ order → IsReturning P s z key side → IsWholeAgain P Q s z chunk
 
--- at most as many sides are given back as there are doublings from the half to its chunk
+-- at most as many halves are released as there are doublings from the half to its chunk
 abbrev pub FewReleases : Pairs → ℕ → ℕ → Side → ℕ → ℕ → Type 0
 FewReleases P order key side old new =
     (s : Space) (z : Piece) → z.order ≡ order → IsReturning P s z key side → (chunk : Chunk)

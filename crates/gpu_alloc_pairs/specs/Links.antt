@@ -1,4 +1,4 @@
--- The ring of the ready pairs of a slab, and what the writes of its links change.
+-- The ring of the ready pairs of a slab, and what changes when its links are written.
 use Rattle.std.specs.Prelude.{◌≡◌, ◌≢◌, ℕ, Option, Some, None, IsSome, IfSome, IfNone, option_map}
 use Rattle.slab.specs.Slab.{Slab, get, slab_len, Updates}
 use Rattle.gpu_alloc_pairs.specs.Entry.{entry_of}
@@ -48,7 +48,7 @@ pub record IsLinked (pairs : Slab Pair) (first : Option ℕ) : Type 0 where
   pub first_on : IfSome first (IsOn pairs)
   pub first_none : IfNone first ((key : ℕ) → IsOn pairs key → ⊥)
 
--- no more than links change: the same halves are free, and the pairs are seen as before
+-- only links change: the same halves are free, and contracts see the same pairs
 pub record KeepsPairs (old new : Slab Pair) : Type 0 where
   pub free : (key : ℕ) → free_of (get new key) ≡ free_of (get old key)
   pub entries : (key : ℕ) → option_map entry_of (get new key) ≡ option_map entry_of (get old key)
@@ -56,21 +56,21 @@ pub record KeepsPairs (old new : Slab Pair) : Type 0 where
   pub vacant_key : new.vacant_key ≡ old.vacant_key
   pub capacity : new.capacity ≡ old.capacity
 
--- nothing but the next one of one pair changes
+-- only the next pair of one pair changes
 pub record SetsNext (old new : Slab Pair) (key value : ℕ) : Type 0 where
   pub at : next_in new key ≡ value
   pub next_else : (other : ℕ) → other ≢ key → next_in new other ≡ next_in old other
   pub prev_same : (other : ℕ) → prev_in new other ≡ prev_in old other
   pub keeps : KeepsPairs old new
 
--- nothing but the previous one of one pair changes
+-- only the previous pair of one pair changes
 pub record SetsPrev (old new : Slab Pair) (key value : ℕ) : Type 0 where
   pub at : prev_in new key ≡ value
   pub prev_else : (other : ℕ) → other ≢ key → prev_in new other ≡ prev_in old other
   pub next_same : (other : ℕ) → next_in new other ≡ next_in old other
   pub keeps : KeepsPairs old new
 
--- once this pair, or none, stands at the key and the others stay, the ready pairs form a ring
+-- once this pair, or none, stands at the key and the others are unchanged, the ready pairs form a ring
 abbrev pub IsLinkedWith : Slab Pair → ℕ → (Option Pair → Type 0) → Option ℕ → Type 0
 IsLinkedWith pairs key Fits first =
     (later : Slab Pair) (slot : Option Pair) → Updates pairs later key slot → Fits slot → IsLinked later first
@@ -84,7 +84,7 @@ IsOfState state (Some p) = p.state ≡ state
 abbrev pub IsOff : Option Pair → Type 0
 IsOff slot = free_of slot ≡ None
 
--- one pair becomes another, which suits it, and nothing else changes
+-- one pair becomes another that suits it, and nothing else changes
 pub record SetsPair (old new : Slab Pair) (key : ℕ) (Suits : Pair → Pair → Type 0) : Type 0 where
   pub before : Pair
   pub was : get old key ≡ Some before

@@ -1,7 +1,7 @@
 -- A ring of keys: each has a next and a previous one, and from each key the next ones lead to every other.
 use Rattle.std.specs.Prelude.{◌≡◌, ℕ, zero, suc}
 
--- so many steps from a key on
+-- the key that is this many steps after a key
 abbrev pub steps : (ℕ → ℕ) → ℕ → ℕ → ℕ
 steps next zero key = key
 steps next (suc count) key = steps next count (next key)

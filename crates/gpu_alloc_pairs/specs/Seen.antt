@@ -1,4 +1,4 @@
--- The pairs of a slab as they are seen.
+-- The pairs of a slab as contracts see them.
 use Rattle.std.specs.Prelude.{map, option_map}
 use Rattle.slab.specs.Slab.{Slab}
 use Rattle.gpu_alloc_pairs.specs.Entry.{Entry, entry_of}

@@ -1,5 +1,5 @@
--- Shared chunks and the live blocks in them: what is free, where there is room for a block, and what a grant and a
--- return make of them.
+-- Shared chunks and the live blocks in them: what is free, where there is room for a block, and how a grant and a
+-- return change them.
 use Rattle.std.specs.Prelude.{◌≡◌, ℕ, ◌+◌, ◌^◌, ◌<◌, ◌≤◌, Some, None, IsTrue}
 use Rattle.std.specs.FinMap as map
 use Rattle.std.specs.FinSet as set
@@ -35,7 +35,7 @@ pub record IsFreeAt (s : Space) (chunk at : ℕ) : Type 0 where
   pub inside : at < held.size
   pub unused : (leaf : Leaf) → IsLiveLeaf s leaf → leaf.chunk ≡ chunk → IsIn leaf.offset leaf.size at → ⊥
 
--- somewhere in a held chunk there is room for a block of this size
+-- there is room for a block of this size in a held chunk
 abbrev pub HasPlace : Space → ℕ → Type 0
 HasPlace s size = (chunk start : ℕ) × IsPlace (IsFreeAt s) chunk start size
 
@@ -75,11 +75,11 @@ IsUnusedChunk s chunk = (leaf : Leaf) → IsLiveLeaf s leaf → (leaf.chunk ≡ 
 abbrev pub IsUsedChunk : Space → ℕ → Type 0
 IsUsedChunk s key = (leaf : Leaf) × (IsLiveLeaf s leaf × (leaf.chunk ≡ key))
 
--- one block less
+-- one block fewer
 abbrev pub without_leaf : Space → Leaf → Space
 without_leaf s leaf = record s { live = set.remove s.live leaf }
 
--- one block less, and its chunk
+-- one block fewer, and its chunk
 abbrev pub without_chunk : Space → Leaf → Space
 without_chunk s leaf = record { chunks = map.remove s.chunks leaf.chunk; live = set.remove s.live leaf }
 
@@ -92,7 +92,7 @@ pub record LiesInChunk (s : Space) (leaf : Leaf) : Type 0 where
   pub aligned : IsMultipleOf leaf.size leaf.offset
   pub inside : leaf.offset + leaf.size ≤ chunk.size
 
--- chunks are of objects of their own, with a live block each, and live blocks are apart
+-- chunks have objects of their own, with a live block each, and live blocks are apart
 pub record IsSoundSpace (s : Space) : Type 0 where
   pub one_object : (k l : ℕ) (c d : Chunk) → map.get s.chunks k ≡ Some c → map.get s.chunks l ≡ Some d
       → c.object ≡ d.object → k ≡ l

@@ -1,4 +1,4 @@
--- What is stored of chunks and pairs, as contracts see it.
+-- Stored chunks and pairs, as contracts see them.
 use Rattle.std.specs.Prelude.{◌≡◌, ℕ, ◌+◌, ◌-◌, ◌*◌, ◌^◌, ◌<◌, ◌≤◌, ◌==◌, List, length, map, slice_index_or, count_by}
 use Rattle.std.specs.Prelude.{◌⊎◌, Option, Some, None, Result, Ok, Err, ◌↔◌}
 use Rattle.std.specs.FinMap as finite
@@ -49,7 +49,7 @@ pub record KeepsStore (old new : Store) : Type 0 where
   pub space : new.space ≡ old.space
   pub free : new.free ≡ old.free
 
--- there is room for one pair more of each order from the first up to the second, and for a chunk
+-- there is room for one more pair of each order from the first up to the second, and for a chunk
 pub record HasRooms (s : Store) (low high : ℕ) : Type 0 where
   pub chunk : 0 < s.chunk_room
   pub pairs : (n : ℕ) → low ≤ n → n < high → 0 < slice_index_or s.rooms n 0
@@ -59,7 +59,7 @@ pub record IsExact (s : Store) : Type 0 where
   pub pieces : (p : Piece) → Contains s.free p ↔ IsFreePiece (IsFreeAt s.space) p.chunk p.start (2 ^ p.order)
   pub once : IsDistinct same_place s.free
 
--- of each length there are no more free pieces than live blocks
+-- no length has more free pieces than live blocks
 abbrev pub AreFew : Store → Type 0
 AreFew s = (order : ℕ) → count_by (λ p. p.order == order) s.free ≤ set.len (s.space).live
 

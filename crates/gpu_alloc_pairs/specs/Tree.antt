@@ -23,7 +23,7 @@ no_pairs = record { slots = []; vacant_key = 0; capacity = 0 }
 abbrev pub pair_at : List (Slab Entry) → Pairs
 pair_at lengths order key = get (slice_index_or lengths order no_pairs) key
 
--- the piece is this half of the pair under the key, and is used so
+-- the piece is this half of the pair under the key, and has this use
 pub record IsHalf (pairs : Pairs) (p : Piece) (key : ℕ) (side : Side) (now : Use) : Type 0 where
   pub entry : Entry
   pub pair : pairs p.order key ≡ Some entry
@@ -68,7 +68,7 @@ pub record LiesIn (chunks : HeldChunks) (order : ℕ) (e : Entry) : Type 0 where
   pub held : map.get chunks e.chunk ≡ Some chunk
   pub inside : e.offset + 2 ^ (order + 1) ≤ chunk.size
 
--- each pair is its whole chunk or divides a half, and no two of a length lie at one place
+-- each pair is its whole chunk or divides a half, and no two of a length lie at the same place
 pub record IsTree (pairs : Pairs) (chunks : HeldChunks) : Type 0 where
   pub placed : (order key : ℕ) (e : Entry) → pairs order key ≡ Some e → IsPlaced pairs chunks order e e.parent
   pub aligned : (order key : ℕ) (e : Entry) → pairs order key ≡ Some e → IsMultipleOf (2 ^ (order + 1)) e.offset

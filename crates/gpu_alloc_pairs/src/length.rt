@@ -33,7 +33,7 @@ pub struct Half {
     pub offset: u64,
 }
 
-/// A range whose two halves are free.
+/// A range whose two halves are both free.
 #[derive(Clone, Copy)]
 pub struct Whole {
     /// The key of the chunk.
@@ -42,11 +42,11 @@ pub struct Whole {
     /// Where it starts in the chunk, in bytes.
     pub offset: u64,
 
-    /// The half that it is, one length up, or none where it is its whole chunk.
+    /// The half that it is, one length up, or `None` where it is its whole chunk.
     pub parent: Option<Parent>,
 }
 
-/// The pairs whose halves have one length. Each has a key, which stays its own until it goes.
+/// The pairs whose halves have one length. Each keeps its key until it is removed.
 #[derive(Drop)]
 pub struct Length<A: Allocator = Global> {
     pairs: Slab<Pair, A>,
@@ -71,7 +71,7 @@ impl<A: Allocator> Model for Length<A> {
 }
 
 impl<A: Allocator + Copy> Length<A> {
-    /// No pair at all. `alloc` gives the memory of the pairs, of which this call takes none.
+    /// No pairs. They take their memory from `alloc`; this call takes none.
     pub fn new(alloc: A) -> Self
         ensures empty { result.slots ≡ [] }
         ensures none { (key : ℕ) → get result key ≡ None }
@@ -84,7 +84,7 @@ impl<A: Allocator + Copy> Length<A> {
 }
 
 impl<A: Allocator> Length<A> {
-    /// Makes room for one more pair. The pairs stay as they are, also where there is no memory.
+    /// Makes room for one more pair. The pairs are unchanged, even where there is no memory.
     pub fn reserve(&mut self) -> Result<(), AllocError>
         ensures room { OnOk result (HasRoomFor self.new 1) }
         ensures kept { self.new ≡ record self.old { capacity = (self.new).capacity } }
@@ -119,7 +119,7 @@ impl<A: Allocator> Length<A> {
         &self.pairs
     }
 
-    /// Takes a free half, as one that a pair divides or as a live block. Only its key and its side matter.
+    /// Takes a free half, to be divided by a pair or as a live block. Only its key and its side matter.
     pub fn take(&mut self, half: Half, divided: bool)
         requires ready { IsReadyHalf self.old half }
         ensures sets { SetsUse self.old self.new half.key half.side (taken_as divided) }
@@ -133,8 +133,8 @@ impl<A: Allocator> Length<A> {
         exhaust(&mut self.pairs, half.key, half.side, divided);
     }
 
-    /// Adds a pair whose right half is free, where `reserve` made room, and answers its key. The left half is one that
-    /// a pair divides or a live block. `offset` is where it starts in the chunk, in bytes.
+    /// Adds a pair whose right half is free, where `reserve` made room, and returns its key. The left half is divided
+    /// by a pair or a live block. `offset` is where it starts in the chunk, in bytes.
     pub fn add(&mut self, chunk: usize, offset: u64, parent: Option<Parent>, divided: bool) -> usize
         requires room { HasRoomFor self.old 1 }
         ensures vacant { get self.old result ≡ None }
@@ -161,8 +161,8 @@ impl<A: Allocator> Length<A> {
         })
     }
 
-    /// Gives back a half that is in use. Where the other half is free too the pair goes, and the range of both is
-    /// answered.
+    /// Releases a half that is in use. Where the other half is free too, the pair is removed, and the range of both is
+    /// returned.
     pub fn release(&mut self, key: usize, side: Side) -> Option<Whole>
         requires used { IsInUse self.old key side }
         ensures freed { IfNone result (Frees self.old self.new key side) }
@@ -190,8 +190,8 @@ impl<A: Allocator> Length<A> {
         }
     }
 
-    /// Pushes each free half as a piece of 2^order bytes, by the keys of their pairs. Each right half starts below
-    /// 2^64. The only refusal is want of memory: some of the pieces are then pushed.
+    /// Pushes each free half as a piece of 2^order bytes, by the keys of their pairs. Each right half must start below
+    /// 2^64. The only error is want of memory: some of the pieces are then pushed.
     pub fn list_free<B: Allocator>(
         &self,
         order: u32,
@@ -222,7 +222,7 @@ fn exhaust<A: Allocator>(pairs: &mut Slab<Pair, A>, key: usize, side: Side, divi
     pairs[key].exhaust(side, divided);
 }
 
-/// Gives a pair this state.
+/// Sets the state of a pair.
 #[inline(always)]
 fn set_state<A: Allocator>(pairs: &mut Slab<Pair, A>, key: usize, state: State)
     requires there { ContainsKey pairs.old key }

@@ -1,4 +1,4 @@
-//! The pairs of all lengths: a free half is looked for, taken and split, and comes back.
+//! The pairs of all lengths: how a free half is found, taken, split and released.
 
 ghost use Rattle.std.specs.Prelude.{◌≡◌, ◌≤◌, ◌<◌, ◌+◌, ◌^◌, ℕ, OnOk, IfOk, Some, None, IfSome, IfNone, length, slice_index_or, false};
 ghost use Rattle.slab.specs.Slab.{HasRoomFor};
@@ -66,8 +66,7 @@ fn look<A: Allocator, L: Ledger>(
     lengths[order as usize].first()
 }
 
-/// Divides the half in hand: a pair comes below it, whose right half is free. Answers its key. Each split is counted
-/// here.
+/// Divides the half in hand into a pair whose right half is free. Returns its key. Each split is counted here.
 fn split<A: Allocator, K: Ledger>(
     lengths: &mut Lengths<A>,
     hand: Hand,
@@ -87,7 +86,7 @@ fn split<A: Allocator, K: Ledger>(
     lengths[order as usize].add(hand.chunk, hand.offset, Some(hand.parent), divided)
 }
 
-/// Gives a half back to its pair. Each release is counted here.
+/// Releases a half of a pair. Each release is counted here.
 fn release<A: Allocator, K: Ledger>(
     lengths: &mut Lengths<A>,
     order: u32,
@@ -105,7 +104,7 @@ fn release<A: Allocator, K: Ledger>(
     lengths[order as usize].release(key, side)
 }
 
-/// A free half of the first length from this order on that has one.
+/// A free half of the first length from `order` on that has one.
 pub fn find<A: Allocator, L: Ledger>(
     lengths: &[Length<A>],
     order: u32,
@@ -125,7 +124,7 @@ pub fn find<A: Allocator, L: Ledger>(
     None
 }
 
-/// Makes room for one pair more of each order from `low` up to `high`. No pair changes, after a refusal too.
+/// Makes room for one more pair of each order from `low` up to `high`. No pair changes, even after an error.
 pub fn make_room<A: Allocator>(
     lengths: &mut Lengths<A>,
     low: u32,
@@ -141,8 +140,7 @@ pub fn make_room<A: Allocator>(
     Ok(())
 }
 
-/// Divides a half in hand again and again, until its front has this order: that is the left half of the pair whose key
-/// is answered.
+/// Divides a half in hand until its front has this order: the left half of the pair whose key it returns.
 fn split_down<A: Allocator, K: Ledger>(
     lengths: &mut Lengths<A>,
     hand: Hand,
@@ -188,7 +186,7 @@ pub struct Front {
     pub key: usize,
 }
 
-/// Takes a free half, or where it is longer its front of this order.
+/// Takes a free half, or its front of this order where it is longer.
 pub fn take_front<A: Allocator, K: Ledger>(
     lengths: &mut Lengths<A>,
     found: Found,
@@ -252,7 +250,7 @@ fn start_of(half: Half, order: u32) -> u64
     }
 }
 
-/// Takes a free half, as one that a pair divides or as a live block.
+/// Takes a free half, to be divided by a pair or as a live block.
 fn take<A: Allocator>(lengths: &mut Lengths<A>, order: u32, half: Half, divided: bool)
     requires in_range { order < length lengths.old.items }
     requires free { IsFreeHalf (pair_at lengths.old.items) order half }
@@ -263,7 +261,7 @@ fn take<A: Allocator>(lengths: &mut Lengths<A>, order: u32, half: Half, divided:
     lengths[order as usize].take(half, divided);
 }
 
-/// Divides a new chunk again and again, until its front has this order: answers the key of its pair.
+/// Divides a new chunk until its front has this order. Returns the key of the front's pair.
 pub fn begin<A: Allocator, K: Ledger>(
     lengths: &mut Lengths<A>,
     chunk: usize,
@@ -298,7 +296,7 @@ pub fn begin<A: Allocator, K: Ledger>(
     split_down(lengths, hand, order, splits)
 }
 
-/// Divides a new chunk into two halves of this order, of which the right one is free: answers the key of that pair.
+/// Divides a new chunk into two halves of this order, of which the right one is free. Returns the key of that pair.
 fn halve<A: Allocator>(lengths: &mut Lengths<A>, chunk: usize, order: u32, divided: bool) -> usize
     requires in_range { order < length lengths.old.items }
     requires room { HasRoomFor (slice_index_or lengths.old.items order no_pairs) 1 }
@@ -310,8 +308,8 @@ fn halve<A: Allocator>(lengths: &mut Lengths<A>, chunk: usize, order: u32, divid
     lengths[order as usize].add(chunk, 0, None, divided)
 }
 
-/// Gives a half back. Where the other half of its pair is free too, the half that the pair divides is given back next,
-/// and so on: a chunk that is free as a whole is answered by its key.
+/// Releases a half. Where the other half of its pair is free too, the half that the pair divides is released next, and
+/// so on. Returns the key of the chunk if it is then wholly free.
 pub fn put_back<A: Allocator, K: Ledger>(
     lengths: &mut Lengths<A>,
     order: u32,

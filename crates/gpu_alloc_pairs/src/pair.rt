@@ -15,20 +15,20 @@ pub enum Side {
     Right,
 }
 
-/// What a half is used for. Of the two halves of a pair one at most is free.
+/// What a half is used for. Of a pair's two halves at most one is free.
 #[derive(Clone, Copy)]
 pub enum Use {
     /// Nothing.
     Free,
 
-    /// It is a live block.
+    /// A live block.
     Taken,
 
-    /// A pair one length down has it as its parent.
+    /// The parent of a pair one length down.
     Divided,
 }
 
-/// The half, one length up, that a pair divides.
+/// The half that a pair divides: a half of a pair one length up.
 #[derive(Clone, Copy)]
 pub struct Parent {
     /// The key of its pair.
@@ -38,7 +38,7 @@ pub struct Parent {
     pub side: Side,
 }
 
-/// Whether a half of a pair is free, and then the pair's place in the ring of the ready pairs of its length.
+/// Whether a half of a pair is free, and if so the pair's place in the ring of ready pairs of its length.
 #[derive(Clone, Copy)]
 pub enum State {
     /// No half is free.
@@ -52,7 +52,7 @@ pub enum State {
         /// The key of the next ready pair.
         next: usize,
 
-        /// The key of the one before.
+        /// The key of the ready pair before.
         prev: usize,
     },
 }
@@ -79,10 +79,10 @@ pub struct Pair {
     /// Where the left half starts in the chunk, in bytes.
     pub offset: u64,
 
-    /// The half that the pair divides, or none where the pair is its whole chunk.
+    /// The half that the pair divides, or `None` where the pair is its whole chunk.
     pub parent: Option<Parent>,
 
-    /// Whether a pair divides the left half. It says nothing while that half is free.
+    /// Whether a pair divides the left half. Meaningless while that half is free.
     pub left_divided: bool,
 
     /// The same of the right half.
@@ -93,7 +93,7 @@ pub struct Pair {
 }
 
 impl Pair {
-    /// Takes the free half, as one that a pair divides or as a live block. No half is then free.
+    /// Takes the free half, to be divided by a pair or as a live block. No half is then free.
     #[inline(always)]
     pub fn exhaust(&mut self, side: Side, divided: bool)
         requires free { free_side (self.old).state ≡ Some side }
@@ -124,7 +124,7 @@ impl Pair {
         })
     }
 
-    /// Whether a half of 2^order bytes that starts there in the chunk, in bytes, is a live block.
+    /// Whether a half of 2^order bytes that starts at `start` in the chunk, in bytes, is a live block.
     #[inline(always)]
     pub fn has_block(&self, order: u32, start: u64) -> bool
         requires short { order ≤ 62 }
@@ -134,7 +134,7 @@ impl Pair {
         self.is_block(Side::Left, order, start) || self.is_block(Side::Right, order, start)
     }
 
-    /// Whether this half, of 2^order bytes, is a live block and starts there.
+    /// Whether this half, of 2^order bytes, is a live block and starts at `start`.
     #[inline(always)]
     fn is_block(&self, side: Side, order: u32, start: u64) -> bool
         requires short { order ≤ 62 }

@@ -57,12 +57,12 @@ impl<M: MemoryObject> Chunk<M> {
     }
 }
 
-/// The held chunks of a buddy allocator, and the pairs of halves that divide them. It knows no device: chunks are handed
-/// in, and handed out when no block of theirs is live. It cannot be let go: [`close`](Pairs::close) ends it.
+/// The held chunks of a buddy allocator, and the pairs of halves that divide them. It knows no device: its caller hands
+/// in chunks, and gets them back when no block in them is live. It cannot be dropped: [`close`](Pairs::close) ends it.
 ///
-/// Each chunk has at most 2^63 bytes, and is a pair of halves; each half is free, a live block, or divided by a pair of
-/// half its length. Free are at most one half of each pair, so that the free halves are the longest free ranges of a
-/// power of two of bytes at a multiple of their length. The pairs of one length with a free half form a ring.
+/// Each chunk has at most 2^63 bytes, and is a pair of halves. Each half is free, a live block, or divided by a pair of
+/// half its length. At most one half of each pair is free, so the free halves are the longest free ranges of a power of
+/// two of bytes at a multiple of their length. The pairs of one length with a free half form a ring.
 pub struct Pairs<M: MemoryObject, A: Allocator = Global> {
     chunks: Slab<Chunk<M>, A>,
     lengths: Lengths<A>,
@@ -89,7 +89,7 @@ impl<M: MemoryObject, A: Allocator> Model for Pairs<M, A> {
 }
 
 impl<M: MemoryObject, A: Allocator + Copy> Pairs<M, A> {
-    /// A store of no chunk. `alloc` gives the memory of its lists, of which this call takes that of the list of lengths.
+    /// A store without chunks. Its lists take their memory from `alloc`; this call takes that of the list of lengths.
     pub fn new(alloc: A) -> Result<Self, AllocError>
         ensures empty { IfOk result (λ p. p.space ≡ record { chunks = map.empty; live = set.empty }) }
     {
@@ -103,9 +103,9 @@ impl<M: MemoryObject, A: Allocator + Copy> Pairs<M, A> {
         })
     }
 
-    /// The free pieces as ranges of their objects, in no order.
+    /// The free pieces as ranges of their objects, in no particular order.
     ///
-    /// The only refusal is want of host memory.
+    /// The only error is want of host memory.
     pub fn ranges(&self) -> Result<Vec<FreeRange, A>, AllocError>
         ensures { IfOk result (λ ranges. ranges.items ≡ map_list (range_of (self.now).space) (self.now).free) }
     {
@@ -120,7 +120,7 @@ impl<M: MemoryObject, A: Allocator + Copy> Pairs<M, A> {
 
 impl<M: MemoryObject, A: Allocator> Pairs<M, A> {
     /// Makes room for one chunk of 2^chunk_order bytes, and for the pairs that divide it down to a block of 2^order
-    /// bytes. Nothing but the room changes, after a refusal too.
+    /// bytes. Nothing but the room changes, even after an error.
     pub fn reserve(&mut self, order: u32, chunk_order: u32) -> Result<(), AllocError>
         requires { chunk_order ≤ 63 }
         ensures room { OnOk result (HasRooms self.new order chunk_order) }
@@ -130,8 +130,8 @@ impl<M: MemoryObject, A: Allocator> Pairs<M, A> {
         lengths::make_room(&mut self.lengths, order, chunk_order)
     }
 
-    /// Whether there is a place for a block of 2^order bytes. Each length is looked at once, from that of the block up to
-    /// that of a shortest free piece that is long enough, or else to the longest (`steps`).
+    /// Whether there is a place for a block of 2^order bytes. Each length is looked at once, from that of the block up
+    /// to that of a shortest free piece that is long enough, or else to the longest (`steps`).
     pub fn has_place<L: Ledger>(&self, order: u32, looks: &mut Steps<L>) -> bool
         requires { order ≤ 62 }
         ensures place { IsTrue result ↔ HasPlace (self.now).space (2 ^ order) }
@@ -141,8 +141,8 @@ impl<M: MemoryObject, A: Allocator> Pairs<M, A> {
         lengths::find(self.lengths.as_slice(), order, looks).is_some()
     }
 
-    /// Takes the front of a shortest free piece of at least 2^order bytes, as a block: none where there is no such piece.
-    /// It fails only for want of host memory, and nothing but room changes then.
+    /// Takes the front of a shortest free piece of at least 2^order bytes as a block, or returns `None` where there is
+    /// no such piece. The only error is want of host memory, and then nothing but room changes.
     #[inline(always)]
     pub fn take<L: Ledger, K: Ledger>(
         &mut self,
@@ -195,8 +195,8 @@ impl<M: MemoryObject, A: Allocator> Pairs<M, A> {
         leaf_of(front, order, object)
     }
 
-    /// Takes a live block back. Free halves join, and a chunk of which no other block is live goes: its handle is
-    /// answered, and its size in bytes.
+    /// Returns a live block. Free halves join. Where no other block of its chunk is live, the chunk is removed, and its
+    /// handle is returned with its size in bytes.
     #[inline(always)]
     pub fn give_back<K: Ledger>(&mut self, leaf: Leaf, releases: &mut Steps<K>) -> Option<(M, u64)>
         requires live { IsLiveLeaf (self.old).space leaf }
@@ -218,12 +218,12 @@ impl<M: MemoryObject, A: Allocator> Pairs<M, A> {
         Some((memory, bytes(order)))
     }
 
-    /// The live block of this span of an object, exactly where there is one. `offset` is where it starts in the object
-    /// and `size` how long it is, in bytes: any two numbers. Its `index` is the key of its pair among those of its
-    /// length.
+    /// The live block of this span of an object, or `None` where there is none. `offset` is where it starts in the
+    /// object and `size` how long it is, in bytes: any two numbers. Its `index` is the key of its pair among those of
+    /// its length.
     ///
-    /// The answer is the same whatever `key` is. The block's index makes it constant time; with another key the time
-    /// grows with the number of pairs of that length.
+    /// The answer is the same for any `key`. With the block's index it takes constant time, and with any other time
+    /// linear in the pairs of that length.
     #[inline(always)]
     pub fn find(&self, key: usize, object: u64, offset: u64, size: u64) -> Option<Leaf>
         ensures found { MatchOption result (IsNoLiveSpan (self.now).space object offset size)
@@ -254,9 +254,9 @@ impl<M: MemoryObject, A: Allocator> Pairs<M, A> {
         self.chunks.iter()
     }
 
-    /// Adds to a list each live block, once, in no order that is told. The time grows with the number of pairs.
+    /// Adds each live block to a list, once, in no particular order. It takes time linear in the number of pairs.
     ///
-    /// The only refusal is want of memory, after which nothing is said of the list.
+    /// The only error is want of memory, after which nothing is known of the list.
     pub fn list_live<B: Allocator>(&self, leaves: &mut Vec<Leaf, B>) -> Result<(), AllocError>
         ensures { OnOk result (AddsLeaves ((self.now).space).live leaves.old.items leaves.new.items) }
     {
@@ -268,7 +268,7 @@ impl<M: MemoryObject, A: Allocator> Pairs<M, A> {
         Ok(())
     }
 
-    /// Nothing is done: its contract tells what every store keeps.
+    /// A lemma about every store: does nothing at run time.
     pub fn keeps_exact(&self)
         ensures sound { IsSoundSpace (self.now).space }
         ensures exact { IsExact self.now }
@@ -290,7 +290,7 @@ impl<M: MemoryObject, A: Allocator> Pairs<M, A> {
         }
     }
 
-    /// Ends a store of no chunk.
+    /// Ends a store without chunks.
     pub fn close(self)
         requires { map.len ((self.space).chunks) ≡ 0 }
     {
@@ -333,7 +333,7 @@ fn order_of(size: u64) -> u32
     size.trailing_zeros()
 }
 
-/// The order of a block of this many bytes, where a half can have so many.
+/// The order of a block of `size` bytes, if a half can have that size.
 fn half_order(size: u64) -> Option<u32>
     ensures { MatchOption result ((n : ℕ) → n < 63 → size ≢ 2 ^ n) (λ n. (size ≡ 2 ^ n) × (n < 63)) }
 {
@@ -344,7 +344,8 @@ fn half_order(size: u64) -> Option<u32>
     if order < ORDERS { Some(order) } else { None }
 }
 
-/// The key of the pair that has a block of 2^order bytes: this one where it has, and else the one that a search finds.
+/// The key of the pair that has a block of 2^order bytes: `key` if its pair has it, or else the one that a search
+/// finds.
 #[inline(always)]
 fn key_of<M: MemoryObject, A: Allocator>(
     chunks: &Slab<Chunk<M>, A>,
@@ -388,7 +389,7 @@ fn search<M: MemoryObject, A: Allocator>(
     None
 }
 
-/// Whether a half of a pair is a live block of 2^order bytes that starts there in a chunk of this object.
+/// Whether a half of a pair is a live block of 2^order bytes that starts at `start` in a chunk of this object.
 #[inline(always)]
 fn is_of<M: MemoryObject, A: Allocator>(
     chunks: &Slab<Chunk<M>, A>,
@@ -404,7 +405,7 @@ fn is_of<M: MemoryObject, A: Allocator>(
     pair.has_block(order, offset) && chunks[pair.chunk].memory.object() == object
 }
 
-/// Adds to a list each live block of 2^order bytes, by the pairs of that length. It fails only for want of memory.
+/// Adds each live block of 2^order bytes to a list, by the pairs of that length. It fails only for want of memory.
 fn list_length<M: MemoryObject, A: Allocator, B: Allocator>(
     chunks: &Slab<Chunk<M>, A>,
     pairs: &Slab<Pair, A>,
@@ -423,7 +424,7 @@ fn list_length<M: MemoryObject, A: Allocator, B: Allocator>(
     Ok(())
 }
 
-/// Adds a half of a pair to a list, where it is a live block of 2^order bytes. It fails only for want of memory.
+/// Adds a half of a pair to a list if it is a live block of 2^order bytes. It fails only for want of memory.
 #[inline(always)]
 fn list_half<M: MemoryObject, A: Allocator, B: Allocator>(
     chunks: &Slab<Chunk<M>, A>,
@@ -451,7 +452,7 @@ fn list_half<M: MemoryObject, A: Allocator, B: Allocator>(
     Ok(())
 }
 
-/// Which half of its pair a block of 2^order bytes is that starts there.
+/// Which half of its pair a block of 2^order bytes at this offset is.
 fn side_of(offset: u64, order: u32) -> Side
     requires short { order < 64 }
     requires half { StartsHalf offset order }

@@ -1,4 +1,4 @@
-//! The ring of the ready pairs of a slab. A pair joins it and leaves it in few steps, whatever its length.
+//! The ring of the ready pairs of a slab. A pair joins and leaves it in constant time, whatever its length.
 
 ghost use Rattle.std.specs.Prelude.{◌≡◌, Some};
 ghost use Rattle.slab.specs.Slab.{get};
@@ -21,7 +21,7 @@ fn set_next<A: Allocator>(pairs: &mut Slab<Pair, A>, key: usize, value: usize)
     }
 }
 
-/// Makes this pair the one before a ready pair, and answers which one it had before it.
+/// Makes this pair the one before a ready pair, and returns the one that was before it.
 fn replace_prev<A: Allocator>(pairs: &mut Slab<Pair, A>, key: usize, value: usize) -> usize
     requires on { IsOn pairs.old key }
     ensures had { result ≡ prev_in pairs.old key }
@@ -33,8 +33,8 @@ fn replace_prev<A: Allocator>(pairs: &mut Slab<Pair, A>, key: usize, value: usiz
     }
 }
 
-/// Opens the ring for a pair that is not in it, between the last one and the first: answers the state that the pair
-/// under this key is to have. It is then the first.
+/// Opens the ring for a pair that is not in it, between the last pair and the first. Returns the state for the pair
+/// under this key, which is then the first.
 pub fn link<A: Allocator>(
     pairs: &mut Slab<Pair, A>,
     first: Option<usize>,
@@ -65,8 +65,8 @@ pub fn link<A: Allocator>(
     }
 }
 
-/// Closes the ring over a ready pair that lies between these two: answers which pair is the first of the rest. The pair
-/// under this key is then to be exhausted, or to go.
+/// Closes the ring over a ready pair between these two. Returns the first pair of the rest. The pair under this key
+/// must then be exhausted, or removed.
 pub fn unlink<A: Allocator>(
     pairs: &mut Slab<Pair, A>,
     key: usize,

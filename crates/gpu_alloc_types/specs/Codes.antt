@@ -1,4 +1,4 @@
--- How what a device offers is stored, where contracts see it as a value.
+-- How contracts see what a device offers as a value.
 use Rattle.std.specs.Prelude.{ℕ, Bool, List, refl}
 use Rattle.std.specs.Coded.{Coded, code_by, coded×, coded_ℕ, coded_list, coded_bool}
 use Rattle.gpu_alloc_types.specs.Flags.{property_bits}

@@ -14,19 +14,19 @@ property_bits flags = flags.bits
 abbrev pub allocation_bits : AllocationFlags → ℕ
 allocation_bits flags = flags.bits
 
--- the bits of usages that have a name: the six lowest
+-- the named bits of usages: the six lowest
 abbrev pub named_usage_bits : ℕ
 named_usage_bits = 63
 
--- the bits of properties that have a name: the six lowest
+-- the named bits of properties: the six lowest
 abbrev pub named_property_bits : ℕ
 named_property_bits = 63
 
--- the bits of what is asked of a device that have a name: the lowest alone
+-- the named bits of allocation flags: the lowest only
 abbrev pub named_allocation_bits : ℕ
 named_allocation_bits = 1
 
--- Each flag's number, under the name of the code's constant. Sets of flags are sums.
+-- Each flag's number, under the name of the constant in the code. Sets of flags are sums.
 
 -- of UsageFlags
 abbrev pub fast_device_access : ℕ

@@ -1,4 +1,4 @@
--- What a device offers, as a value with no references.
+-- What a device offers, as a value without references.
 use Rattle.std.specs.Prelude.{ℕ, ◌<◌, ◌≤◌, ◌^◌, Bool, List, length, All, Option, Some, None, IsTrue, slice_get, not}
 use Rattle.std.specs.Prelude.{◌&&◌, cond}
 use Rattle.std.specs.Int.{is_power_of_two}
@@ -25,7 +25,7 @@ properties_of d = record {
   buffer_device_address = d.buffer_device_address;
 }
 
--- an allocator can stand on these
+-- an allocator can be built on these
 pub record IsUsable (p : Properties) : Type 0 where
   pub types : length p.memory_types ≤ 32
   pub heaps : length p.memory_heaps < 2 ^ 32
@@ -33,7 +33,7 @@ pub record IsUsable (p : Properties) : Type 0 where
   pub atom_bound : p.non_coherent_atom_size ≤ 2 ^ 62
   pub atom : IsTrue (is_power_of_two p.non_coherent_atom_size)
 
--- the property bits of a memory type, none where there is no such type
+-- the property bits of a memory type, 0 where there is no such type
 abbrev pub bits_of : Option MemoryType → ℕ
 bits_of None = 0
 bits_of (Some t) = property_bits t.props
@@ -53,12 +53,12 @@ heap_of (Some t) = t.heap
 abbrev pub heap_at : Properties → ℕ → ℕ
 heap_at p t = heap_of (slice_get p.memory_types t)
 
--- the size of a heap, 0 where there is none
+-- the size of a heap, 0 where there is no such heap
 abbrev pub size_of : Option MemoryHeap → ℕ
 size_of None = 0
 size_of (Some heap) = heap.size
 
--- the size of the heap that a memory type lies in
+-- the size of a memory type's heap
 abbrev pub heap_size : Properties → ℕ → ℕ
 heap_size p t = size_of (slice_get p.memory_heaps (heap_at p t))
 
@@ -68,14 +68,14 @@ is_host_visible p t = has_bit (props_at p t) host_visible
 abbrev pub is_coherent : Properties → ℕ → Bool
 is_coherent p t = has_bit (props_at p t) host_coherent
 
--- the host sees memory with these property bits, and has to flush and invalidate it
+-- memory with these property bits is host-visible and needs flushes and invalidates
 abbrev pub are_non_coherent : ℕ → Bool
 are_non_coherent bits = has_bit bits host_visible && not (has_bit bits host_coherent)
 
 abbrev pub is_non_coherent : Properties → ℕ → Bool
 is_non_coherent p t = are_non_coherent (props_at p t)
 
--- the atom of memory with these property bits: what its ranges are rounded to
+-- the atom of memory with these property bits: its ranges are rounded to multiples of it
 abbrev pub atom_for : Properties → ℕ → ℕ
 atom_for p bits = cond (are_non_coherent bits) p.non_coherent_atom_size 1
 

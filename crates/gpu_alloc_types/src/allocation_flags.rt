@@ -1,4 +1,4 @@
-//! What is asked of a device, as a set of flags.
+//! The flags of an allocation from a device.
 
 ghost use Rattle.std.specs.Prelude.{⊤, ◌≡◌, ◌↔◌, ◌==◌, [], ◌∷◌, codes, bit_and, bit_or, bit_xor, if◌then◌else◌, IsTrue};
 ghost use Rattle.std.specs.Prelude.{IsSome, IfSome, cond};
@@ -10,11 +10,11 @@ use std::ops::{
     BitAnd, BitAndAssign, BitOr, BitOrAssign, BitXor, BitXorAssign, Not, Sub, SubAssign,
 };
 
-/// What is asked of a device beside a size and a memory type.
+/// What a device is asked for, apart from a size and a memory type.
 ///
-/// The calls and operators are those of the crate `bitflags`, on which the original crate's flags stand. A bit without
-/// a name is kept like any other, but [`from_bits`](Self::from_bits) refuses it, and
-/// [`from_bits_truncate`](Self::from_bits_truncate) and [`complement`](Self::complement) drop it.
+/// The calls and operators are those of the crate `bitflags`, which the original crate uses. A bit without a name is
+/// kept like any other. [`from_bits`](Self::from_bits) refuses it, and [`from_bits_truncate`](Self::from_bits_truncate)
+/// and [`complement`](Self::complement) drop it.
 #[derive(Clone, Copy, Debug, PartialEq, Eq, Hash, PartialOrd, Ord)]
 pub struct AllocationFlags {
     bits: u8,
@@ -25,8 +25,8 @@ impl AllocationFlags {
     /// the original crate's).
     pub const DEVICE_ADDRESS: AllocationFlags = AllocationFlags { bits: 1 };
 
-    /// What each object of a device is asked for with: `DEVICE_ADDRESS` exactly where the device has the feature (the
-    /// original crate's rule).
+    /// The flags of every allocation: `DEVICE_ADDRESS` exactly where the device has the feature (the original crate's
+    /// rule).
     pub fn by_feature(buffer_device_address: bool) -> AllocationFlags
         ensures { allocation_bits result ≡ cond buffer_device_address with_device_address 0 }
     {
@@ -44,7 +44,7 @@ impl AllocationFlags {
         <AllocationFlags as Flags>::empty()
     }
 
-    /// All flags that have a name.
+    /// All named flags.
     #[tactic(auto, unfolding(bitflags::proofs::OnLiterals::bitflags_on_literals))]
     pub fn all() -> AllocationFlags
         ensures { allocation_bits result ≡ named_allocation_bits }
@@ -76,49 +76,49 @@ impl AllocationFlags {
         <AllocationFlags as Flags>::from_bits_truncate(bits)
     }
 
-    /// The flags whose bits are set in `bits`, bits without a name among them.
+    /// The flags whose bits are set in `bits`, including bits without a name.
     pub fn from_bits_retain(bits: u8) -> AllocationFlags
         ensures { allocation_bits result ≡ bits }
     {
         AllocationFlags { bits }
     }
 
-    /// Whether no bit is set, with a name or without.
+    /// Whether no bit is set, named or not.
     pub fn is_empty(&self) -> bool
         ensures { result ≡ (allocation_bits self.now == 0) }
     {
         <AllocationFlags as Flags>::is_empty(self)
     }
 
-    /// Whether each bit that has a name is set. Others may be set too.
+    /// Whether every named bit is set. Other bits may be set too.
     pub fn is_all(&self) -> bool
         ensures { result ≡ has_all_bits (allocation_bits self.now) named_allocation_bits }
     {
         self.contains(AllocationFlags::all())
     }
 
-    /// Whether each bit of `other` is set, with a name or without. Every value contains the empty one.
+    /// Whether each bit of `other` is set, named or not. Every value contains the empty one.
     pub fn contains(&self, other: AllocationFlags) -> bool
         ensures { result ≡ has_all_bits (allocation_bits self.now) (allocation_bits other) }
     {
         <AllocationFlags as Flags>::contains(self, other)
     }
 
-    /// Whether at least one bit of `other` is set, with a name or without.
+    /// Whether at least one bit of `other` is set, named or not.
     pub fn intersects(&self, other: AllocationFlags) -> bool
         ensures { result ≡ has_bit (allocation_bits self.now) (allocation_bits other) }
     {
         <AllocationFlags as Flags>::intersects(self, other)
     }
 
-    /// The bits of either.
+    /// The bits set in either.
     pub fn union(self, other: AllocationFlags) -> AllocationFlags
         ensures { allocation_bits result ≡ bit_or (allocation_bits self) (allocation_bits other) }
     {
         <AllocationFlags as Flags>::union(self, other)
     }
 
-    /// The bits of both.
+    /// The bits set in both.
     pub fn intersection(self, other: AllocationFlags) -> AllocationFlags
         ensures { allocation_bits result ≡ bit_and (allocation_bits self) (allocation_bits other) }
     {
@@ -132,14 +132,14 @@ impl AllocationFlags {
         <AllocationFlags as Flags>::difference(self, other)
     }
 
-    /// The bits of exactly one of the two.
+    /// The bits set in exactly one of the two.
     pub fn symmetric_difference(self, other: AllocationFlags) -> AllocationFlags
         ensures { allocation_bits result ≡ bit_xor (allocation_bits self) (allocation_bits other) }
     {
         <AllocationFlags as Flags>::symmetric_difference(self, other)
     }
 
-    /// The flags that have a name and are not set here.
+    /// The named flags that are not set here.
     #[tactic(auto, unfolding(bitflags::proofs::OnLiterals::bitflags_on_literals))]
     pub fn complement(self) -> AllocationFlags
         ensures { allocation_bits result ≡ bits_without named_allocation_bits (allocation_bits self) }
@@ -161,14 +161,14 @@ impl AllocationFlags {
         <AllocationFlags as Flags>::remove(self, other);
     }
 
-    /// Sets those bits of `other` that are clear here, and clears those that are set.
+    /// Flips the bits of `other`: sets those that are clear here, and clears those that are set.
     pub fn toggle(&mut self, other: AllocationFlags)
         ensures { allocation_bits self.new ≡ bit_xor (allocation_bits self.old) (allocation_bits other) }
     {
         <AllocationFlags as Flags>::toggle(self, other);
     }
 
-    /// Sets the bits of `other` where `on`, and else clears them.
+    /// Sets the bits of `other` if `on`, and clears them otherwise.
     pub fn set(&mut self, other: AllocationFlags, on: bool)
         ensures { allocation_bits self.new ≡ (if on then bit_or (allocation_bits self.old) (allocation_bits other)
             else bits_without (allocation_bits self.old) (allocation_bits other)) }
@@ -177,7 +177,7 @@ impl AllocationFlags {
     }
 }
 
-/// The bits of either, as [`AllocationFlags::union`].
+/// The bits set in either, as [`AllocationFlags::union`].
 impl BitOr for AllocationFlags {
     type Output = AllocationFlags;
 
@@ -196,7 +196,7 @@ impl BitOrAssign for AllocationFlags {
     }
 }
 
-/// The bits of both, as [`AllocationFlags::intersection`].
+/// The bits set in both, as [`AllocationFlags::intersection`].
 impl BitAnd for AllocationFlags {
     type Output = AllocationFlags;
 
@@ -215,7 +215,7 @@ impl BitAndAssign for AllocationFlags {
     }
 }
 
-/// The bits of exactly one of the two, as [`AllocationFlags::symmetric_difference`].
+/// The bits set in exactly one of the two, as [`AllocationFlags::symmetric_difference`].
 impl BitXor for AllocationFlags {
     type Output = AllocationFlags;
 
@@ -253,7 +253,7 @@ impl SubAssign for AllocationFlags {
     }
 }
 
-/// The flags that have a name and are not set here, as [`AllocationFlags::complement`].
+/// The named flags that are not set here, as [`AllocationFlags::complement`].
 impl Not for AllocationFlags {
     type Output = AllocationFlags;
 
@@ -265,7 +265,7 @@ impl Not for AllocationFlags {
 }
 
 impl AllocationFlags {
-    // The flags that have a name.
+    // The named flags.
     const FLAGS: &'static [Flag<AllocationFlags>] = &[Flag {
         name: "DEVICE_ADDRESS",
         value: AllocationFlags::DEVICE_ADDRESS,

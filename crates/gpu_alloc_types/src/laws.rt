@@ -1,5 +1,5 @@
-//! Laws of the flag types by their numbers: their constants, what they derive, how generic code sees them. The
-//! functions do nothing.
+//! Laws of the flag types by their numbers: their constants, their derived impls, and what generic code sees of them.
+//! The functions are lemmas: they do nothing at run time.
 
 ghost use Rattle.std.specs.Prelude.{◌≡◌, ◌<◌, ◌↔◌, [], ◌∷◌, IsTrue, Some};
 ghost use Rattle.std.specs.Ordering.{nat_cmp, partial_lt};
@@ -11,7 +11,7 @@ use crate::{AllocationFlags, MemoryPropertyFlags, UsageFlags};
 use bitflags::Flags;
 use std::hash::Hash;
 
-/// The numbers of the constants of [`UsageFlags`] (the original crate's).
+/// The numbers of the constants of [`UsageFlags`], which are the original crate's.
 pub fn usage_numbers()
     ensures fast_device_access { usage_bits UsageFlags.FAST_DEVICE_ACCESS ≡ 1 }
     ensures host_access { usage_bits UsageFlags.HOST_ACCESS ≡ 2 }
@@ -21,7 +21,7 @@ pub fn usage_numbers()
     ensures device_address { usage_bits UsageFlags.DEVICE_ADDRESS ≡ 32 }
 {}
 
-/// The numbers of the constants of [`MemoryPropertyFlags`] (Vulkan's).
+/// The numbers of the constants of [`MemoryPropertyFlags`], which are Vulkan's.
 pub fn property_numbers()
     ensures device_local { property_bits MemoryPropertyFlags.DEVICE_LOCAL ≡ 1 }
     ensures host_visible { property_bits MemoryPropertyFlags.HOST_VISIBLE ≡ 2 }
@@ -36,12 +36,12 @@ pub fn allocation_numbers()
     ensures device_address { allocation_bits AllocationFlags.DEVICE_ADDRESS ≡ 1 }
 {}
 
-/// `==` on [`UsageFlags`] holds exactly where the numbers are equal.
+/// `==` on [`UsageFlags`] compares the numbers.
 pub fn usage_equality()
     ensures { (a b : UsageFlags) → IsTrue (⟦<UsageFlags as PartialEq>⟧.eq a b) ↔ (usage_bits a ≡ usage_bits b) }
 {}
 
-/// `cmp`, `partial_cmp` and `<` on [`UsageFlags`] go by the numbers.
+/// `cmp`, `partial_cmp` and `<` on [`UsageFlags`] compare the numbers.
 pub fn usage_order()
     ensures total { (a b : UsageFlags) → ⟦<UsageFlags as Ord>⟧.cmp a b ≡ nat_cmp (usage_bits a) (usage_bits b) }
     ensures partial { (a b : UsageFlags)
@@ -50,18 +50,18 @@ pub fn usage_order()
         ↔ (usage_bits a < usage_bits b) }
 {}
 
-/// A clone of [`UsageFlags`] never fails and has the same number.
+/// Cloning [`UsageFlags`] never fails and keeps the number.
 pub fn usage_clone()
     ensures infallible { (a : UsageFlags) → ⟦<UsageFlags as Clone>⟧.is_infallible a }
     ensures same { (a b : UsageFlags) → ⟦<UsageFlags as Clone>⟧.is_clone a b → usage_bits b ≡ usage_bits a }
 {}
 
-/// A hasher is given the number of [`UsageFlags`] as one byte, and no more.
+/// Hashing [`UsageFlags`] feeds the hasher the number as one byte, and nothing else.
 pub fn usage_hash()
     ensures { (a : UsageFlags) → ⟦<UsageFlags as Hash>⟧.hash_input a ≡ (usage_bits a ∷ []) ∷ [] }
 {}
 
-/// Code that is generic over [`Flags`] sees the same number of [`UsageFlags`], and the same bits with a name.
+/// Code that is generic over [`Flags`] sees the same number of [`UsageFlags`], and the same named bits.
 #[tactic(auto, unfolding(bitflags::proofs::OnLiterals::bitflags_on_literals))]
 pub fn usage_as_flags()
     ensures exact { ⟦<UsageFlags as Flags>⟧.exact }
@@ -69,13 +69,13 @@ pub fn usage_as_flags()
     ensures named { known_bits ⟦<UsageFlags as Flags>⟧.table ≡ named_usage_bits }
 {}
 
-/// `==` on [`MemoryPropertyFlags`] holds exactly where the numbers are equal.
+/// `==` on [`MemoryPropertyFlags`] compares the numbers.
 pub fn property_equality()
     ensures { (a b : MemoryPropertyFlags) → IsTrue (⟦<MemoryPropertyFlags as PartialEq>⟧.eq a b)
         ↔ (property_bits a ≡ property_bits b) }
 {}
 
-/// `cmp`, `partial_cmp` and `<` on [`MemoryPropertyFlags`] go by the numbers.
+/// `cmp`, `partial_cmp` and `<` on [`MemoryPropertyFlags`] compare the numbers.
 pub fn property_order()
     ensures total { (a b : MemoryPropertyFlags)
         → ⟦<MemoryPropertyFlags as Ord>⟧.cmp a b ≡ nat_cmp (property_bits a) (property_bits b) }
@@ -86,19 +86,19 @@ pub fn property_order()
         ↔ (property_bits a < property_bits b) }
 {}
 
-/// A clone of [`MemoryPropertyFlags`] never fails and has the same number.
+/// Cloning [`MemoryPropertyFlags`] never fails and keeps the number.
 pub fn property_clone()
     ensures infallible { (a : MemoryPropertyFlags) → ⟦<MemoryPropertyFlags as Clone>⟧.is_infallible a }
     ensures same { (a b : MemoryPropertyFlags) → ⟦<MemoryPropertyFlags as Clone>⟧.is_clone a b
         → property_bits b ≡ property_bits a }
 {}
 
-/// A hasher is given the number of [`MemoryPropertyFlags`] as one byte, and no more.
+/// Hashing [`MemoryPropertyFlags`] feeds the hasher the number as one byte, and nothing else.
 pub fn property_hash()
     ensures { (a : MemoryPropertyFlags) → ⟦<MemoryPropertyFlags as Hash>⟧.hash_input a ≡ (property_bits a ∷ []) ∷ [] }
 {}
 
-/// Code that is generic over [`Flags`] sees the same number of [`MemoryPropertyFlags`], and the same bits with a name.
+/// Code that is generic over [`Flags`] sees the same number of [`MemoryPropertyFlags`], and the same named bits.
 #[tactic(auto, unfolding(bitflags::proofs::OnLiterals::bitflags_on_literals))]
 pub fn property_as_flags()
     ensures exact { ⟦<MemoryPropertyFlags as Flags>⟧.exact }
@@ -106,13 +106,13 @@ pub fn property_as_flags()
     ensures named { known_bits ⟦<MemoryPropertyFlags as Flags>⟧.table ≡ named_property_bits }
 {}
 
-/// `==` on [`AllocationFlags`] holds exactly where the numbers are equal.
+/// `==` on [`AllocationFlags`] compares the numbers.
 pub fn allocation_equality()
     ensures { (a b : AllocationFlags) → IsTrue (⟦<AllocationFlags as PartialEq>⟧.eq a b)
         ↔ (allocation_bits a ≡ allocation_bits b) }
 {}
 
-/// `cmp`, `partial_cmp` and `<` on [`AllocationFlags`] go by the numbers.
+/// `cmp`, `partial_cmp` and `<` on [`AllocationFlags`] compare the numbers.
 pub fn allocation_order()
     ensures total { (a b : AllocationFlags)
         → ⟦<AllocationFlags as Ord>⟧.cmp a b ≡ nat_cmp (allocation_bits a) (allocation_bits b) }
@@ -122,19 +122,19 @@ pub fn allocation_order()
         ↔ (allocation_bits a < allocation_bits b) }
 {}
 
-/// A clone of [`AllocationFlags`] never fails and has the same number.
+/// Cloning [`AllocationFlags`] never fails and keeps the number.
 pub fn allocation_clone()
     ensures infallible { (a : AllocationFlags) → ⟦<AllocationFlags as Clone>⟧.is_infallible a }
     ensures same { (a b : AllocationFlags) → ⟦<AllocationFlags as Clone>⟧.is_clone a b
         → allocation_bits b ≡ allocation_bits a }
 {}
 
-/// A hasher is given the number of [`AllocationFlags`] as one byte, and no more.
+/// Hashing [`AllocationFlags`] feeds the hasher the number as one byte, and nothing else.
 pub fn allocation_hash()
     ensures { (a : AllocationFlags) → ⟦<AllocationFlags as Hash>⟧.hash_input a ≡ (allocation_bits a ∷ []) ∷ [] }
 {}
 
-/// Code that is generic over [`Flags`] sees the same number of [`AllocationFlags`], and the same bits with a name.
+/// Code that is generic over [`Flags`] sees the same number of [`AllocationFlags`], and the same named bits.
 #[tactic(auto, unfolding(bitflags::proofs::OnLiterals::bitflags_on_literals))]
 pub fn allocation_as_flags()
     ensures exact { ⟦<AllocationFlags as Flags>⟧.exact }

@@ -1,4 +1,4 @@
-//! What a graphics device offers of memory, and the device itself as a trait.
+//! The memory that a graphics device offers, and the device itself as a trait.
 #![tactic(auto)]
 
 mod allocation_flags;

@@ -12,31 +12,31 @@ use std::ops::{
 
 /// The properties of a memory type (Vulkan's `VkMemoryPropertyFlagBits`, with its numbers).
 ///
-/// The calls and operators are those of the crate `bitflags`, on which the original crate's flags stand. A bit without
-/// a name is kept like any other, but [`from_bits`](Self::from_bits) refuses it, and
-/// [`from_bits_truncate`](Self::from_bits_truncate) and [`complement`](Self::complement) drop it.
+/// The calls and operators are those of the crate `bitflags`, which the original crate uses. A bit without a name is
+/// kept like any other. [`from_bits`](Self::from_bits) refuses it, and [`from_bits_truncate`](Self::from_bits_truncate)
+/// and [`complement`](Self::complement) drop it.
 #[derive(Clone, Copy, Debug, PartialEq, Eq, Hash, PartialOrd, Ord)]
 pub struct MemoryPropertyFlags {
     bits: u8,
 }
 
 impl MemoryPropertyFlags {
-    /// The device's own memory.
+    /// Memory of the device's own, the fastest for the device.
     pub const DEVICE_LOCAL: MemoryPropertyFlags = MemoryPropertyFlags { bits: 1 };
 
-    /// The host can map it.
+    /// The host can map the memory.
     pub const HOST_VISIBLE: MemoryPropertyFlags = MemoryPropertyFlags { bits: 2 };
 
-    /// Neither a flush nor an invalidate is needed where it is mapped.
+    /// The host and the device see each other's writes without a flush or an invalidate.
     pub const HOST_COHERENT: MemoryPropertyFlags = MemoryPropertyFlags { bits: 4 };
 
-    /// The host caches what it reads of it.
+    /// The host caches the memory.
     pub const HOST_CACHED: MemoryPropertyFlags = MemoryPropertyFlags { bits: 8 };
 
-    /// The device may back it only once it is used. The allocator never uses such a type.
+    /// The device may back the memory only when it is first used. The allocator never uses such a type.
     pub const LAZILY_ALLOCATED: MemoryPropertyFlags = MemoryPropertyFlags { bits: 16 };
 
-    /// Only protected queues may use it. The allocator never uses such a type.
+    /// Only protected queues may use the memory. The allocator never uses such a type.
     pub const PROTECTED: MemoryPropertyFlags = MemoryPropertyFlags { bits: 32 };
 
     /// The value with no bit set.
@@ -46,7 +46,7 @@ impl MemoryPropertyFlags {
         <MemoryPropertyFlags as Flags>::empty()
     }
 
-    /// All flags that have a name.
+    /// All named flags.
     #[tactic(auto, unfolding(bitflags::proofs::OnLiterals::bitflags_on_literals))]
     pub fn all() -> MemoryPropertyFlags
         ensures { property_bits result ≡ named_property_bits }
@@ -78,43 +78,43 @@ impl MemoryPropertyFlags {
         <MemoryPropertyFlags as Flags>::from_bits_truncate(bits)
     }
 
-    /// The flags whose bits are set in `bits`, bits without a name among them.
+    /// The flags whose bits are set in `bits`, including bits without a name.
     pub fn from_bits_retain(bits: u8) -> MemoryPropertyFlags
         ensures { property_bits result ≡ bits }
     {
         MemoryPropertyFlags { bits }
     }
 
-    /// Whether no bit is set, with a name or without.
+    /// Whether no bit is set, named or not.
     pub fn is_empty(&self) -> bool
         ensures { result ≡ (property_bits self.now == 0) }
     {
         <MemoryPropertyFlags as Flags>::is_empty(self)
     }
 
-    /// Whether each bit that has a name is set. Others may be set too.
+    /// Whether every named bit is set. Other bits may be set too.
     pub fn is_all(&self) -> bool
         ensures { result ≡ has_all_bits (property_bits self.now) named_property_bits }
     {
         self.contains(MemoryPropertyFlags::all())
     }
 
-    /// Whether each bit of `other` is set, with a name or without. Every value contains the empty one.
+    /// Whether each bit of `other` is set, named or not. Every value contains the empty one.
     pub fn contains(&self, other: MemoryPropertyFlags) -> bool
         ensures { result ≡ has_all_bits (property_bits self.now) (property_bits other) }
     {
         <MemoryPropertyFlags as Flags>::contains(self, other)
     }
 
-    /// Whether at least one bit of `other` is set, with a name or without.
+    /// Whether at least one bit of `other` is set, named or not.
     pub fn intersects(&self, other: MemoryPropertyFlags) -> bool
         ensures { result ≡ has_bit (property_bits self.now) (property_bits other) }
     {
         <MemoryPropertyFlags as Flags>::intersects(self, other)
     }
 
-    /// Whether what the host or the device writes to such memory has to be flushed or invalidated for the other to see
-    /// it: the host sees the memory, and it is not coherent.
+    /// Whether the host and the device see each other's writes to such memory only after a flush or an invalidate: it
+    /// is host-visible and not coherent.
     pub fn is_non_coherent(&self) -> bool
         ensures { result ≡ are_non_coherent (property_bits self.now) }
     {
@@ -122,14 +122,14 @@ impl MemoryPropertyFlags {
             && !self.intersects(MemoryPropertyFlags::HOST_COHERENT)
     }
 
-    /// The bits of either.
+    /// The bits set in either.
     pub fn union(self, other: MemoryPropertyFlags) -> MemoryPropertyFlags
         ensures { property_bits result ≡ bit_or (property_bits self) (property_bits other) }
     {
         <MemoryPropertyFlags as Flags>::union(self, other)
     }
 
-    /// The bits of both.
+    /// The bits set in both.
     pub fn intersection(self, other: MemoryPropertyFlags) -> MemoryPropertyFlags
         ensures { property_bits result ≡ bit_and (property_bits self) (property_bits other) }
     {
@@ -143,14 +143,14 @@ impl MemoryPropertyFlags {
         <MemoryPropertyFlags as Flags>::difference(self, other)
     }
 
-    /// The bits of exactly one of the two.
+    /// The bits set in exactly one of the two.
     pub fn symmetric_difference(self, other: MemoryPropertyFlags) -> MemoryPropertyFlags
         ensures { property_bits result ≡ bit_xor (property_bits self) (property_bits other) }
     {
         <MemoryPropertyFlags as Flags>::symmetric_difference(self, other)
     }
 
-    /// The flags that have a name and are not set here.
+    /// The named flags that are not set here.
     #[tactic(auto, unfolding(bitflags::proofs::OnLiterals::bitflags_on_literals))]
     pub fn complement(self) -> MemoryPropertyFlags
         ensures { property_bits result ≡ bits_without named_property_bits (property_bits self) }
@@ -172,14 +172,14 @@ impl MemoryPropertyFlags {
         <MemoryPropertyFlags as Flags>::remove(self, other);
     }
 
-    /// Sets those bits of `other` that are clear here, and clears those that are set.
+    /// Flips the bits of `other`: sets those that are clear here, and clears those that are set.
     pub fn toggle(&mut self, other: MemoryPropertyFlags)
         ensures { property_bits self.new ≡ bit_xor (property_bits self.old) (property_bits other) }
     {
         <MemoryPropertyFlags as Flags>::toggle(self, other);
     }
 
-    /// Sets the bits of `other` where `on`, and else clears them.
+    /// Sets the bits of `other` if `on`, and clears them otherwise.
     pub fn set(&mut self, other: MemoryPropertyFlags, on: bool)
         ensures { property_bits self.new ≡ (if on then bit_or (property_bits self.old) (property_bits other)
             else bits_without (property_bits self.old) (property_bits other)) }
@@ -188,7 +188,7 @@ impl MemoryPropertyFlags {
     }
 }
 
-/// The bits of either, as [`MemoryPropertyFlags::union`].
+/// The bits set in either, as [`MemoryPropertyFlags::union`].
 impl BitOr for MemoryPropertyFlags {
     type Output = MemoryPropertyFlags;
 
@@ -207,7 +207,7 @@ impl BitOrAssign for MemoryPropertyFlags {
     }
 }
 
-/// The bits of both, as [`MemoryPropertyFlags::intersection`].
+/// The bits set in both, as [`MemoryPropertyFlags::intersection`].
 impl BitAnd for MemoryPropertyFlags {
     type Output = MemoryPropertyFlags;
 
@@ -226,7 +226,7 @@ impl BitAndAssign for MemoryPropertyFlags {
     }
 }
 
-/// The bits of exactly one of the two, as [`MemoryPropertyFlags::symmetric_difference`].
+/// The bits set in exactly one of the two, as [`MemoryPropertyFlags::symmetric_difference`].
 impl BitXor for MemoryPropertyFlags {
     type Output = MemoryPropertyFlags;
 
@@ -264,7 +264,7 @@ impl SubAssign for MemoryPropertyFlags {
     }
 }
 
-/// The flags that have a name and are not set here, as [`MemoryPropertyFlags::complement`].
+/// The named flags that are not set here, as [`MemoryPropertyFlags::complement`].
 impl Not for MemoryPropertyFlags {
     type Output = MemoryPropertyFlags;
 
@@ -276,7 +276,7 @@ impl Not for MemoryPropertyFlags {
 }
 
 impl MemoryPropertyFlags {
-    // The flags that have a name.
+    // The named flags.
     const FLAGS: &'static [Flag<MemoryPropertyFlags>] = &[
         Flag {
             name: "DEVICE_LOCAL",

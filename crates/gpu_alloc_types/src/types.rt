@@ -7,7 +7,7 @@ ghost use Rattle.gpu_alloc_types.specs.Properties.{IsUsable, HasAllOf, propertie
 
 use crate::MemoryPropertyFlags;
 
-/// Why a device gives no memory (Vulkan's `VK_ERROR_OUT_OF_DEVICE_MEMORY` and `VK_ERROR_OUT_OF_HOST_MEMORY`).
+/// Why a device refuses memory (Vulkan's `VK_ERROR_OUT_OF_DEVICE_MEMORY` and `VK_ERROR_OUT_OF_HOST_MEMORY`).
 #[derive(Clone, Copy, Debug, PartialEq, Eq, Hash)]
 pub enum OutOfMemory {
     /// The device's memory is exhausted.
@@ -17,7 +17,7 @@ pub enum OutOfMemory {
     OutOfHostMemory,
 }
 
-/// Why a device maps nothing.
+/// Why a device refuses to map an object (Vulkan's errors of `vkMapMemory`).
 #[derive(Clone, Copy, Debug, PartialEq, Eq, Hash)]
 pub enum DeviceMapError {
     /// The device's memory is exhausted.
@@ -30,7 +30,7 @@ pub enum DeviceMapError {
     MapFailed,
 }
 
-/// A type of memory. Types go by their index in [`DeviceProperties::memory_types`].
+/// A type of memory. A type is known by its index in [`DeviceProperties::memory_types`].
 #[derive(Clone, Copy, Debug, PartialEq, Eq, Hash)]
 pub struct MemoryType {
     /// The index of its heap in [`DeviceProperties::memory_heaps`].
@@ -40,7 +40,7 @@ pub struct MemoryType {
     pub props: MemoryPropertyFlags,
 }
 
-/// A heap, out of which memory of one type or more comes.
+/// A heap: the memory of one or more memory types comes out of it.
 #[derive(Clone, Copy, Debug, PartialEq, Eq, Hash)]
 pub struct MemoryHeap {
     /// Its size in bytes.
@@ -60,7 +60,7 @@ pub struct FreeRange {
     pub end: u64,
 }
 
-/// A range of what is mapped of a memory object, in bytes (Vulkan's `VkMappedMemoryRange`).
+/// A range in the mapped part of a memory object, in bytes (Vulkan's `VkMappedMemoryRange`).
 #[derive(Drop)]
 pub struct MappedMemoryRange<'a, M> {
     /// A handle of the object.
@@ -85,11 +85,11 @@ pub struct DeviceProperties<'a> {
     /// How many memory objects may be held at a time (Vulkan's `maxMemoryAllocationCount`).
     pub max_memory_allocation_count: u32,
 
-    /// The largest request that is served, in bytes (Vulkan's `maxMemoryAllocationSize`).
+    /// The largest object that may be allocated, in bytes (Vulkan's `maxMemoryAllocationSize`).
     pub max_memory_allocation_size: u64,
 
-    /// In bytes, what flushes and invalidates of non-coherent memory go by: their ranges begin at a multiple of it, and
-    /// end at one or where the object ends (Vulkan's `nonCoherentAtomSize`).
+    /// The unit of flushes and invalidates of non-coherent memory, in bytes (Vulkan's `nonCoherentAtomSize`). Their
+    /// ranges begin at a multiple of it, and end at one or at the object's end.
     pub non_coherent_atom_size: u64,
 
     /// Whether memory may be allocated with [`AllocationFlags::DEVICE_ADDRESS`](crate::AllocationFlags) (Vulkan's
@@ -98,9 +98,9 @@ pub struct DeviceProperties<'a> {
 }
 
 impl DeviceProperties<'_> {
-    /// Whether an allocator can stand on these properties: at most 32 memory types, fewer than 2^32 heaps, each type in
-    /// a heap that is there, and the atom a power of two of at most 2^62. There are never more types in Vulkan
-    /// (`VK_MAX_MEMORY_TYPES`); the atom's bound is the original crate's.
+    /// Whether an allocator can be built on these properties. There are at most 32 memory types (Vulkan's
+    /// `VK_MAX_MEMORY_TYPES`) and fewer than 2^32 heaps. Each type is of a heap that exists. The atom is a power of two
+    /// of at most 2^62 (the original crate's bound).
     pub fn is_usable(&self) -> bool
         ensures { IsTrue result ↔ IsUsable (properties_of self.now) }
     {
@@ -117,9 +117,9 @@ impl DeviceProperties<'_> {
         self.non_coherent_atom_size.is_power_of_two()
     }
 
-    /// The mask of the memory types that have all of these flags: bit 0 for the type with index 0. A request's
-    /// `memory_types` can be narrowed to them. Every type has all flags of an empty set. A type behind the 32nd has no
-    /// bit (there is none in Vulkan).
+    /// The mask of the memory types that have all of these flags: bit 0 for the type with index 0. A request can narrow
+    /// its `memory_types` to them. Every type has all flags of an empty set. A type past the 32nd has no bit (Vulkan
+    /// has no such type).
     pub fn types_with(&self, flags: MemoryPropertyFlags) -> u32
         ensures { (t : ℕ) → (bit_at result t ≡ 1) ↔ HasAllOf (properties_of self.now) (property_bits flags) t }
     {

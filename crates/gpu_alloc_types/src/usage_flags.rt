@@ -11,31 +11,31 @@ use std::ops::{
 
 /// What memory is used for (the original crate's `UsageFlags`).
 ///
-/// The calls and operators are those of the crate `bitflags`, on which the original crate's flags stand. A bit without
-/// a name is kept like any other, but [`from_bits`](Self::from_bits) refuses it, and
-/// [`from_bits_truncate`](Self::from_bits_truncate) and [`complement`](Self::complement) drop it.
+/// The calls and operators are those of the crate `bitflags`, which the original crate uses. A bit without a name is
+/// kept like any other. [`from_bits`](Self::from_bits) refuses it, and [`from_bits_truncate`](Self::from_bits_truncate)
+/// and [`complement`](Self::complement) drop it.
 #[derive(Clone, Copy, Debug, PartialEq, Eq, Hash, PartialOrd, Ord)]
 pub struct UsageFlags {
     bits: u8,
 }
 
 impl UsageFlags {
-    /// The device reads or writes it often. An empty usage means this too.
+    /// The device reads or writes the memory often. An empty usage means this too.
     pub const FAST_DEVICE_ACCESS: UsageFlags = UsageFlags { bits: 0x01 };
 
-    /// The host reads or writes it.
+    /// The host reads or writes the memory.
     pub const HOST_ACCESS: UsageFlags = UsageFlags { bits: 0x02 };
 
-    /// It carries data from the device to the host. Means `HOST_ACCESS` too.
+    /// The memory carries data from the device to the host. Implies `HOST_ACCESS`.
     pub const DOWNLOAD: UsageFlags = UsageFlags { bits: 0x04 };
 
-    /// It carries data from the host to the device. Means `HOST_ACCESS` too.
+    /// The memory carries data from the host to the device. Implies `HOST_ACCESS`.
     pub const UPLOAD: UsageFlags = UsageFlags { bits: 0x08 };
 
-    /// It goes back soon.
+    /// The block is returned soon.
     pub const TRANSIENT: UsageFlags = UsageFlags { bits: 0x10 };
 
-    /// The device addresses it by a `u64`.
+    /// The device addresses the memory by a `u64`.
     pub const DEVICE_ADDRESS: UsageFlags = UsageFlags { bits: 0x20 };
 
     /// The value with no bit set.
@@ -45,7 +45,7 @@ impl UsageFlags {
         <UsageFlags as Flags>::empty()
     }
 
-    /// All flags that have a name.
+    /// All named flags.
     #[tactic(auto, unfolding(bitflags::proofs::OnLiterals::bitflags_on_literals))]
     pub fn all() -> UsageFlags
         ensures { usage_bits result ≡ named_usage_bits }
@@ -77,56 +77,56 @@ impl UsageFlags {
         <UsageFlags as Flags>::from_bits_truncate(bits)
     }
 
-    /// The flags whose bits are set in `bits`, bits without a name among them.
+    /// The flags whose bits are set in `bits`, including bits without a name.
     pub fn from_bits_retain(bits: u8) -> UsageFlags
         ensures { usage_bits result ≡ bits }
     {
         UsageFlags { bits }
     }
 
-    /// Whether no bit is set, with a name or without.
+    /// Whether no bit is set, named or not.
     pub fn is_empty(&self) -> bool
         ensures { result ≡ (usage_bits self.now == 0) }
     {
         <UsageFlags as Flags>::is_empty(self)
     }
 
-    /// Whether each bit that has a name is set. Others may be set too.
+    /// Whether every named bit is set. Other bits may be set too.
     pub fn is_all(&self) -> bool
         ensures { result ≡ has_all_bits (usage_bits self.now) named_usage_bits }
     {
         self.contains(UsageFlags::all())
     }
 
-    /// Whether each bit of `other` is set, with a name or without. Every value contains the empty one.
+    /// Whether each bit of `other` is set, named or not. Every value contains the empty one.
     pub fn contains(&self, other: UsageFlags) -> bool
         ensures { result ≡ has_all_bits (usage_bits self.now) (usage_bits other) }
     {
         <UsageFlags as Flags>::contains(self, other)
     }
 
-    /// Whether at least one bit of `other` is set, with a name or without.
+    /// Whether at least one bit of `other` is set, named or not.
     pub fn intersects(&self, other: UsageFlags) -> bool
         ensures { result ≡ has_bit (usage_bits self.now) (usage_bits other) }
     {
         <UsageFlags as Flags>::intersects(self, other)
     }
 
-    /// Whether the usage asks for an address of which a device cannot tell: `DEVICE_ADDRESS`, without the feature.
+    /// Whether the usage asks for a device address that the device cannot give: `DEVICE_ADDRESS` without the feature.
     pub fn lacks_address(&self, buffer_device_address: bool) -> bool
         ensures { result ≡ (has_bit (usage_bits self.now) device_address && not buffer_device_address) }
     {
         self.intersects(UsageFlags::DEVICE_ADDRESS) && !buffer_device_address
     }
 
-    /// The bits of either.
+    /// The bits set in either.
     pub fn union(self, other: UsageFlags) -> UsageFlags
         ensures { usage_bits result ≡ bit_or (usage_bits self) (usage_bits other) }
     {
         <UsageFlags as Flags>::union(self, other)
     }
 
-    /// The bits of both.
+    /// The bits set in both.
     pub fn intersection(self, other: UsageFlags) -> UsageFlags
         ensures { usage_bits result ≡ bit_and (usage_bits self) (usage_bits other) }
     {
@@ -140,14 +140,14 @@ impl UsageFlags {
         <UsageFlags as Flags>::difference(self, other)
     }
 
-    /// The bits of exactly one of the two.
+    /// The bits set in exactly one of the two.
     pub fn symmetric_difference(self, other: UsageFlags) -> UsageFlags
         ensures { usage_bits result ≡ bit_xor (usage_bits self) (usage_bits other) }
     {
         <UsageFlags as Flags>::symmetric_difference(self, other)
     }
 
-    /// The flags that have a name and are not set here.
+    /// The named flags that are not set here.
     #[tactic(auto, unfolding(bitflags::proofs::OnLiterals::bitflags_on_literals))]
     pub fn complement(self) -> UsageFlags
         ensures { usage_bits result ≡ bits_without named_usage_bits (usage_bits self) }
@@ -169,14 +169,14 @@ impl UsageFlags {
         <UsageFlags as Flags>::remove(self, other);
     }
 
-    /// Sets those bits of `other` that are clear here, and clears those that are set.
+    /// Flips the bits of `other`: sets those that are clear here, and clears those that are set.
     pub fn toggle(&mut self, other: UsageFlags)
         ensures { usage_bits self.new ≡ bit_xor (usage_bits self.old) (usage_bits other) }
     {
         <UsageFlags as Flags>::toggle(self, other);
     }
 
-    /// Sets the bits of `other` where `on`, and else clears them.
+    /// Sets the bits of `other` if `on`, and clears them otherwise.
     pub fn set(&mut self, other: UsageFlags, on: bool)
         ensures { usage_bits self.new ≡ (if on then bit_or (usage_bits self.old) (usage_bits other)
             else bits_without (usage_bits self.old) (usage_bits other)) }
@@ -185,7 +185,7 @@ impl UsageFlags {
     }
 }
 
-/// The bits of either, as [`UsageFlags::union`].
+/// The bits set in either, as [`UsageFlags::union`].
 impl BitOr for UsageFlags {
     type Output = UsageFlags;
 
@@ -204,7 +204,7 @@ impl BitOrAssign for UsageFlags {
     }
 }
 
-/// The bits of both, as [`UsageFlags::intersection`].
+/// The bits set in both, as [`UsageFlags::intersection`].
 impl BitAnd for UsageFlags {
     type Output = UsageFlags;
 
@@ -223,7 +223,7 @@ impl BitAndAssign for UsageFlags {
     }
 }
 
-/// The bits of exactly one of the two, as [`UsageFlags::symmetric_difference`].
+/// The bits set in exactly one of the two, as [`UsageFlags::symmetric_difference`].
 impl BitXor for UsageFlags {
     type Output = UsageFlags;
 
@@ -261,7 +261,7 @@ impl SubAssign for UsageFlags {
     }
 }
 
-/// The flags that have a name and are not set here, as [`UsageFlags::complement`].
+/// The named flags that are not set here, as [`UsageFlags::complement`].
 impl Not for UsageFlags {
     type Output = UsageFlags;
 
@@ -273,7 +273,7 @@ impl Not for UsageFlags {
 }
 
 impl UsageFlags {
-    // The flags that have a name.
+    // The named flags.
     const FLAGS: &'static [Flag<UsageFlags>] = &[
         Flag {
             name: "FAST_DEVICE_ACCESS",

@@ -1,4 +1,4 @@
--- The ranking key by key, as it is worked out.
+-- The ranking, computed key by key.
 use Rattle.std.specs.Prelude.{ℕ, zero, suc, ◌+◌, ◌==◌, Bool, ◌&&◌, if◌then◌else◌, List, [], ◌∷◌, ◌++◌}
 use Rattle.gpu_alloc_types.specs.Flags.{property_bits}
 use Rattle.gpu_alloc_types.specs.declared.types.MemoryType.{MemoryType}

@@ -1,4 +1,4 @@
--- What the types of one usage are, once ranked.
+-- The ranked types of one usage.
 use Rattle.std.specs.Prelude.{ℕ, List, take}
 use Rattle.gpu_alloc_usage.specs.declared.usage.ranked.MemoryForOneUsage.{MemoryForOneUsage}
 

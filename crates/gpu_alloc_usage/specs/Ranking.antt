@@ -11,7 +11,7 @@ use Rattle.gpu_alloc_types.specs.declared.types.MemoryType.{MemoryType}
 
 -- What a usage means.
 
--- a usage's bits that have a name
+-- a usage's named bits
 abbrev pub named : ℕ → ℕ
 named usage = bit_and usage named_usage_bits
 
@@ -19,11 +19,11 @@ named usage = bit_and usage named_usage_bits
 abbrev pub with_fast : ℕ → ℕ
 with_fast usage = if usage == 0 then fast_device_access else usage
 
--- DOWNLOAD and UPLOAD mean HOST_ACCESS too
+-- DOWNLOAD and UPLOAD imply HOST_ACCESS
 abbrev pub with_host : ℕ → ℕ
 with_host usage = if has_bit usage (download + upload) then bit_or usage host_access else usage
 
--- what a usage means. Bits without a name fall away first
+-- the meaning of a usage. Unnamed bits are dropped first
 abbrev pub implied : ℕ → ℕ
 implied usage = with_host (with_fast (named usage))
 
@@ -33,7 +33,7 @@ implied usage = with_host (with_fast (named usage))
 abbrev pub by_host : ℕ → Bool
 by_host usage = has_bit usage (host_access + download + upload)
 
--- the device's own memory is wanted: no flag, or FAST_DEVICE_ACCESS
+-- the usage prefers the device's own memory: no flag, or FAST_DEVICE_ACCESS
 abbrev pub is_fast : ℕ → Bool
 is_fast usage = (usage == 0) || has_bit usage fast_device_access
 
@@ -41,14 +41,14 @@ is_fast usage = (usage == 0) || has_bit usage fast_device_access
 abbrev pub compatible : ℕ → ℕ → Bool
 compatible usage props = not (has_bit props (lazily_allocated + protected)) && (not (by_host usage) || has_bit props host_visible)
 
--- n where the two differ, else 0
+-- n where the two differ, and 0 otherwise
 abbrev pub where_differ : ℕ → Bool → Bool → ℕ
 where_differ n true true = 0
 where_differ n true false = n
 where_differ n false true = n
 where_differ n false false = 0
 
--- how far memory is from what a usage wants: DEVICE_LOCAL counts 8, HOST_VISIBLE 4, HOST_CACHED 2, HOST_COHERENT 1
+-- how far memory is from a usage's preferences: DEVICE_LOCAL counts 8, HOST_VISIBLE 4, HOST_CACHED 2, HOST_COHERENT 1
 abbrev pub key : ℕ → ℕ → ℕ
 key usage props =
     where_differ 8 (has_bit props device_local) (is_fast usage)
@@ -58,7 +58,7 @@ key usage props =
 
 -- The ranking: the types that may serve a usage, put in order.
 
--- the property bits of the type with index t, none where there is no such type
+-- the property bits of the type with index t, 0 where there is no such type
 abbrev pub props_of : List MemoryType → ℕ → ℕ
 props_of types t = bits_of (slice_get types t)
 
@@ -70,12 +70,12 @@ key_of usage types t = key usage (props_of types t)
 abbrev pub serving : ℕ → List MemoryType → List ℕ
 serving usage types = filter (λ t. compatible usage (props_of types t)) (range_with_len 0 (length types))
 
--- t put in front of the first whose key is not lower
+-- t inserted before the first whose key is not lower
 unfoldable pub put_in : (ℕ → ℕ) → ℕ → List ℕ → List ℕ
 put_in k t [] = t ∷ []
 put_in k t (s ∷ rest) = if nat_lt (k s) (k t) then s ∷ put_in k t rest else t ∷ s ∷ rest
 
--- the lowest key first, and those of one key as they stood
+-- the lowest key first, and equal keys in their old order
 unfoldable pub in_order : (ℕ → ℕ) → List ℕ → List ℕ
 in_order k [] = []
 in_order k (t ∷ rest) = put_in k t (in_order k rest)
@@ -88,11 +88,11 @@ ranking usage types = in_order (key_of usage types) (serving usage types)
 abbrev pub is_allowed : ℕ → ℕ → Bool
 is_allowed mask t = bit_at mask t == 1
 
--- the types that are tried for a request, in this order: those ranked for what its usage means whose bit is set
+-- the types that are tried for a request, in this order: those ranked for its usage whose bit is set
 abbrev pub candidates : List MemoryType → ℕ → ℕ → List ℕ
 candidates types usage mask = filter (is_allowed mask) (ranking (implied usage) types)
 
--- The ranking, by what it has and how it is ordered.
+-- The ranking, by its members and its order.
 
 -- there is a type with index t, and it may serve a usage
 abbrev pub Serves : ℕ → List MemoryType → ℕ → Type 0
@@ -106,7 +106,7 @@ Before k s t = (k s < k t) ⊎ ((k s ≡ k t) × (s < t))
 abbrev pub IsRising : (ℕ → ℕ) → List ℕ → Type 0
 IsRising k xs = (a b : ℕ) → a < b → b < length xs → Before k (slice_index xs a) (slice_index xs b)
 
--- exactly the types that may serve a usage, the lowest key first, and of one key the lowest index first
+-- exactly the types that may serve a usage, the lowest key first, and among equals the lowest index first
 pub record IsRanking (usage : ℕ) (types : List MemoryType) (ranked : List ℕ) : Type 0 where
   pub exactly : (t : ℕ) → Contains ranked t ↔ Serves usage types t
   pub rising : IsRising (key_of usage types) ranked

@@ -1,4 +1,4 @@
-//! Which memory types serve a usage, and in which order they are tried. Users find what is theirs of it in `gpu_alloc`.
+//! Which memory types serve a usage, and in which order they are tried. `gpu_alloc` exports what users need of it.
 #![tactic(auto)]
 
 pub mod laws;

@@ -11,19 +11,19 @@ use crate::usage::ranked::MemoryForOneUsage;
 use gpu_alloc_types::{MemoryType, UsageFlags};
 use std::marker::Model;
 
-/// How many usages there are, which are the sets of named flags.
+/// How many usages there are: the sets of named flags.
 const USAGES: usize = 64;
 
-/// The bits of a usage that have a name.
+/// The named bits of a usage.
 const NAMED: u8 = 0x3f;
 
 /// The memory types that serve each usage, ranked once.
 ///
-/// A type serves a usage unless it is `LAZILY_ALLOCATED` or `PROTECTED`; where the host reads or writes (`HOST_ACCESS`,
-/// `UPLOAD` or `DOWNLOAD`) it has to be `HOST_VISIBLE` too. The types that serve are ranked by how far they are from
-/// what the usage wants: 8 for a miss in `DEVICE_LOCAL`, 4 in `HOST_VISIBLE`, 2 in `HOST_CACHED`, 1 in `HOST_COHERENT`.
-/// The nearest comes first, and of those equally far the lowest index (the original crate's order, which leaves ties
-/// open).
+/// A type serves a usage unless it is `LAZILY_ALLOCATED` or `PROTECTED`. Where the host reads or writes (`HOST_ACCESS`,
+/// `UPLOAD` or `DOWNLOAD`) it must also be `HOST_VISIBLE`. The types that serve are ranked by how far they are from the
+/// usage's preferences: 8 for a mismatch in `DEVICE_LOCAL`, 4 in `HOST_VISIBLE`, 2 in `HOST_CACHED`, 1 in
+/// `HOST_COHERENT`. The nearest comes first, and among equals the lowest index (the original crate's order, which
+/// leaves ties open).
 #[derive(Drop)]
 pub struct MemoryForUsage {
     usages: [MemoryForOneUsage; 64],
@@ -39,7 +39,7 @@ impl Model for MemoryForUsage {
 }
 
 impl MemoryForUsage {
-    /// Ranks a device's memory types, of which there are at most 32 (Vulkan's `VK_MAX_MEMORY_TYPES`), for each usage.
+    /// Ranks a device's memory types for each usage. There are at most 32 types (Vulkan's `VK_MAX_MEMORY_TYPES`).
     pub fn new(memory_types: &[MemoryType]) -> MemoryForUsage
         requires { length memory_types.now ≤ 32 }
         ensures { IsTable memory_types.now result }
@@ -52,8 +52,8 @@ impl MemoryForUsage {
         MemoryForUsage { usages }
     }
 
-    /// The mask that has exactly the bits of the types that serve a usage: bit 0 for the type with index 0. Bits of the
-    /// usage without a name are dropped.
+    /// The mask with exactly the bits of the types that serve a usage: bit 0 for the type with index 0. Unnamed bits of
+    /// the usage are dropped.
     #[inline(always)]
     pub fn mask(&self, usage: UsageFlags) -> u32
         ensures { IsMaskOf result (row self.now (usage_bits usage)) }
@@ -61,7 +61,7 @@ impl MemoryForUsage {
         self.row(usage).mask()
     }
 
-    /// The indices of the types that serve a usage, the best first. Bits of the usage without a name are dropped.
+    /// The indices of the types that serve a usage, the best first. Unnamed bits of the usage are dropped.
     #[inline(always)]
     pub fn types(&self, usage: UsageFlags) -> &[u32]
         ensures { result.now ≡ row self.now (usage_bits usage) }
@@ -69,7 +69,7 @@ impl MemoryForUsage {
         self.row(usage).types()
     }
 
-    /// Whether any type that serves a usage has its bit set in `mask`. Bits of the usage without a name are dropped.
+    /// Whether any type that serves a usage has its bit set in `mask`. Unnamed bits of the usage are dropped.
     #[inline(always)]
     pub fn has_any(&self, usage: UsageFlags, mask: u32) -> bool
         ensures { result ≡ not (length (filter (is_allowed mask) (row self.now (usage_bits usage))) == 0) }
@@ -85,8 +85,8 @@ impl MemoryForUsage {
     }
 }
 
-/// What a request's usage means: no flag means `FAST_DEVICE_ACCESS`, and `DOWNLOAD` and `UPLOAD` mean `HOST_ACCESS` too
-/// (the original crate's rule). Bits without a name are dropped.
+/// The meaning of a request's usage: no flag means `FAST_DEVICE_ACCESS`, and `DOWNLOAD` and `UPLOAD` imply
+/// `HOST_ACCESS` (the original crate's rule). Unnamed bits are dropped.
 #[inline(always)]
 pub fn meaning(usage: UsageFlags) -> UsageFlags
     ensures { usage_bits result ≡ implied (usage_bits usage) }

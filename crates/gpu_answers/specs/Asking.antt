@@ -1,4 +1,4 @@
--- A run of calls, and what its questions are answered.
+-- A run of calls, and the answers to its questions.
 use Rattle.std.specs.Prelude.{◌≡◌, ◌≢◌, ◌⊎◌, ℕ, ◌==◌, cond, List, [], ◌∷◌, Option, Some, None}
 use Rattle.gpu_alloc_types.specs.declared.types.DeviceMapError.{DeviceMapError}
 use Rattle.gpu_alloc_types.specs.declared.types.DeviceMapError.TheVariants as DeviceMap
@@ -14,17 +14,17 @@ use Rattle.gpu_answers.specs.declared.run.Stop.{Stop}
 use Rattle.gpu_answers.specs.declared.run.Stop.TheVariants.{Open, Strayed}
 
 -- The given answers that are not used yet, why no more of them are used if that is so, and the name of the object that
--- the run made last
+-- the run made last.
 pub record RunState : Type 0 where
   pub left : List Answered
   pub stop : Option Stop
   pub made : Option ℕ
 
--- a run that nothing was asked in
+-- a run in which nothing was asked
 abbrev pub begun : List Answered → RunState
 begun answers = record { left = answers; stop = None; made = None }
 
--- The next answer counts where it is to this question. Else the question has none, and neither has any after it.
+-- The next answer counts if it is to this question. Otherwise neither this question nor any after it has an answer.
 abbrev pub IsTold : Option Stop → List Answered → RunState → Question → Option Answer → RunState → Type 0
 IsTold (Some stop) left old question told new = (told ≡ None) × (new ≡ old)
 IsTold None [] old question told new = (told ≡ None) × (new ≡ record old { stop = Some (Open question) })
@@ -42,12 +42,12 @@ open_in None = None
 open_in (Some (Open question)) = Some question
 open_in (Some Strayed) = None
 
--- what is asked to map a range: the object that the run made last goes by no name
+-- the question to map a range: it does not name the object that the run made last
 abbrev pub map_question : Option ℕ → (object offset size : ℕ) → Question
 map_question None object offset size = Map object offset size
 map_question (Some made) object offset size = cond (made == object) (MapMade offset size) (Map object offset size)
 
--- why an allocation is refused that was not granted
+-- why an allocation that was not granted is refused
 abbrev pub allocation_refusal : Option Answer → OutOfMemory
 allocation_refusal None = Memory.OutOfHostMemory
 allocation_refusal (Some Granted) = Memory.OutOfHostMemory
@@ -55,7 +55,7 @@ allocation_refusal (Some OutOfDeviceMemory) = Memory.OutOfDeviceMemory
 allocation_refusal (Some OutOfHostMemory) = Memory.OutOfHostMemory
 allocation_refusal (Some MapFailed) = Memory.OutOfHostMemory
 
--- why a mapping is refused that was not granted
+-- why a mapping that was not granted is refused
 abbrev pub map_refusal : Option Answer → DeviceMapError
 map_refusal None = DeviceMap.OutOfHostMemory
 map_refusal (Some Granted) = DeviceMap.OutOfHostMemory

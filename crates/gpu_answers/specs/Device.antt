@@ -16,13 +16,13 @@ use Rattle.gpu_answers.specs.declared.question.Answer.{Answer}
 use Rattle.gpu_answers.specs.declared.question.Answer.TheVariants.{Granted}
 use Rattle.gpu_answers.specs.declared.question.Question.TheVariants.{Allocate}
 
--- As every device shows its objects.
+-- In the form in which every device shows its objects.
 
--- No byte is stored: those that the host sees are 0, for the host and for the device.
+-- No bytes are stored: those that are host-visible are 0, for the host and for the device.
 abbrev pub zeros : Properties → HeldObject → List ℕ
 zeros p o = cond (is_host_visible p o.memory_type) (replicate o.size 0) []
 
--- the range, where it lies inside so many bytes. (Each that is mapped does.)
+-- the range, if it lies inside `size` bytes. (Each mapped range does.)
 abbrev pub within : ℕ → Option (ℕ × ℕ) → Option (ℕ × ℕ)
 within size None = None
 within size (Some r) = cond (nat_le (r.0 + r.1) size) (Some r) None
@@ -52,10 +52,10 @@ pub record IsFresh (p : Properties) (s : DeviceState) : Type 0 where
   pub names : s.held.last_name ≡ 0
   pub gone : s.held.gone ≡ []
 
--- What every device's calls do here, beside their row.
+-- What the calls of every device do here, besides their row.
 
--- What a call asks in a run, and what it answers: what was answered outside. An allocation may also be refused for want
--- of room before it is asked. Flushes and invalidates are granted, and they and what can't fail ask nothing.
+-- What a call asks in a run, and what it answers: the answer from outside. An allocation may also be refused for want
+-- of room before it is asked. Flushes and invalidates are granted. They and calls that cannot fail ask nothing.
 abbrev pub Answers : RunState → Event → RunState → Type 0
 Answers old (Allocated size t flags (Ok name)) new =
     (asked : RunState) × Asks old (Allocate size t flags) (Some Granted) asked
@@ -72,8 +72,8 @@ Answers old (Flushed rs (Err error)) new = ⊥
 Answers old (Invalidated rs (Err error)) new = ⊥
 Answers old e new = new ≡ old
 
--- What a call does to the names: a new object has the next one, which was never used, and the name of an object that is
--- given back, which was held, goes last among those.
+-- What a call does to the names. A new object has the next one, which was never used. The name of a released object,
+-- which was held, is added after the other released ones.
 abbrev pub Names : HeldState → Event → HeldState → Type 0
 Names old (Allocated size t flags (Ok name)) new =
     (name ≡ old.last_name + 1) × (new.last_name ≡ name) × (new.gone ≡ old.gone)

@@ -7,7 +7,7 @@ use Rattle.gpu_answers.specs.Asking.{RunState}
 use Rattle.gpu_answers.specs.Held.{HeldState, held_code}
 use Rattle.gpu_answers.specs.contracts.run.Run as run
 
--- what it offers, the run with its answers, and the objects that are held
+-- what it offers, the run with its answers, and the held objects
 pub record DeviceState : Type 0 where
   pub properties : Properties
   pub run : RunState

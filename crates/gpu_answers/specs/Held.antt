@@ -1,4 +1,4 @@
--- The objects that are held, and the names of those that were given back.
+-- The held objects, and the names of those that were released.
 use Rattle.std.specs.Prelude.{◌≡◌, ℕ, ◌+◌, ◌-◌, ◌^◌, ◌<◌, ◌≤◌, min, nat_eq, List, All, Option, Some, None, refl}
 use Rattle.std.specs.Coded.{Coded, code_by, coded×, coded_ℕ, coded_list}
 use Rattle.std.specs.FinMap as map
@@ -8,8 +8,8 @@ use Rattle.std.specs.Ordering.{nat_cmp}
 use Rattle.gpu_answers.specs.declared.objects.HeldObject.{HeldObject}
 use Rattle.gpu_answers.specs.contracts.objects.HeldObject as held_object
 
--- The objects by name, the latest name that was used, the names that were given back, and how many more objects fit in
--- with no allocation
+-- The objects by name, the latest name that was used, the names that were released, and how many more objects fit in
+-- without an allocation.
 pub record HeldState : Type 0 where
   pub objects : FinMap nat_cmp HeldObject
   pub last_name : ℕ
@@ -31,7 +31,7 @@ new_object size t = record { memory_type = t; size = size; mapped = None }
 abbrev pub mapped_as : Option (ℕ × ℕ) → HeldObject → HeldObject
 mapped_as range o = record o { mapped = range }
 
--- the object of that name is changed so, and no other
+-- the object of that name changes so, and no other
 abbrev pub ChangesAt : (HeldObject → HeldObject) → FinMap nat_cmp HeldObject → ℕ → FinMap nat_cmp HeldObject → Type 0
 ChangesAt change old name new =
     (o : HeldObject) × (map.get old name ≡ Some o) × (new ≡ map.insert old name (change o))
@@ -44,15 +44,15 @@ AreNamedUpTo last objects = (name : ℕ) → last < name → map.get objects nam
 abbrev pub IsUsed : ℕ → FinMap nat_cmp HeldObject → ℕ → Type 0
 IsUsed last objects name = (name ≤ last) × (map.get objects name ≡ None)
 
--- What always holds: no name is above the latest, and the names that were given back are those of no object, each there
--- once. And of the places for such names some are taken, and one is left for each object that is held.
+-- What always holds: no name is above the latest, and the released names are no object's, each there once. Of the
+-- places for such names some are taken, and one is left for each held object.
 pub record AreKept (last : ℕ) (gone : List ℕ) (taken places : ℕ) (objects : FinMap nat_cmp HeldObject) : Type 0 where
   pub named : AreNamedUpTo last objects
   pub used : All (IsUsed last objects) gone
   pub once : IsDistinct nat_eq gone
   pub names_fit : taken + map.len objects ≤ places
 
--- How many more objects fit in: for each an entry, a place for its name once it is given back, and a name. Names end at
+-- How many more objects fit in: for each an entry, a place for its name once it is released, and a name. Names end at
 -- the greatest number.
 abbrev pub room_in : (entries last taken places : ℕ) → FinMap nat_cmp HeldObject → ℕ
 room_in entries last taken places objects =
@@ -64,18 +64,18 @@ room_in entries last taken places objects =
 abbrev pub IsPast : HeldState → ℕ → Type 0
 IsPast s name = IsUsed s.last_name s.objects name
 
--- and it does not wait to be read: it was read, or is not to be
+-- and it does not wait to be read: it was read, or must not be
 abbrev pub IsSpent : HeldState → ℕ → Type 0
 IsSpent s name = IsPast s name × (Contains s.gone name → ⊥)
 
--- What always holds of the names: none is above the latest, and each that waits to be read is that of no object, and waits
+-- What always holds of the names: none is above the latest, and each that waits to be read is no object's and waits
 -- once.
 pub record AreNamed (s : HeldState) : Type 0 where
   pub held : AreNamedUpTo s.last_name s.objects
   pub waiting : All (IsPast s) s.gone
   pub once : IsDistinct nat_eq s.gone
 
--- Names rise, and none comes twice: no object gets a name that was given before, and no name that is spent waits again.
+-- Names rise, and none comes twice: no object gets a name that was given before, and no spent name waits again.
 pub record KeepsNames (old new : HeldState) : Type 0 where
   pub rises : old.last_name ≤ new.last_name
   pub past : (name : ℕ) → IsPast old name → IsPast new name

@@ -1,4 +1,4 @@
--- The objects that are held, as their rows say.
+-- The held objects, from their rows.
 use Rattle.std.specs.Prelude.{◌≡◌, ◌≢◌, ℕ, ◌-◌, Some, refl}
 use Rattle.std.specs.Coded.{Coded, code_by, coded×, coded_ℕ}
 use Rattle.std.specs.FinMap as map
@@ -10,7 +10,7 @@ use Rattle.gpu_answers.specs.declared.objects.HeldObject.{HeldObject}
 use Rattle.gpu_answers.specs.declared.objects.ObjectRow.{ObjectRow}
 use Rattle.gpu_answers.specs.contracts.objects.HeldObject as held_object
 
--- the objects by name, and how many more fit in with no allocation
+-- the objects by name, and how many more fit in without an allocation
 pub record ObjectsState : Type 0 where
   pub objects : FinMap nat_cmp HeldObject
   pub room : ℕ
@@ -30,10 +30,10 @@ object_in row = row.object
 abbrev pub objects_in : Slab ObjectRow → ObjectsState
 objects_in rows = record { objects = map_by name_in object_in rows; room = rows.capacity - slab_len rows }
 
--- the name's row stands at the place
+-- the name's row is at the place
 abbrev pub IsUnder : Slab ObjectRow → ℕ → ℕ → Type 0
 IsUnder rows name place = (row : ObjectRow) × (get rows place ≡ Some row) × (name_in row ≡ name)
 
--- the name's row stands nowhere
+-- the name's row is nowhere
 abbrev pub IsNowhere : Slab ObjectRow → ℕ → Type 0
 IsNowhere rows name = (place : ℕ) (row : ObjectRow) → get rows place ≡ Some row → name_in row ≢ name

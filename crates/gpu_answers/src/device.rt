@@ -22,14 +22,14 @@ use std::marker::Model;
 /// A device that is asked from outside, for a caller that can't be called back.
 ///
 /// Its questions are answered from a list. A call of the allocator is a run: it begins with the answers that are known
-/// so far, and the first question that has none is refused and told by [`open`](AnsweredDevice::open). The caller asks
-/// the real device, and runs the call again with one answer more. Each answer names its question, so that an answer to
-/// another call counts nowhere: [`has_strayed`](AnsweredDevice::has_strayed) tells it.
+/// so far. The first question without an answer is refused, and [`open`](AnsweredDevice::open) returns it. The caller
+/// asks the real device, and runs the call again with one more answer. Each answer names its question, so an answer to
+/// another call counts nowhere, and [`has_strayed`](AnsweredDevice::has_strayed) reports it.
 ///
-/// Objects are named 1, 2, 3 and so on, and a name is never used again. No byte of an object is kept. So no flush and
-/// no invalidate is a question: both are granted at once and change nothing, as in memory whose bytes are all 0. (The
-/// caller flushes and invalidates the real device's memory.) What can't fail is no question either: an object that is
-/// given back is told by [`gone`](AnsweredDevice::gone).
+/// Objects are named 1, 2, 3 and so on, and no name is used again. No bytes of an object are kept. So flushes and
+/// invalidates are not questions: both are granted at once and change nothing, as in memory whose bytes are all 0. (The
+/// caller flushes and invalidates the real device's memory.) Calls that cannot fail are not questions either:
+/// [`gone`](AnsweredDevice::gone) reports the objects that were released.
 #[derive(Drop)]
 pub struct AnsweredDevice {
     properties: OwnedProperties,
@@ -48,9 +48,9 @@ impl Model for AnsweredDevice {
 }
 
 impl AnsweredDevice {
-    /// A device that offers what `props` says and holds no object, in a run with no answers.
+    /// A device that offers what `props` says and holds no object, in a run without answers.
     ///
-    /// Takes memory for a copy of `props`, and fails only for want of it.
+    /// It takes memory for a copy of `props`, and fails only for want of it.
     pub fn new(alloc: Global, props: DeviceProperties<'_>) -> Result<AnsweredDevice, AllocError>
         ensures { IfOk result (λ device. IsFresh (properties_of props.entry) device) }
     {
@@ -61,19 +61,19 @@ impl AnsweredDevice {
         })
     }
 
-    /// Nothing is done: its contract tells what always holds of the names of objects. Each that was given back and not
-    /// taken is at most the latest, is that of no object that is held, and is there once.
+    /// A lemma about the names of objects: does nothing at run time. Each name that was released and not taken is at
+    /// most the latest, is no held object's, and occurs once.
     pub fn keeps_names(&self)
         ensures { AreNamed self.now.held }
     {
         self.held.keeps_names();
     }
 
-    /// Begins a run with these answers, in the order in which their questions are asked. Of the answers of the run before
-    /// it nothing is told any more. The objects stay as they are, the next name is the same, and the names that were
-    /// given back and not taken are still told.
+    /// Begins a run with these answers, in the order in which their questions are asked. The answers of the run before
+    /// are forgotten. The objects and the next name are unchanged, and so are the names that were released and not
+    /// taken.
     ///
-    /// Takes memory for a copy of the answers. Fails only for want of it, and all is as before then.
+    /// It takes memory for a copy of the answers. It fails only for want of it, and then nothing changes.
     pub fn begin(&mut self, answers: &[Answered]) -> Result<(), AllocError>
         ensures run { OnOk result (self.new.run ≡ begun answers.now) }
         ensures offers { self.new.properties ≡ self.old.properties }
@@ -83,41 +83,41 @@ impl AnsweredDevice {
         self.run.begin(answers)
     }
 
-    /// The question that has no answer yet: the first one of the run that came after the last answer, if there was one.
-    /// It was refused by `OutOfHostMemory`, and so was each later one.
+    /// The question that has no answer yet: the first one of the run after the last answer, if there was one. It was
+    /// refused with `OutOfHostMemory`, and so was each later one.
     pub fn open(&self) -> Option<Question>
         ensures { result ≡ open_in self.now.run.stop }
     {
         self.run.open()
     }
 
-    /// Whether a question of the run isn't the one that the answer in its place is to. That question and each later one
-    /// were refused by `OutOfHostMemory`.
+    /// Whether a question of the run isn't the one that the answer in its place belongs to. That question and each
+    /// later one were refused with `OutOfHostMemory`.
     pub fn has_strayed(&self) -> bool
         ensures { IsTrue result ↔ (self.now.run.stop ≡ Some Strayed) }
     {
         self.run.has_strayed()
     }
 
-    /// The name of the object that the run made last, held or given back since.
+    /// The name of the object that the run made last, held or released since.
     pub fn made(&self) -> Option<u64>
         ensures { result ≡ self.now.run.made }
     {
         self.run.made()
     }
 
-    /// The names of the objects that were given back and not taken, in that order. None is left out: the room for a name
-    /// is taken when its object is made.
+    /// The names of the objects that were released and not taken, in that order. None is left out: the room for a name
+    /// is made when its object is made.
     ///
-    /// A run that is left with an open question gives back what it made. The real object stays, since the next run
-    /// makes it again: [`forget_gone_after`](AnsweredDevice::forget_gone_after) drops such names.
+    /// A run that ends with an open question releases what it made. The real object stays, since the next run makes it
+    /// again: [`forget_gone_after`](AnsweredDevice::forget_gone_after) drops such names.
     pub fn gone(&self) -> &[u64]
         ensures { result.now ≡ self.now.held.gone }
     {
         self.held.gone()
     }
 
-    /// Takes the name that was given back last, or answers `None` where none is left. It is taken once: it never waits
+    /// Takes the name that was released last, or returns `None` where none is left. It is taken once: it never waits
     /// again, and no later object has it. Nothing else changes.
     pub fn take_gone(&mut self) -> Option<u64>
         ensures taken { IfSome result (λ name. self.old.held.gone ≡ self.new.held.gone ++ name ∷ []) }
@@ -131,8 +131,8 @@ impl AnsweredDevice {
         self.held.take_gone()
     }
 
-    /// Keeps the first names alone that were given back, so many of them: of a run that is asked again, what it gave
-    /// back itself is not to be told. Nothing else changes.
+    /// Drops all but the first `count` names that were released: those that a run released itself must not be reported
+    /// if it is run again. Nothing else changes.
     pub fn forget_gone_after(&mut self, count: usize)
         ensures gone { self.new.held.gone ≡ take count self.old.held.gone }
         ensures run { self.new.run ≡ self.old.run }

@@ -1,4 +1,4 @@
-//! The objects that are held, and the names of those that were given back.
+//! The held objects, and the names of those that were released.
 
 ghost use Rattle.std.specs.Prelude.{◌≡◌, ◌+◌, ◌<◌, [], ◌∷◌, ◌++◌, take, None, Some, IsSome, OnOk, IfSome};
 ghost use Rattle.std.specs.FinMap as map;
@@ -10,11 +10,11 @@ use gpu_alloc_types::MemoryObject;
 use std::alloc::{AllocError, Global};
 use std::marker::Model;
 
-/// The objects that are held, by name, and the names of those that were given back.
+/// The held objects, by name, and the names of those that were released.
 ///
-/// The names are 1, 2, 3 and so on, and none is used again. There is always room for the name of each object that is
-/// held beside those that were given back, so that no name is lost. The calls take constant time on average for a handle
-/// that was made here; any other is searched for.
+/// The names are 1, 2, 3 and so on, and none is used again. There is always room for the name of each held object among
+/// the released ones, so no name is lost. The calls take constant time on average for a handle that was made here; for
+/// any other they search.
 #[derive(Drop)]
 pub(crate) struct HeldObjects {
     objects: Objects,
@@ -46,7 +46,7 @@ impl Model for HeldObjects {
 }
 
 impl HeldObjects {
-    /// No objects and no names. It takes no memory.
+    /// No objects and no names. It allocates nothing.
     pub(crate) fn new(alloc: Global) -> HeldObjects
         ensures objects { result.objects ≡ map.empty }
         ensures last_name { result.last_name ≡ 0 }
@@ -59,15 +59,15 @@ impl HeldObjects {
         }
     }
 
-    /// Nothing is done: its contract tells what always holds of the names.
+    /// A lemma about the names: does nothing at run time.
     pub(crate) fn keeps_names(&self)
         ensures { AreNamed self.now }
     {
         let _ = &self.gone;
     }
 
-    /// Makes room for one more object, for its name and for that name among those that were given back. Fails for want
-    /// of memory, or where names are spent. Nothing but the room changes.
+    /// Makes room for one more object, for its name and for that name among the released ones. It fails for want of
+    /// memory, or where names are used up. Nothing but the room changes.
     pub(crate) fn make_room(&mut self) -> Result<(), AllocError>
         ensures room { OnOk result (0 < self.new.room) }
         ensures kept { self.new ≡ record self.old { room = self.new.room } }
@@ -80,7 +80,7 @@ impl HeldObjects {
         Ok(())
     }
 
-    /// Holds an unmapped object under the next name, and answers its handle. There has to be room.
+    /// Holds an unmapped object under the next name, and returns its handle. There must be room.
     pub(crate) fn hold(&mut self, size: u64, memory_type: u32) -> ObjectName
         requires { 0 < self.old.room }
         ensures name { result ≡ self.old.last_name + 1 }
@@ -100,7 +100,7 @@ impl HeldObjects {
         ObjectName::new(name, place)
     }
 
-    /// Gives an object back that is held. Its name goes last among those that were given back.
+    /// Releases a held object. Its name is added after the other released ones.
     pub(crate) fn give_back(&mut self, memory: &ObjectName)
         requires { IsSome (map.get self.old.objects memory.now) }
         ensures objects { self.new.objects ≡ map.remove self.old.objects memory.now }
@@ -112,7 +112,7 @@ impl HeldObjects {
         self.gone.push_reserved(name);
     }
 
-    /// Maps a range of an object that is held, or none.
+    /// Sets the mapped range of a held object, or none.
     pub(crate) fn set_mapped(&mut self, memory: &ObjectName, range: Option<(u64, u64)>)
         requires { IsSome (map.get self.old.objects memory.now) }
         ensures objects { ChangesAt (mapped_as range) self.old.objects memory.now self.new.objects }
@@ -129,14 +129,14 @@ impl HeldObjects {
         self.objects.insert_reserved(name, changed);
     }
 
-    /// The names that were given back, in that order.
+    /// The names that were released, in that order.
     pub(crate) fn gone(&self) -> &[u64]
         ensures { result.now ≡ self.now.gone }
     {
         &self.gone
     }
 
-    /// Takes the name that was given back last.
+    /// Takes the name that was released last.
     pub(crate) fn take_gone(&mut self) -> Option<u64>
         ensures taken { IfSome result (λ name. self.old.gone ≡ self.new.gone ++ name ∷ []) }
         ensures none { result ≡ None → (self.old.gone ≡ []) × (self.new.gone ≡ []) }
@@ -147,7 +147,7 @@ impl HeldObjects {
         self.gone.pop()
     }
 
-    /// Keeps the first names alone that were given back, so many of them.
+    /// Drops all but the first `count` names that were released.
     pub(crate) fn forget_gone_after(&mut self, count: usize)
         ensures gone { self.new.gone ≡ take count self.old.gone }
         ensures objects { self.new.objects ≡ self.old.objects }

@@ -1,5 +1,5 @@
-//! A device that is asked from outside: it answers each run of calls from a list of given answers, refuses the first
-//! question that has none and tells it, and keeps no byte of its objects.
+//! A device that is asked from outside. It answers each run of calls from a list of given answers, refuses and reports
+//! the first question that has none, and keeps no bytes of its objects.
 #![tactic(auto)]
 
 mod device;

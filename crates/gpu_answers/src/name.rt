@@ -6,11 +6,11 @@ use gpu_alloc_types::MemoryObject;
 use std::alloc::AllocError;
 use std::marker::Model;
 
-/// A handle of an object of an [`AnsweredDevice`](crate::AnsweredDevice), seen in contracts as the object's name.
+/// A handle of an object of an [`AnsweredDevice`](crate::AnsweredDevice), which contracts see as the object's name.
 #[derive(Drop)]
 pub struct ObjectName {
     name: u64,
-    // Where the device has the object's row. Contracts don't see it, since the device confirms it.
+    // Where the device has the object's row. Contracts don't mention it, since the device confirms it.
     place: usize,
 }
 
@@ -46,7 +46,7 @@ impl MemoryObject for ObjectName {
         self.name
     }
 
-    /// Another handle of the same object. It takes no memory, and never fails.
+    /// Another handle of the same object. It allocates nothing and never fails.
     fn duplicate(&self) -> Result<ObjectName, AllocError>
         ensures same { IfOk result (λ other. other ≡ self.now) }
         ensures succeeds { IsOk result }

@@ -1,4 +1,4 @@
-//! The objects that are held, in rows by which their handles find them.
+//! The held objects, in rows by which their handles find them.
 
 ghost use Rattle.std.specs.Prelude.{◌≡◌, ◌+◌, ◌<◌, None, Some, IsSome, IfOk, OnOk, MatchOption};
 ghost use Rattle.std.specs.FinMap as map;
@@ -8,16 +8,16 @@ use slab::Slab;
 use std::alloc::{AllocError, Global};
 use std::marker::Model;
 
-/// What is kept of an object: all but its bytes.
+/// What is kept of an object: everything but its bytes.
 #[derive(Clone, Copy, Debug, PartialEq, Eq)]
 pub(crate) struct HeldObject {
     /// The index of its memory type.
     pub(crate) memory_type: u32,
 
-    /// How many bytes long it is.
+    /// Its size in bytes.
     pub(crate) size: u64,
 
-    /// Where what is mapped of it starts, and how long that is, both in bytes.
+    /// Where its mapped range starts and its length, both in bytes.
     pub(crate) mapped: Option<(u64, u64)>,
 }
 
@@ -28,10 +28,10 @@ pub(crate) struct ObjectRow {
     pub(crate) object: HeldObject,
 }
 
-/// The objects that are held, by name.
+/// The held objects, by name.
 ///
-/// Each has a row. With the row's place an object is found in constant time, and with another one, as a handle of
-/// another device may have it, in a time that grows with the objects.
+/// Each has a row. With the row's place an object is found in constant time. With any other place, as in a handle of
+/// another device, it is found in time linear in the objects.
 #[derive(Drop)]
 pub(crate) struct Objects {
     rows: Slab<ObjectRow>,
@@ -52,7 +52,7 @@ impl Model for Objects {
     ghost invariant = { λ o. HasOneKeyEach name_in o.rows };
 }
 
-/// The place of a name's row: this one where its row has the name, and else the one that a search over all rows finds.
+/// The place of a name's row: `place` if its row has the name, or else the one that a search over all rows finds.
 #[inline(always)]
 fn place_of(rows: &Slab<ObjectRow>, place: usize, name: u64) -> Option<usize>
     ensures { MatchOption result (IsNowhere rows.now name) (IsUnder rows.now name) }
@@ -78,7 +78,7 @@ fn search(rows: &Slab<ObjectRow>, name: u64) -> Option<usize>
 }
 
 impl Objects {
-    /// No objects. It takes no memory.
+    /// No objects. It allocates nothing.
     pub(crate) fn new(alloc: Global) -> Objects
         ensures objects { result.objects ≡ map.empty }
     {
@@ -87,7 +87,7 @@ impl Objects {
         }
     }
 
-    /// Makes room for one more object, and tells how many there are with it. The only refusal is want of memory.
+    /// Makes room for one more object, and returns how many there are with it. The only error is want of memory.
     /// Nothing but the room changes.
     #[inline(always)]
     pub(crate) fn reserve(&mut self) -> Result<usize, AllocError>
@@ -101,7 +101,7 @@ impl Objects {
         Ok(self.rows.len() + 1)
     }
 
-    /// Adds an object under a name that none has, into room that was made, and tells its place.
+    /// Adds an object under a new name, into room that was made, and returns its place.
     #[inline(always)]
     pub(crate) fn insert_reserved(&mut self, name: u64, object: HeldObject) -> usize
         requires room { 0 < self.old.room }
@@ -111,7 +111,7 @@ impl Objects {
         self.rows.insert_reserved(ObjectRow { name, object })
     }
 
-    /// Takes the object of a name off, which has to be there. What comes of it is the same whatever the place is.
+    /// Removes the object of a name, which must be there. The result is the same for any place.
     #[inline(always)]
     pub(crate) fn remove(&mut self, place: usize, name: u64) -> HeldObject
         requires held { IsSome (map.get self.old.objects name) }

@@ -7,7 +7,7 @@ use gpu_alloc_types::{DeviceProperties, MemoryHeap, MemoryType};
 use std::alloc::{AllocError, Global};
 use std::marker::Model;
 
-/// What a device offers, with its own memory. It is kept for contracts alone: no call reads it.
+/// What a device offers, in memory of its own. It is kept only for contracts: no call reads it.
 #[derive(Drop)]
 pub(crate) struct OwnedProperties {
     memory_types: Vec<MemoryType>,
@@ -34,7 +34,7 @@ impl Model for OwnedProperties {
 }
 
 impl OwnedProperties {
-    /// A copy of these.
+    /// A copy of these properties.
     pub(crate) fn new(
         alloc: Global,
         props: DeviceProperties<'_>,

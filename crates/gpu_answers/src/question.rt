@@ -1,31 +1,31 @@
-//! What is asked outside, and what is answered there.
+//! What is asked outside, and the answers from there.
 
 ghost use Rattle.std.specs.Prelude.{◌≡◌};
 ghost use Rattle.gpu_answers.specs.Asking.{allocation_refusal, map_refusal};
 
 use gpu_alloc_types::{DeviceMapError, OutOfMemory};
 
-/// A question that the device has to have answered outside. What can't fail is none.
+/// A question that the device needs answered outside. Calls that cannot fail are not questions.
 #[derive(Clone, Copy, Debug, PartialEq, Eq)]
 pub enum Question {
-    /// To make an object (Vulkan's `vkAllocateMemory`).
+    /// To allocate an object (Vulkan's `vkAllocateMemory`).
     Allocate {
-        /// How many bytes long it is to be, at least 1.
+        /// Its size in bytes, at least 1.
         size: u64,
 
         /// The index of its memory type.
         memory_type: u32,
 
-        /// What is asked for beside, as the bits of the allocation flags.
+        /// The bits of the allocation flags.
         flags: u8,
     },
 
-    /// To map a range of the object that the run made last, and which each run names anew (Vulkan's `vkMapMemory`).
+    /// To map a range of the object that the run made last, which each run names anew (Vulkan's `vkMapMemory`).
     MapMade {
         /// Where the range starts in the object, in bytes.
         offset: u64,
 
-        /// How many bytes long the range is, at least 1.
+        /// The size of the range in bytes, at least 1.
         size: u64,
     },
 
@@ -37,12 +37,12 @@ pub enum Question {
         /// Where the range starts in the object, in bytes.
         offset: u64,
 
-        /// How many bytes long the range is, at least 1.
+        /// The size of the range in bytes, at least 1.
         size: u64,
     },
 }
 
-/// What a question was answered outside.
+/// The answer to a question, from outside.
 #[derive(Clone, Copy, Debug, PartialEq, Eq)]
 pub enum Answer {
     /// It was done.
@@ -61,14 +61,14 @@ pub enum Answer {
 /// A question that was asked outside, with its answer.
 #[derive(Clone, Copy, Debug, PartialEq, Eq)]
 pub struct Answered {
-    /// What was asked.
+    /// The question.
     pub question: Question,
 
-    /// What was answered.
+    /// Its answer.
     pub answer: Answer,
 }
 
-/// Why an allocation is refused that was not granted: `OutOfHostMemory` where there is no answer.
+/// Why an allocation that was not granted is refused: `OutOfHostMemory` where there is no answer.
 pub(crate) fn allocation_refused(answer: Option<Answer>) -> OutOfMemory
     ensures { result ≡ allocation_refusal answer }
 {
@@ -78,7 +78,7 @@ pub(crate) fn allocation_refused(answer: Option<Answer>) -> OutOfMemory
     }
 }
 
-/// Why a mapping is refused that was not granted: `OutOfHostMemory` where there is no answer.
+/// Why a mapping that was not granted is refused: `OutOfHostMemory` where there is no answer.
 pub(crate) fn map_refused(answer: Option<Answer>) -> DeviceMapError
     ensures { result ≡ map_refusal answer }
 {

@@ -1,4 +1,4 @@
-//! A run of calls with the answers that are given for it.
+//! A run of calls with the answers given for it.
 
 ghost use Rattle.std.specs.Prelude.{◌≡◌, ◌↔◌, [], Some, IsTrue, OnOk, OnErr};
 ghost use Rattle.gpu_answers.specs.Asking.{begun, map_question, open_in, Asks};
@@ -18,7 +18,7 @@ pub(crate) enum Stop {
     Strayed,
 }
 
-/// A run of calls: the answers that are given, how many of them are used, why no more are, and what was made last.
+/// A run of calls: the given answers, how many of them are used, why no more are, and what was made last.
 #[derive(Drop)]
 pub(crate) struct Run {
     answers: Vec<Answered>,
@@ -41,7 +41,7 @@ impl Model for Run {
 }
 
 impl Run {
-    /// A run with no answers. It takes no memory.
+    /// A run without answers. It allocates nothing.
     pub(crate) fn new(alloc: Global) -> Run
         ensures { result ≡ begun [] }
     {
@@ -53,7 +53,7 @@ impl Run {
         }
     }
 
-    /// Begins anew with these answers. Fails only for want of memory, and all is as before then.
+    /// Begins anew with these answers. It fails only for want of memory, and then nothing changes.
     pub(crate) fn begin(&mut self, answers: &[Answered]) -> Result<(), AllocError>
         ensures ok { OnOk result (self.new ≡ begun answers.now) }
         ensures err { OnErr result (self.new ≡ self.old) }
@@ -71,7 +71,7 @@ impl Run {
         Ok(())
     }
 
-    /// The next answer, where it is one to this question.
+    /// The next answer, if it is one to this question.
     pub(crate) fn ask(&mut self, question: Question) -> Option<Answer>
         ensures { Asks self.old question result self.new }
     {
@@ -95,7 +95,7 @@ impl Run {
         }
     }
 
-    /// The next answer, where it is one to the question to map that range of the object of that name.
+    /// The next answer, if it is one to the question to map that range of the object of that name.
     pub(crate) fn ask_to_map(&mut self, object: u64, offset: u64, size: u64) -> Option<Answer>
         ensures { Asks self.old (map_question self.old.made object offset size) result self.new }
     {

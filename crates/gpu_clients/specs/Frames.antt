@@ -1,4 +1,4 @@
--- What a contract sees of a `FramePlanner`.
+-- What contracts see of a `FramePlanner`.
 use Rattle.std.specs.Prelude.{ℕ, List, Option, refl}
 use Rattle.std.specs.Coded.{Coded, code_by, coded×, coded_ℕ, coded_list}
 use Rattle.gpu_alloc_types.specs.Device.{Object}
@@ -19,7 +19,7 @@ queue_code {D} d =
     code_by (State × (D × List Block)) (coded× state_code (coded× d (coded_list block_code)))
     (λ q. (q.allocator, (q.device, q.blocks))) (λ c. record { allocator = c.0; device = c.1.0; blocks = c.1.1 }) (λ _. refl)
 
--- these, and how many of the blocks each flight has, the oldest first
+-- the queue, and how many of the blocks each flight has, the oldest first
 pub record PlannerState (D : Type 0) : Type 0 where
   pub hand : QueueState D
   pub counts : List ℕ
@@ -31,10 +31,10 @@ planner_code {D} d =
 
 module _ {D : Type 0} where
   module _ (objects : D → ℕ → Option Object) where
-    -- what the device has beside the blocks' allocator
+    -- what the device has apart from the blocks' allocator
     abbrev pub beside : QueueState D → ℕ → Option Object
     beside q name = outside q.allocator (objects q.device) name
 
-    -- what calls leave of these blocks and of what is beside
+    -- what calls keep of these blocks and of what else the device has
     abbrev pub Leaves : (old new : QueueState D) → List Block → Type 0
     Leaves old new blocks = LeavesList old.allocator (objects old.device) new.allocator (objects new.device) blocks

@@ -1,4 +1,4 @@
--- What a contract sees of a `ResourceManager`.
+-- What contracts see of a `ResourceManager`.
 use Rattle.std.specs.Prelude.{◌≡◌, ◌≢◌, ℕ, List, Option, Some, refl}
 use Rattle.std.specs.Coded.{Coded, code_by, coded×, coded_ℕ, coded_list}
 use Rattle.std.specs.FinMap as map
@@ -43,22 +43,22 @@ module _ {D : Type 0} where
   abbrev pub block_at : ManagerState D → ℕ → Option Block
   block_at m handle = map.get m.blocks handle
 
-  -- a block has the handle, and it is so
+  -- the handle has a block, and the block has the property
   abbrev pub FindsBlock : ManagerState D → ℕ → (Block → Type 0) → Type 0
   FindsBlock m handle P = (b : Block) × (block_at m handle ≡ Some b) × P b
 
   abbrev pub slots : ManagerState D → SlotState Block
   slots m = record { live = m.blocks; generations = m.generations; room = 0 }
 
-  -- the handle was given, to a block that is there or to one that went back
+  -- the handle was given, to a block that is there or to one that was freed
   abbrev pub WasGiven : ManagerState D → ℕ → Type 0
   WasGiven m handle = IsGiven (slots m) handle
 
-  -- it was given, and its block went back
+  -- it was given, and its block was freed
   abbrev pub HasEnded : ManagerState D → ℕ → Type 0
   HasEnded m handle = IsGone (slots m) handle
 
-  -- each handle that had ended has still
+  -- each handle that had ended still has
   abbrev pub StayEnded : ManagerState D → ManagerState D → Type 0
   StayEnded old new = (handle : ℕ) → HasEnded old handle → HasEnded new handle
 
@@ -66,34 +66,34 @@ module _ {D : Type 0} where
   abbrev pub OthersStay : ManagerState D → ManagerState D → ℕ → Type 0
   OthersStay old new handle = (other : ℕ) → other ≢ handle → block_at new other ≡ block_at old other
 
-  -- a block that has whole pages for so many bytes shares none of those pages with the block of another handle
+  -- a block that has whole pages for these bytes shares none of those pages with the block of another handle
   abbrev pub KeepsPagesApart : ManagerState D → Type 0
   KeepsPagesApart m =
       (image other size : ℕ) (b c : Block) → block_at m image ≡ Some b → block_at m other ≡ Some c → image ≢ other
       → IsInPages m.granularity size b → SharesNoPage m.granularity size b c
 
-  -- its allocator and all its handles are as before
+  -- its allocator and all its handles are unchanged
   pub record IsAsBefore (old new : ManagerState D) : Type 0 where
     pub allocator : new.allocator ≡ old.allocator
     pub blocks : new.blocks ≡ old.blocks
     pub generations : new.generations ≡ old.generations
 
   module _ (objects : D → ℕ → Option Object) where
-    -- what the device has beside the manager's objects
+    -- what the device has apart from the manager's objects
     abbrev pub beside : ManagerState D → ℕ → Option Object
     beside m name = outside m.allocator (objects m.device) name
 
-    -- that is as it was
+    -- that is unchanged
     abbrev pub IsSameBeside : ManagerState D → ManagerState D → Type 0
     IsSameBeside old new = (name : ℕ) → beside new name ≡ beside old name
 
-    -- each byte of a block that had a handle and has it still is as it was
+    -- each byte of a block that had a handle and still has it is unchanged
     abbrev pub KeepsBytes : ManagerState D → ManagerState D → Type 0
     KeepsBytes old new = (handle : ℕ) (b : Block) → block_at old handle ≡ Some b → block_at new handle ≡ Some b
         → HasSameBytes b (objects old.device) (objects new.device)
 
 -- What holds of a manager between calls: allocator and device agree, its blocks are kept, nothing else is live, and its
--- granularity is one.
+-- granularity is valid.
 pub record IsManaged (s : State) (p : Properties) (objects : ℕ → Option Object) (blocks : map.FinMap nat_cmp Block)
     (granularity : ℕ) : Type 0 where
   pub agrees : Agrees s p objects

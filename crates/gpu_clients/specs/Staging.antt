@@ -1,4 +1,4 @@
--- What a contract sees of a `StagingPool`: what it sees of the manager of its buffers.
+-- What contracts see of a `StagingPool`: what they see of the manager of its buffers.
 use Rattle.std.specs.Prelude.{◌≡◌, ◌≢◌, ℕ, Option, Some}
 use Rattle.gpu_alloc_types.specs.Device.{Object}
 use Rattle.gpu_alloc_types.specs.Properties.{Properties}
@@ -14,7 +14,7 @@ module _ {D : Type 0} where
   abbrev pub buffer_at : ManagerState D → ℕ → Option Block
   buffer_at pool key = block_at pool key
 
-  -- there is a buffer under the key, and it is so
+  -- there is a buffer under the key, and it has the property
   abbrev pub OfBuffer : ManagerState D → ℕ → (Block → Type 0) → Type 0
   OfBuffer pool key P = (b : Block) × (buffer_at pool key ≡ Some b) × P b
 
@@ -32,8 +32,8 @@ module _ {D : Type 0} where
       (j key : ℕ) (b c : Block) → buffer_at pool j ≡ Some b → buffer_at pool key ≡ Some c → j ≢ key → AreTwo b c
 
   module _ (offers : D → Properties) (objects : D → ℕ → Option Object) where
-    -- What the device has beside the pool's objects is as it was, and so is each byte of each buffer under these keys that
-    -- was there and is there.
+    -- What the device has apart from the pool's objects is unchanged. So is each byte of each buffer under these keys
+    -- that was there and still is.
     pub record Keeps (old new : ManagerState D) (Key : ℕ → Type 0) : Type 0 where
       pub bytes : (key : ℕ) (b : Block) → Key key → buffer_at old key ≡ Some b → buffer_at new key ≡ Some b
           → HasSameBytes b (objects old.device) (objects new.device)

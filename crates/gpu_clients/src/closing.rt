@@ -9,7 +9,7 @@ use gpu_alloc::GpuAllocator;
 use gpu_alloc_types::{MemoryObject, ObjectDevice};
 use std::alloc::Allocator;
 
-/// Closes an allocator of which no block is live, and gives back its device, which has then what it had outside.
+/// Closes an allocator without live blocks, and returns its device, which then has what it had outside.
 pub(crate) fn close<M: MemoryObject, D: ObjectDevice<M>, A: Allocator + Copy>(
     mut allocator: GpuAllocator<M, A>,
     mut device: D,

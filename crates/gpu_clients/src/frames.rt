@@ -17,8 +17,8 @@ use std::alloc::{Allocator, Global};
 use std::collections::VecDeque;
 use std::marker::Model;
 
-/// Blocks of the frames that are in flight, each of which is given back with its frame, the oldest frame first. It
-/// cannot be let go: [`end`](FramePlanner::end) ends it.
+/// Blocks of the frames in flight, each of which is freed with its frame, the oldest frame first. It cannot be dropped:
+/// [`end`](FramePlanner::end) ends it.
 pub struct FramePlanner<M: MemoryObject, D: ObjectDevice<M>, A: Allocator + Copy = Global> {
     hand: Queue<M, D, A>,
     counts: VecDeque<usize, A>,
@@ -38,10 +38,10 @@ impl<M: MemoryObject, D: ObjectDevice<M>, A: Allocator + Copy> Model for FramePl
 }
 
 impl<M: MemoryObject, D: ObjectDevice<M>, A: Allocator + Copy> FramePlanner<M, D, A> {
-    /// A planner of no flight, over a device with these properties. `alloc` gives the host memory of its tables.
+    /// A planner without flights, over a device with these properties. Its tables take host memory from `alloc`.
     ///
-    /// The properties have to be usable (`DeviceProperties::is_usable`) and those of the device. Want of host memory
-    /// gives the device back as it was.
+    /// The properties must be usable (`DeviceProperties::is_usable`) and the device's own. The only error is want of
+    /// host memory: the device comes back unchanged.
     pub fn new(alloc: A, config: Config, props: DeviceProperties<'_>, device: D) -> Result<Self, D>
         requires usable { IsUsable (properties_of props) }
         requires same { D.properties device ≡ properties_of props }
@@ -62,9 +62,9 @@ impl<M: MemoryObject, D: ObjectDevice<M>, A: Allocator + Copy> FramePlanner<M, D
 
     /// Begins a flight with a block for each request, in their order: all of them, or none.
     ///
-    /// Each request has to be askable (`Request::is_askable`, for the device's `buffer_device_address`). The refusals
-    /// are those of `GpuAllocator::alloc`, and `OutOfHostMemory` where there is no memory for the table. The flights are
-    /// as before then.
+    /// Each request must be askable (`Request::is_askable`, with the device's `buffer_device_address`). The errors are
+    /// those of `GpuAllocator::alloc`, and `OutOfHostMemory` where there is no memory for the table. The flights are
+    /// then unchanged.
     pub fn begin_flight(&mut self, requests: &[Request]) -> Result<(), AllocationError>
         requires askable { All (IsAskable (self.old.hand.allocator.properties).buffer_device_address) requests.now }
         ensures begun { OnOk result (self.new.counts ≡ self.old.counts ++ length requests.now ∷ []) }
@@ -83,8 +83,8 @@ impl<M: MemoryObject, D: ObjectDevice<M>, A: Allocator + Copy> FramePlanner<M, D
         Ok(())
     }
 
-    /// Gives the blocks of the oldest flight back, mapped or not, and tells whether there was a flight. It takes no
-    /// memory and cannot fail.
+    /// Frees the blocks of the oldest flight, mapped or not, and returns whether there was a flight. It allocates
+    /// nothing and cannot fail.
     pub fn retire_oldest(&mut self) -> bool
         ensures retired { IsTrue result → (count : ℕ) × (self.old.counts ≡ count ∷ self.new.counts)
             × (self.new.hand.blocks ≡ drop count self.old.hand.blocks) }
@@ -107,8 +107,8 @@ impl<M: MemoryObject, D: ObjectDevice<M>, A: Allocator + Copy> FramePlanner<M, D
         self.counts.len()
     }
 
-    /// A block of a flight, the oldest of which is flight 0, by its place among the flight's requests; or `None` where there
-    /// is no such place. The flights before it are gone through.
+    /// A block of a flight, by its place among the flight's requests, or `None` where there is no such place. The
+    /// oldest flight is flight 0. It takes time linear in the flights before this one.
     #[tactic(auto, using(std::proofs::lemmas::List::Sums::sum_by_more_le))]
     pub fn block(&self, flight: usize, index: usize) -> Option<&MemoryBlock<M>>
         ensures found { flight < length self.now.counts → index < slice_index self.now.counts flight
@@ -127,8 +127,8 @@ impl<M: MemoryObject, D: ObjectDevice<M>, A: Allocator + Copy> FramePlanner<M, D
         self.hand.block(first + index)
     }
 
-    /// Nothing is done: its contract tells what every planner keeps, whatever calls were made. Each block is live, and
-    /// two at different places, so those of two flights, share no byte; and nothing else is live.
+    /// A lemma about every planner, whatever calls were made: does nothing at run time. Each block is live, and two at
+    /// different places, such as those of two flights, share no byte; and nothing else is live.
     pub fn keeps_blocks(&self)
         ensures owned { AreOwned self.now.hand.allocator self.now.hand.blocks }
         ensures live { set.len self.now.hand.allocator.live ≡ length self.now.hand.blocks }
@@ -138,8 +138,8 @@ impl<M: MemoryObject, D: ObjectDevice<M>, A: Allocator + Copy> FramePlanner<M, D
         let _ = &self.counts;
     }
 
-    /// Gives every block back, and then the device, which holds nothing of the planner's any more. It takes no memory
-    /// and cannot fail.
+    /// Frees every block, and then returns the device, which holds nothing of the planner's any more. It allocates
+    /// nothing and cannot fail.
     pub fn end(self) -> D
         ensures beside { (name : ℕ) → D.objects result name ≡ beside D.objects self.hand name }
     {

@@ -1,4 +1,4 @@
-//! Programs that keep a device's memory, each over any device and any allocator of host memory.
+//! Programs that keep a device's memory, over any device and any allocator of host memory.
 #![tactic(auto)]
 
 mod closing;

@@ -25,7 +25,7 @@ use std::marker::Model;
 
 /// A handle of a block: a slot of its manager, and how often the slot was used. Contracts see its number.
 ///
-/// It is good for the manager that gave it alone.
+/// It is valid only for the manager that gave it.
 #[derive(Clone, Copy, Debug, PartialEq, Eq, Hash)]
 pub struct Handle {
     pub(crate) key: u64,
@@ -41,15 +41,14 @@ impl Model for Handle {
     ghost inverse = { λ n. record { key = n } };
 }
 
-/// Blocks of a device's memory under handles that are given once. It cannot be let go: [`end`](ResourceManager::end)
+/// Blocks of a device's memory under handles that are given once. It cannot be dropped: [`end`](ResourceManager::end)
 /// ends it.
 ///
-/// A handle is a slot with the slot's generation, so that a look-up is one step, and a handle whose block went back
-/// finds nothing for ever after, whatever the slot holds by then. A slot whose 2^32 generations are used up is never
-/// used again.
+/// A handle is a slot with the slot's generation. So a look-up is one step, and a handle whose block was freed finds
+/// nothing for ever, whatever the slot holds by then. A slot whose 2^32 generations are used up is never used again.
 ///
 /// Its granularity is how many bytes a page has. A block for an optimal image ([`create_optimal`]) shares no page with
-/// another block. The granularity stays as it was given at first.
+/// another block. The granularity never changes.
 ///
 /// [`create_optimal`]: ResourceManager::create_optimal
 pub struct ResourceManager<M: MemoryObject, D: ObjectDevice<M>, A: Allocator + Copy = Global> {
@@ -79,10 +78,11 @@ impl<M: MemoryObject, D: ObjectDevice<M>, A: Allocator + Copy> Model for Resourc
 }
 
 impl<M: MemoryObject, D: ObjectDevice<M>, A: Allocator + Copy> ResourceManager<M, D, A> {
-    /// A manager of no block, over a device with these properties. `alloc` gives the host memory of its tables.
+    /// A manager without blocks, over a device with these properties. Its tables take host memory from `alloc`.
     ///
-    /// The properties have to be usable (`DeviceProperties::is_usable`) and those of the device. The granularity is 1,
-    /// with which an optimal image may lie beside any block. Want of host memory gives the device back as it was.
+    /// The properties must be usable (`DeviceProperties::is_usable`) and the device's own. The granularity is 1, with
+    /// which an optimal image may lie next to any block. The only error is want of host memory: the device comes back
+    /// unchanged.
     pub fn new(alloc: A, config: Config, props: DeviceProperties<'_>, device: D) -> Result<Self, D>
         requires usable { IsUsable (properties_of props) }
         requires same { D.properties device ≡ properties_of props }
@@ -98,8 +98,8 @@ impl<M: MemoryObject, D: ObjectDevice<M>, A: Allocator + Copy> ResourceManager<M
         Self::with_granularity(alloc, config, props, device, 1)
     }
 
-    /// A manager as [`new`](ResourceManager::new) makes one, with pages of `granularity` bytes (Vulkan's
-    /// `bufferImageGranularity`), which has to be a power of two of at most 2^32.
+    /// As [`new`](ResourceManager::new), with pages of `granularity` bytes (Vulkan's `bufferImageGranularity`), which
+    /// must be a power of two of at most 2^32.
     pub fn with_granularity(
         alloc: A,
         config: Config,
@@ -133,9 +133,9 @@ impl<M: MemoryObject, D: ObjectDevice<M>, A: Allocator + Copy> ResourceManager<M
         }
     }
 
-    /// A block as the request asks, under a handle that was never given before.
+    /// Allocates a block for the request, under a handle that was never given before.
     ///
-    /// The request has to be askable (`Request::is_askable`, for the device's `buffer_device_address`). The refusals are
+    /// The request must be askable (`Request::is_askable`, with the device's `buffer_device_address`). The errors are
     /// those of [`GpuAllocator::alloc`], and `OutOfHostMemory` where there is no memory for a handle, or each of the
     /// 2^32 - 1 slots is taken or used up. Nothing has changed then.
     #[tactic(auto, using(crate::proofs::Managed::granted))]
@@ -165,12 +165,12 @@ impl<M: MemoryObject, D: ObjectDevice<M>, A: Allocator + Copy> ResourceManager<M
         })
     }
 
-    /// A block as [`create`](ResourceManager::create) makes one, for an image that is not linear. In a shared object it
-    /// begins at a page and has whole pages for the request's size, so that no page with one of its first `size` bytes
-    /// has a byte of another block ([`keeps_pages`](ResourceManager::keeps_pages)).
+    /// Allocates a block as [`create`](ResourceManager::create) does, for an image that is not linear. In a shared
+    /// object it begins at a page and has whole pages for the request's size. So no page with one of its first `size`
+    /// bytes has a byte of another block ([`keeps_pages`](ResourceManager::keeps_pages)).
     ///
-    /// The request has to be askable, as for `create`. The refusals are those of [`GpuAllocator::alloc_optimal`], and
-    /// `OutOfHostMemory` as `create` has it. Nothing has changed then.
+    /// The request must be askable, as for `create`. The errors are those of [`GpuAllocator::alloc_optimal`], and
+    /// `OutOfHostMemory` as for `create`. Nothing has changed then.
     #[tactic(auto, using(crate::proofs::Managed::granted))]
     pub fn create_optimal(&mut self, request: Request) -> Result<Handle, AllocationError>
         requires askable { IsAskable ((self.old.allocator).properties).buffer_device_address request }
@@ -203,7 +203,7 @@ impl<M: MemoryObject, D: ObjectDevice<M>, A: Allocator + Copy> ResourceManager<M
         })
     }
 
-    /// Gives back the block of a handle, mapped or not, and tells whether the handle had one. It takes no memory and
+    /// Frees the block of a handle, mapped or not, and returns whether the handle had one. It allocates nothing and
     /// cannot fail. The handle finds nothing for ever after.
     #[tactic(auto, using(crate::proofs::Managed::gone))]
     pub fn destroy(&mut self, handle: Handle) -> bool
@@ -251,8 +251,8 @@ impl<M: MemoryObject, D: ObjectDevice<M>, A: Allocator + Copy> ResourceManager<M
         &self.device
     }
 
-    /// Nothing is done: its contract tells what every manager keeps, whatever calls were made. Each handle's block is
-    /// live and agrees with the device, the blocks of two handles share no byte, and nothing else is live.
+    /// A lemma about every manager, whatever calls were made: does nothing at run time. Each handle's block is live and
+    /// agrees with the device, the blocks of two handles share no byte, and nothing else is live.
     pub fn keeps_blocks(&self)
         ensures kept { AreKept self.now.allocator (D.properties self.now.device) (D.objects self.now.device)
             (map.get self.now.blocks) }
@@ -261,10 +261,10 @@ impl<M: MemoryObject, D: ObjectDevice<M>, A: Allocator + Copy> ResourceManager<M
         let _ = &self.device;
     }
 
-    /// Nothing is done: its contract tells what every manager keeps, whatever calls were made. No page of the
-    /// granularity of one object holds one of the first `size` bytes, as asked, of a block from
-    /// [`create_optimal`](ResourceManager::create_optimal) and a byte of another block. For the block under a handle
-    /// stays as it was granted (`others` of each call), and so does the granularity.
+    /// A lemma about every manager, whatever calls were made: does nothing at run time. No page of the granularity of
+    /// one object holds one of the first `size` bytes, as requested, of a block from
+    /// [`create_optimal`](ResourceManager::create_optimal) and a byte of another block. This stays so because the block
+    /// under a handle stays as it was granted (`others` of each call), and so does the granularity.
     pub fn keeps_pages(&self)
         ensures granularity { IsGranularity self.now.granularity }
         ensures apart { KeepsPagesApart self.now }
@@ -273,8 +273,8 @@ impl<M: MemoryObject, D: ObjectDevice<M>, A: Allocator + Copy> ResourceManager<M
         let _ = &self.device;
     }
 
-    /// Gives every block back, and then the device, which holds nothing of the manager's any more. It takes no memory
-    /// and cannot fail.
+    /// Frees every block, and then returns the device, which holds nothing of the manager's any more. It allocates
+    /// nothing and cannot fail.
     pub fn end(self) -> D
         ensures beside { (name : ℕ) → D.objects result name ≡ beside D.objects self name }
         ensures properties { D.properties result ≡ D.properties self.device }

@@ -1,4 +1,4 @@
-//! Staging buffers, in which bytes go from the host to the device and back.
+//! Staging buffers, which carry bytes from the host to the device and back.
 
 ghost use Rattle.std.specs.Prelude.{◌≡◌, ◌≢◌, ⊤, ℕ, ◌+◌, ◌%◌, ◌≤◌, Some, None, is_some, length, IfOk, IfErr, OnOk, OnErr, Err, IsTrue, option_copied};
 ghost use Rattle.std.specs.FinMap as map;
@@ -22,19 +22,19 @@ use std::marker::Model;
 /// Why a call of a pool is refused.
 #[derive(Clone, Copy, Debug, PartialEq, Eq)]
 pub enum StagingError {
-    /// No bytes were given, or an alignment mask that is none.
+    /// There are no bytes, or the alignment mask is invalid.
     NotAskable,
 
     /// There is no memory for the buffer, or for one more key.
     NoMemory(AllocationError),
 
-    /// The device did not map the buffer, or did not make its bytes seen.
+    /// The device did not map the buffer, or did not make its bytes visible.
     NoAccess(MapError),
 
     /// No buffer has the key.
     UnknownKey,
 
-    /// The range passes the buffer's end.
+    /// The range ends past the buffer.
     BadRange,
 }
 
@@ -52,8 +52,8 @@ impl fmt::Display for StagingError {
 
 impl Error for StagingError {}
 
-/// Host-visible buffers on a device, by keys that are given once. Contracts see the allocator, the device and the
-/// buffers. It cannot be let go: [`end`](StagingPool::end) ends it.
+/// Host-visible buffers on a device, under keys that are given once. Contracts see the allocator, the device and the
+/// buffers. It cannot be dropped: [`end`](StagingPool::end) ends it.
 pub struct StagingPool<M: MemoryObject, D: MemoryDevice<M>, A: Allocator + Copy = Global> {
     buffers: ResourceManager<M, D, A>,
 }
@@ -71,8 +71,8 @@ impl<M: MemoryObject, D: MemoryDevice<M>, A: Allocator + Copy> Model for Staging
 impl<M: MemoryObject, D: MemoryDevice<M>, A: Allocator + Copy> StagingPool<M, D, A> {
     /// A pool without buffers over a device, or the device where there is no memory for the pool's tables.
     ///
-    /// `alloc` gives the memory of its tables, and `config` decides which buffers share a memory object. The properties
-    /// have to be usable (`DeviceProperties::is_usable`) and those of the device, which is not asked.
+    /// Its tables take their memory from `alloc`, and `config` decides which buffers share a memory object. The
+    /// properties must be usable (`DeviceProperties::is_usable`) and the device's own. The device is not called.
     pub fn new(alloc: A, config: Config, props: DeviceProperties<'_>, device: D) -> Result<Self, D>
         requires usable { IsUsable (properties_of props) }
         requires same { D.properties device ≡ properties_of props }
@@ -87,12 +87,12 @@ impl<M: MemoryObject, D: MemoryDevice<M>, A: Allocator + Copy> StagingPool<M, D,
         }
     }
 
-    /// Makes a buffer that holds these bytes as the device sees them, and tells its key, which no buffer had.
+    /// Makes a buffer that holds these bytes as the device sees them, and returns its key, which no buffer had.
     ///
-    /// The buffer starts at a multiple of one more than `align_mask`, a power of two of at most 2^63, and is of one of
-    /// `memory_types` (those whose bit is set). There has to be at least 1 byte. Each byte of every other buffer stays,
-    /// for host and device, whatever the device refuses. After a refusal (`NotAskable`, `NoMemory`, `NoAccess`) there are
-    /// the buffers of before.
+    /// The buffer starts at a multiple of `align_mask + 1`, a power of two of at most 2^63, and is of one of
+    /// `memory_types` (those whose bit is set). There must be at least 1 byte. Whatever the device refuses, each byte
+    /// of every other buffer is unchanged, for host and device. After an error (`NotAskable`, `NoMemory`, `NoAccess`)
+    /// there are the buffers of before.
     pub fn upload(
         &mut self,
         bytes: &[u8],
@@ -122,10 +122,10 @@ impl<M: MemoryObject, D: MemoryDevice<M>, A: Allocator + Copy> StagingPool<M, D,
     }
 
     /// Reads bytes of a buffer from `offset` on, in bytes from its start, as the device has them. No byte of the device
-    /// changes, and of other buffers none that the host sees.
+    /// changes, and none of the host's in other buffers.
     ///
-    /// Refused are: `UnknownKey`, `BadRange` where the range passes the buffer's end, and `NoAccess`; `bytes` are then
-    /// as before.
+    /// Errors: `UnknownKey`, `BadRange` where the range ends past the buffer, and `NoAccess`; `bytes` is then
+    /// unchanged.
     #[tactic(auto, unfolding(gpu_alloc_block::specs::Contents::HasSameDeviceBytes))]
     pub fn download(&mut self, key: u64, offset: u64, bytes: &mut [u8]) -> Result<(), StagingError>
         ensures told { OnOk result (OfBuffer self.old key
@@ -144,7 +144,7 @@ impl<M: MemoryObject, D: MemoryDevice<M>, A: Allocator + Copy> StagingPool<M, D,
         }
     }
 
-    /// Gives a buffer back, and tells whether there was one under the key.
+    /// Frees a buffer, and returns whether there was one under the key.
     pub fn retire(&mut self, key: u64) -> bool
         ensures known { result ≡ is_some (buffer_at self.old key) }
         ensures gone { SetsBuffer self.old self.new key None }
@@ -154,7 +154,7 @@ impl<M: MemoryObject, D: MemoryDevice<M>, A: Allocator + Copy> StagingPool<M, D,
         self.buffers.destroy(Handle { key })
     }
 
-    /// The buffer under a key, of which a program binds and copies. No two buffers share a byte.
+    /// The buffer under a key, for the program to bind and copy. No two buffers share a byte.
     pub fn buffer(&self, key: u64) -> Option<&MemoryBlock<M>>
         ensures value { option_copied result ≡ buffer_at self.now key }
         ensures apart { AreApart self.now }
@@ -170,8 +170,8 @@ impl<M: MemoryObject, D: MemoryDevice<M>, A: Allocator + Copy> StagingPool<M, D,
         self.buffers.device()
     }
 
-    /// Gives all buffers back, and then the device, which has what it had beside the pool. It takes no memory and cannot
-    /// fail.
+    /// Frees all buffers, and then returns the device, which has what it had apart from the pool. It allocates nothing
+    /// and cannot fail.
     pub fn end(self) -> D
         ensures beside { (name : ℕ) → D.objects result name ≡ beside D.objects self name }
         ensures properties { D.properties result ≡ D.properties self.device }
@@ -195,7 +195,7 @@ impl<M: MemoryObject, D: MemoryDevice<M>, A: Allocator + Copy> StagingPool<M, D,
         Ok(())
     }
 
-    /// Makes a buffer as a request asks.
+    /// Makes a buffer for a request.
     #[tactic(auto, using(gpu_alloc_base::proofs::Maps::another_key))]
     fn make(&mut self, request: Request) -> Result<Handle, StagingError>
         ensures was_free { IfOk result (λ key. buffer_at self.old key ≡ None) }
@@ -218,7 +218,7 @@ impl<M: MemoryObject, D: MemoryDevice<M>, A: Allocator + Copy> StagingPool<M, D,
         }
     }
 
-    /// Writes bytes to a buffer that was just made, and gives it back where that is refused.
+    /// Writes bytes to a buffer that was just made, and frees it where that is refused.
     fn fill(&mut self, handle: Handle, bytes: &[u8]) -> Result<(), MapError>
         requires { OfBuffer self.old handle (λ b. length bytes.now ≤ b.size) }
         ensures stored { OnOk result (OfBuffer self.new handle (λ b. Stores b 0 bytes.now (D.objects self.new.device))) }

@@ -1,4 +1,4 @@
-//! Callers of the clients, over any device and any allocator of host memory, with no proof of their own.
+//! Callers of the clients, over any device and any allocator of host memory, without a proof of their own.
 
 ghost use Rattle.std.specs.Prelude.{◌≡◌, ℕ, ◌≤◌, All, IfOk, OnErr, length};
 ghost use Rattle.gpu_alloc_types.specs.Properties.{IsUsable, properties_of};
@@ -14,7 +14,7 @@ use gpu_alloc::{AllocationError, Config, DeviceProperties, Request};
 use gpu_alloc_types::{MemoryDevice, MemoryObject, ObjectDevice};
 use std::alloc::Allocator;
 
-/// Hands bytes to the device and reads as many back, if it has room, and ends. The device has what it had.
+/// Sends bytes to the device and reads as many back, if it has room, and ends. The device has what it had.
 pub fn there_and_back<M: MemoryObject, D: MemoryDevice<M>, A: Allocator + Copy>(
     alloc: A,
     props: DeviceProperties<'_>,
@@ -50,7 +50,7 @@ fn pass<M: MemoryObject, D: MemoryDevice<M>, A: Allocator + Copy>(
     Ok(())
 }
 
-/// A block in place of another, whose handle finds nothing then; or a refusal, and all stays.
+/// Replaces a block by another. The old handle finds nothing then. After an error nothing has changed.
 pub fn replace<M: MemoryObject, D: ObjectDevice<M>, A: Allocator + Copy>(
     manager: &mut ResourceManager<M, D, A>,
     handle: Handle,
@@ -65,7 +65,7 @@ pub fn replace<M: MemoryObject, D: ObjectDevice<M>, A: Allocator + Copy>(
     Ok(new)
 }
 
-/// An optimal image and then a buffer, which share no page; or a refusal, after which there may be the image.
+/// Allocates an optimal image and then a buffer, which share no page. After an error there may be the image.
 pub fn image_and_buffer<M: MemoryObject, D: ObjectDevice<M>, A: Allocator + Copy>(
     manager: &mut ResourceManager<M, D, A>,
     image: Request,
@@ -82,7 +82,7 @@ pub fn image_and_buffer<M: MemoryObject, D: ObjectDevice<M>, A: Allocator + Copy
     Ok((first, second))
 }
 
-/// Begins a flight, after the oldest of three was given back.
+/// Begins a flight, after the oldest of three is retired.
 pub fn next_flight<M: MemoryObject, D: ObjectDevice<M>, A: Allocator + Copy>(
     planner: &mut FramePlanner<M, D, A>,
     requests: &[Request],

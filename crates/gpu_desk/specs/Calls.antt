@@ -45,16 +45,16 @@ use Rattle.gpu_desk.specs.declared.told.ObjectRange.{ObjectRange}
 use Rattle.gpu_desk.specs.declared.wish.Tag.{Tag}
 use Rattle.gpu_desk.specs.declared.wish.Wish.{Wish}
 
--- What stays.
+-- What calls keep.
 
--- each block that lives on has the tag that it had
+-- each block that stays live has the tag that it had
 abbrev pub KeepsTags : DeskState → DeskState → Type 0
 KeepsTags old new =
     (key : ℕ) → IsSome (map.get old.blocks.live key) → IsSome (map.get new.blocks.live key)
     → tag_of new key ≡ tag_of old key
 
--- What was given to the allocator and the desk, each heap's limit, how many objects may be held in all, each key that is
--- gone, each name that is past, and what is kept with each block that lives on.
+-- What was given to the allocator and the desk stays, and so do each heap's limit and the total of objects. Freed keys
+-- stay invalid, past names stay past, and each block that stays live keeps its tag.
 pub record Keeps (old new : DeskState) : Type 0 where
   pub given : KeepsGiven old.allocator new.allocator
   pub limits : new.allocator.heap_limits ≡ old.allocator.heap_limits
@@ -64,7 +64,7 @@ pub record Keeps (old new : DeskState) : Type 0 where
   pub tags : KeepsTags old new
   pub page : new.granularity ≡ old.granularity
 
--- Nothing changed but the room for keys, which names are spent, and what the run tells.
+-- Nothing changed except the room for keys, which names are spent, and the device's record of the run.
 pub record IsAsBefore (old new : DeskState) : Type 0 where
   pub allocator : new.allocator ≡ old.allocator
   pub live : new.blocks.live ≡ old.blocks.live
@@ -76,38 +76,38 @@ pub record IsAsBefore (old new : DeskState) : Type 0 where
 
 -- The device in a run.
 
--- a run with these answers: what was asked in it, and how the device stood then
+-- a run with these answers: what was asked in it, and the device's state then
 abbrev pub InRun : DeskState → List Answered → (List Event → DeviceState → Type 0) → Type 0
 InRun s answers P =
     (es : List Event) × (after : DeviceState) × Chain IsStep (record (s.device) { run = begun answers }) es after
     × P es after
 
--- why a run gives nothing that ended so, with this refusal, and whether its open question is for an object of its own
+-- why a run fails that ended so, with this refusal, and whether its open question is for an object of its own
 abbrev pub denial_after : (Question → Bool) → Option Stop → Denial → Denial
 denial_after own None refusal = refusal
 denial_after own (Some (Stopped.Open question)) refusal = Open question (own question)
 denial_after own (Some Stopped.Strayed) refusal = Strayed
 
--- no question to map is
+-- no question to map is for an object of its own
 abbrev pub none_own : Question → Bool
 none_own question = false
 
 -- Blocks and keys.
 
--- where the block lies is told
+-- the grant says where the block lies
 pub record Tells (b : Block) (g : Grant) : Type 0 where
   pub object : g.object ≡ b.object
   pub offset : g.offset ≡ b.offset
   pub size : g.size ≡ b.size
   pub memory_type : g.memory_type ≡ b.memory_type
 
--- what is kept with the block is told
+-- the grant has the tag
 pub record TellsTag (t : Tag) (g : Grant) : Type 0 where
   pub user : g.user ≡ t.user
   pub asked : g.asked ≡ t.asked
   pub optimal : g.optimal ≡ t.optimal
 
--- what a wish for so many bytes keeps with its block, and an import of so many
+-- the tag of a wish for a request of this size, and of an import of this size
 abbrev pub wished : Wish → ℕ → Tag
 wished w asked = record { user = w.user; asked = asked; optimal = w.optimal }
 
@@ -121,7 +121,7 @@ pub record HasKey (old : SlotState Block) (key : ℕ) (b : Block) (new : SlotSta
   pub live : new.live ≡ map.insert old.live key b
   pub gone : StaysGone old new
 
--- a grant: the block, its new key, what is kept with it, and no name of an object to read that was not there before
+-- a grant: the block, its new key and its tag. No name of an object waits to be read that did not wait before
 pub record Gives (old : DeskState) (g : Grant) (b : Block) (t : Tag) (new : DeskState) : Type 0 where
   pub tells : Tells b g
   pub tells_tag : TellsTag t g
@@ -140,12 +140,12 @@ pub record Allocated (old : DeskState) (r : Request) (w : Wish) (answers : List 
   pub gives : Gives old g block (wished w r.size) new
   pub as_asked : IsGranted old.allocator r new.allocator block
   pub own : w.dedicated ≡ Some Required → block.kind ≡ DedicatedObject
-  -- it has its object alone exactly where its memory type was to be asked for one of its own
+  -- it has its object alone exactly where its memory type serves it so
   pub alone : IsTrue (is_own old.allocator (plan_of old r w) block.memory_type) ↔ (block.kind ≡ DedicatedObject)
   pub pages : w.optimal ≡ true → IsInPages old.granularity r.size block
   pub run : InRun old answers (λ es after. AllocatesBy old.allocator (plan_of old r w) es (Ok block) new.allocator
       × (objects new ≡ objects_of after))
-  -- the object is new, or else it was held; no other object comes or goes
+  -- the object is new, or it was held; no other object comes or goes
   pub fresh : IsTrue g.fresh ↔ (map.get old.allocator.held block.object ≡ None)
   pub others : (name : ℕ) → name ≢ block.object → objects new name ≡ objects old name
 
@@ -155,7 +155,7 @@ RefusesIn s r w answers d =
     InRun s answers (λ es after. (e : AllocationError) × AllocatesBy s.allocator (plan_of s r w) es (Err e) s.allocator
     × (d ≡ denial_after (asks_own s.allocator (plan_of s r w)) after.run.stop (Refused e)))
 
--- why a request is denied: the first condition that it misses, or want of memory, or the run
+-- why a request is denied: by the first condition that it misses, for want of memory, or by the run
 abbrev pub IsFaultOf : Option FaultCode → Denial → Type 0
 IsFaultOf missed d =
     (fault : FaultCode) × (d ≡ Fault fault) × ((missed ≡ Some fault) ⊎ ((missed ≡ None) × (fault ≡ NoMemory)))
@@ -167,7 +167,7 @@ unfoldable pub AllocationDenied : DeskState → Request → Wish → List Answer
 AllocationDenied s r w answers d =
     IsFaultOf (fault_of_alloc s r) d ⊎ ((fault_of_alloc s r ≡ None) × RefusesIn s r w answers d)
 
--- A request is granted from what is held: as it asks, and as the allocator decides it. The device is as it was.
+-- A request is granted from what is held: as it asks, and as the allocator decides it. The device is unchanged.
 pub record AllocatedHeld (old : DeskState) (r : Request) (w : Wish) (new : DeskState) (g : Grant) : Type 0 where
   pub block : Block
   pub gives : Gives old g block (wished w r.size) new
@@ -179,8 +179,8 @@ pub record AllocatedHeld (old : DeskState) (r : Request) (w : Wish) (new : DeskS
   pub fresh : g.fresh ≡ false
   pub held : new.allocator.held ≡ old.allocator.held
 
--- why it is denied then: the first condition that it misses, or want of memory, or no candidate has a place, or the
--- allocator refuses it
+-- why it is then denied: by the first condition that it misses, for want of memory, because no candidate has a place,
+-- or because the allocator refuses it
 unfoldable pub HeldDenied : DeskState → Request → Wish → Denial → Type 0
 HeldDenied s r w d =
     IsFaultOf (fault_of_alloc s r) d
@@ -188,7 +188,7 @@ HeldDenied s r w d =
     × (((d ≡ WouldAsk) × AllocatesHeld s.allocator (plan_of s r w) (Ok None) s.allocator)
     ⊎ ((e : AllocationError) × (d ≡ Refused e) × AllocatesHeld s.allocator (plan_of s r w) (Err e) s.allocator)))
 
--- An import: the block is the given span of a new object, which the device holds so.
+-- An import: the block is the given span of a new object, which the device holds accordingly.
 pub record Imported (old : DeskState) (t object_size offset size : ℕ) (new : DeskState) (g : Grant) : Type 0 where
   pub block : Block
   pub gives : Gives old g block (imported size) new
@@ -204,12 +204,12 @@ ImportDenied s t object_size offset size d = IsFaultOf (fault_of_import s.alloca
 abbrev pub IsUnknown : DeskState → ℕ → Denial → Type 0
 IsUnknown s key d = (d ≡ Fault UnknownName) × (map.get s.blocks.live key ≡ None)
 
--- Objects go back to the device, and their names are to be read after those of before.
+-- Objects are released, and their names are to be read after those of before.
 pub record LetsGo (old new : DeskState) : Type 0 where
   pub back : GoesBack IsStep objects_of old.allocator old.device new.allocator new.device
   pub names : new.device.held.gone ≡ old.device.held.gone ++ back.gone
 
--- A block is returned: as the allocator frees it, and its key is refused from then on.
+-- A block is freed as the allocator frees it, and its key is invalid from then on.
 pub record Returns (old : DeskState) (key : ℕ) (new : DeskState) : Type 0 where
   pub block : Block
   pub at : map.get old.blocks.live key ≡ Some block
@@ -218,7 +218,7 @@ pub record Returns (old : DeskState) (key : ℕ) (new : DeskState) : Type 0 wher
   pub live : new.blocks.live ≡ map.remove old.blocks.live key
   pub refused : IsGone new.blocks key
 
--- Each object goes that no block needs. Where no block is live none is held then.
+-- Each object that no block needs is released. Where no block is live, none is held then.
 pub record CleansUp (old new : DeskState) : Type 0 where
   pub cleaned : (es : List Event) × Chain IsStep old.device es new.device × Cleans old.allocator es new.allocator
   pub goes : LetsGo old new
@@ -226,20 +226,20 @@ pub record CleansUp (old new : DeskState) : Type 0 where
   pub tags : new.tags ≡ old.tags
   pub rest : old.blocks.live ≡ map.empty → HoldsNothing old.allocator new.allocator
 
--- Blocks on their objects.
+-- Blocks and where they lie.
 
--- the block of the key is told
+-- the grant describes the block of the key
 abbrev pub Told : DeskState → ℕ → Grant → Type 0
 Told s key g = (g.key ≡ key) × (g.fresh ≡ false) × OfKey s key (λ b. Tells b g) × TellsTag (tag_of s key) g
 
--- nothing but the caller's value of one live block is another now
+-- only the caller's value of one live block changes
 pub record SetsUser (old : DeskState) (key user : ℕ) (new : DeskState) : Type 0 where
   pub live : IsSome (map.get old.blocks.live key)
   pub only : new ≡ record old { tags = new.tags }
   pub set : tag_of new key ≡ record (tag_of old key) { user = user }
   pub others : (other : ℕ) → IsSome (map.get old.blocks.live other) → other ≢ key → tag_of new other ≡ tag_of old other
 
--- nothing but one block's mapping changes in the books
+-- only one block's mapping changes in the books
 pub record MapsOnly (old : DeskState) (key : ℕ) (b : Block) (mapping : Option Mapping) (new : DeskState) : Type 0 where
   pub at : map.get old.blocks.live key ≡ Some b
   pub live : new.blocks.live ≡ map.insert old.blocks.live key (record b { mapping = mapping })
@@ -247,7 +247,7 @@ pub record MapsOnly (old : DeskState) (key : ℕ) (b : Block) (mapping : Option 
   pub allocator : new.allocator ≡ old.allocator
   pub names : new.device.held.gone ≡ old.device.held.gone
 
--- so many bytes of the block are mapped, as the block asks for it in a run with these answers
+-- some bytes of the block are mapped, as the block asks for it in a run with these answers
 pub record Maps (old : DeskState) (key offset size : ℕ) (answers : List Answered) (new : DeskState) (r : ObjectRange)
     : Type 0 where
   pub block : Block
@@ -278,14 +278,14 @@ MapDenied s key offset size answers d =
 abbrev pub object_to_unmap : Block → Option ℕ
 object_to_unmap b = cond (is_some b.mapping && not (is_shared b.kind)) (Some b.object) None
 
--- the block's mapping ends
+-- the block is unmapped
 pub record Unmaps (old : DeskState) (key : ℕ) (new : DeskState) (object : Option ℕ) : Type 0 where
   pub block : Block
   pub only : MapsOnly old key block None new
   pub told : object ≡ object_to_unmap block
   pub asked : Chain IsStep old.device (unmapping block) new.device
 
--- the rounded range of some bytes, which is empty where nothing has to be flushed or invalidated
+-- the rounded range of some bytes, which is empty where no flush is needed
 abbrev pub range_told : Block → (offset size : ℕ) → ObjectRange
 range_told b offset size =
     let r = rounded b offset size in
@@ -298,7 +298,7 @@ range_told b offset size =
 abbrev pub RangeTold : DeskState → (key offset size : ℕ) → ObjectRange → Type 0
 RangeTold s key offset size r = OfKey s key (λ b. (offset + size ≤ b.size) × (r ≡ range_told b offset size))
 
--- the first condition that it misses: there is such a block, with such a range, and the host sees its memory
+-- the first condition that it misses: there is such a block, with such a range, and its memory is host-visible
 abbrev pub RangeDenied : DeskState → (key offset size : ℕ) → Denial → Type 0
 RangeDenied s key offset size d =
     ((fault : FaultCode) × (d ≡ Fault fault)
@@ -308,7 +308,7 @@ RangeDenied s key offset size d =
 
 -- Counts.
 
--- the usage asks for an address, of which the device cannot tell
+-- the usage asks for an address, which the device cannot give
 abbrev pub lacks_address : DeskState → UsageFlags → Bool
 lacks_address s usage = has_bit (usage_bits usage) device_address && not s.allocator.properties.buffer_device_address
 
@@ -323,7 +323,7 @@ pub record HeapCountsOf (s : DeskState) (heap : ℕ) (c : HeapCounts) : Type 0 w
   pub budget : c.budget ≡ heap_budget s.allocator heap
   pub limit : c.limit ≡ heap_limit s.allocator heap
 
--- nothing but the limit of one heap is another now
+-- only the limit of one heap changes
 pub record LimitsHeap (old : DeskState) (heap limit : ℕ) (new : DeskState) : Type 0 where
   pub known : heap < length old.allocator.properties.memory_heaps
   pub set : new ≡ record old { allocator = with_heap_limit old.allocator heap limit }

@@ -18,8 +18,8 @@ use Rattle.gpu_desk.specs.Tags.{tag_at}
 use Rattle.gpu_desk.specs.contracts.wish.Tag as tag
 use Rattle.gpu_desk.specs.declared.wish.Tag.{Tag}
 
--- The allocator, the live blocks by key, the device that is asked from outside, what is kept with blocks, by the place of
--- the key, and the granularity of buffers and images, in bytes.
+-- The allocator, the live blocks by key, the device that is asked from outside, the tags by the place of the key, and
+-- the granularity of buffers and images, in bytes.
 pub record DeskState : Type 0 where
   pub allocator : State
   pub blocks : SlotState Block
@@ -41,7 +41,7 @@ desk_code =
     })
     (λ _. refl)
 
--- what is kept with the block of a key
+-- the tag of the block of a key
 abbrev pub tag_of : DeskState → ℕ → Tag
 tag_of s key = tag_at s.tags key
 
@@ -53,19 +53,20 @@ books s = record { allocator = s.allocator; blocks = s.blocks.live }
 abbrev pub objects : DeskState → ℕ → Option Object
 objects s = objects_of s.device
 
--- Memory of its own, as in a session: each key's block is a live span of a held object, no two share a byte (nor an
--- object where one of them has its own), nothing else is live, and allocator and device agree. And each name that waits
--- to be read is that of no held object, and waits once. And blocks for optimal resources share no page with linear ones.
+-- Blocks share no memory, as in a session. Each key's block is a live span of a held object, and no two share a byte
+-- (nor an object where one of them has its own). Nothing else is live, and allocator and device agree. No held object
+-- has a name that waits to be read, and each such name waits once. Blocks for optimal resources share no page with
+-- linear ones.
 pub record IsSound (s : DeskState) : Type 0 where
   pub memory : session.IsSound s.device.properties (objects s) (books s)
   pub names : AreNamed s.device.held
   pub pages : ShareNoPage s.blocks.live s.tags s.granularity
 
--- a block has the key, and it is so
+-- the key has a block, and the block has the property
 abbrev pub OfKey : DeskState → ℕ → (Block → Type 0) → Type 0
 OfKey s key P = (b : Block) × (map.get s.blocks.live key ≡ Some b) × P b
 
--- nothing is held, no key was given, and no name of an object is to be read
+-- nothing is held, no key was given, and no name of an object waits to be read
 pub record IsEmpty (s : DeskState) : Type 0 where
   pub live : s.blocks.live ≡ map.empty
   pub keys : s.blocks.generations ≡ []
@@ -78,7 +79,7 @@ pub record IsEmpty (s : DeskState) : Type 0 where
 abbrev pub page_of : ℕ → ℕ
 page_of granularity = cond (granularity == 0) 1 granularity
 
--- What a desk's fields keep: what a session's do, a place for each key, and a tag for each place.
+-- The invariants of a desk's fields: those of a session, a place for each key, and a tag for each place.
 pub record IsDesk {A : Type 0} (o : Offer A) (s : DeskState) : Type 0 where
   pub kept : session.IsKept s.device.properties (objects s) (books s) o
   pub tagged : length s.tags ≡ length s.blocks.generations

@@ -1,4 +1,4 @@
--- What becomes of the names of objects as calls follow one another.
+-- What happens to the names of objects as calls follow one another.
 use Rattle.std.specs.Prelude.{◌≡◌, ℕ, List, [], ◌∷◌, All, Contains, None}
 use Rattle.gpu_answers.specs.Held as held
 use Rattle.gpu_answers.specs.Held.{KeepsNames}
@@ -9,12 +9,12 @@ abbrev pub Follows : DeskState → List DeskState → Type 0
 Follows s [] = IsSound s
 Follows s (next ∷ rest) = IsSound s × KeepsNames s.device.held next.device.held × Follows next rest
 
--- no held object has the name, and no live block's object
+-- neither a held object nor a live block's object has the name
 pub record NamesNothing (s : DeskState) (name : ℕ) : Type 0 where
   pub object : objects s name ≡ None
   pub block : (key : ℕ) → OfKey s key (λ b. b.object ≡ name) → ⊥
 
--- what is so of a name makes this be so of it, then and in each later state
+-- one property of a name gives it the other, then and in each later state
 abbrev pub MakesEver : (DeskState → ℕ → Type 0) → (DeskState → ℕ → Type 0) → Type 0
 MakesEver P Q =
     (first : DeskState) (states : List DeskState) → Follows first states → (name : ℕ) → P first name
@@ -24,10 +24,10 @@ MakesEver P Q =
 abbrev pub IsPast : DeskState → ℕ → Type 0
 IsPast s name = held.IsPast s.device.held name
 
--- and it does not wait to be read
+-- it is past, and does not wait to be read
 abbrev pub IsSpent : DeskState → ℕ → Type 0
 IsSpent s name = held.IsSpent s.device.held name
 
--- it waits to be read
+-- the name waits to be read
 abbrev pub Waits : DeskState → ℕ → Type 0
 Waits s name = Contains s.device.held.gone name

@@ -1,4 +1,4 @@
--- What shares no page.
+-- Which blocks share no page.
 use Rattle.std.specs.Prelude.{◌≡◌, ◌≢◌, ℕ, ◌+◌, ◌/◌, ◌≤◌, ◌<◌, true, false, List, Some}
 use Rattle.std.specs.FinMap as map
 use Rattle.std.specs.FinMap.{FinMap}
@@ -8,7 +8,8 @@ use Rattle.gpu_alloc.specs.State.{Block}
 use Rattle.gpu_desk.specs.Tags.{tag_at}
 use Rattle.gpu_desk.specs.declared.wish.Tag.{Tag}
 
--- each block for an optimal resource has its object alone, or begins at a page and has whole pages for what was asked
+-- each block for an optimal resource has its object alone, or begins at a page and has whole pages for the requested
+-- bytes
 abbrev pub ArePaged : FinMap nat_cmp Block → List Tag → ℕ → Type 0
 ArePaged live tags granularity =
     (key : ℕ) (b : Block) → map.get live key ≡ Some b → (tag_at tags key).optimal ≡ true
@@ -18,8 +19,8 @@ ArePaged live tags granularity =
 abbrev pub IsByteOf : Block → (n at : ℕ) → Type 0
 IsByteOf b n at = (b.offset ≤ at) × (at < b.offset + n)
 
--- No page of one object holds one of the first bytes, as many as were asked for, of a block for an optimal resource, and
--- any byte of a block for a linear one.
+-- No page of one object holds a requested byte of a block for an optimal resource and any byte of a block for a linear
+-- one.
 abbrev pub ShareNoPage : FinMap nat_cmp Block → List Tag → ℕ → Type 0
 ShareNoPage live tags granularity =
     (key other : ℕ) (optimal linear : Block) → map.get live key ≡ Some optimal → map.get live other ≡ Some linear

@@ -4,7 +4,7 @@ use Rattle.std.specs.FinMap as map
 use Rattle.gpu_slots.specs.SlotMap.{HasNoneFrom, IsFirstFrom, place_of}
 use Rattle.gpu_desk.specs.Desk.{DeskState}
 
--- the first place behind that of a key: place 0 behind the key 0, which is none
+-- the first place after that of a key; the invalid key 0 is before place 0
 abbrev pub behind : ℕ → ℕ
 behind after = cond (after == 0) 0 (place_of after + 1)
 
@@ -12,16 +12,16 @@ behind after = cond (after == 0) 0 (place_of after + 1)
 abbrev pub IsLiveKey : ℕ → DeskState → Type 0
 IsLiveKey key s = IsSome (map.get s.blocks.live key)
 
--- the key's block is the first live one behind the place of a key
+-- the key's block is the first live one after the place of a key
 abbrev pub IsNext : DeskState → (after key : ℕ) → Type 0
 IsNext s after key = IsFirstFrom s.blocks (behind after) key
 
--- no live block is behind the place of a key
+-- no live block is after the place of a key
 abbrev pub IsLast : DeskState → (after : ℕ) → Type 0
 IsLast s after = HasNoneFrom s.blocks (behind after)
 
--- A walk from a key on: the states of the desk as each call of the walk met it, and the keys that were told. Each is next
--- behind the one before, and in the last state none is.
+-- A walk from a key on: the states of the desk as each call of the walk met it, and the keys that were returned. Each
+-- is the next after the one before, and in the last state there is no next.
 abbrev pub Walks : (after : ℕ) → List DeskState → (keys : List ℕ) → Type 0
 Walks after [] keys = ⊥
 Walks after (s ∷ []) [] = IsLast s after
@@ -32,7 +32,7 @@ Walks after (s ∷ states) (key ∷ keys) = IsNext s after key × Walks key stat
 abbrev pub WalksAll : List DeskState → (keys : List ℕ) → Type 0
 WalksAll states keys = Walks 0 states keys
 
--- the key is told once, or never
+-- the key comes once, or never
 abbrev pub ComesOnce : List ℕ → ℕ → Type 0
 ComesOnce keys key = filter (λ k. k == key) keys ≡ key ∷ []
 

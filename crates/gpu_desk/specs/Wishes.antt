@@ -7,20 +7,20 @@ use Rattle.gpu_answers.specs.declared.question.Question.{Question}
 use Rattle.gpu_answers.specs.declared.question.Question.TheVariants.{Allocate, MapMade, Map}
 use Rattle.gpu_desk.specs.declared.wish.Wish.{Wish}
 
--- A request goes by whole pages where it is for an optimal resource and a page is of more than a byte.
+-- A request goes by whole pages if it is for an optimal resource and a page has more than one byte.
 abbrev pub goes_by_pages : ℕ → Wish → Bool
 goes_by_pages granularity w = w.optimal && not (granularity == 1)
 
--- the pages that it goes by, or none
+-- the granularity of its pages, or `None`
 abbrev pub pages_of : ℕ → Wish → Option ℕ
 pages_of granularity w = cond (goes_by_pages granularity w) (Some granularity) None
 
--- how the allocator tries it
+-- how the allocator tries the request
 abbrev pub plan_for : State → ℕ → Request → Wish → Plan
 plan_for s granularity r w =
     cond (goes_by_pages granularity w) (plan_in_pages s r w.dedicated granularity) (plan s r w.dedicated)
 
--- whether a memory type serves what it is asked by an object of the block's own
+-- whether a memory type serves its request by an object of the block's own
 abbrev pub is_own : State → Plan → ℕ → Bool
 is_own s p t = serves_alone s (p.asked t).request (p.asked t).hint t
 
@@ -30,8 +30,8 @@ asks_own s p (Allocate size t flags) = is_own s p t
 asks_own s p (MapMade offset size) = false
 asks_own s p (Map object offset size) = false
 
--- The question may come of the plan: a question for an object comes where it is refused for no size, and its memory type
--- is there.
+-- The plan may lead to this question. A question for an object needs a request that is not too large, and a memory type
+-- that exists.
 abbrev pub MayCome : State → Plan → Question → Type 0
 MayCome s p (Allocate size t flags) = (p.too_large ≡ false) × (t < length s.properties.memory_types)
 MayCome s p (MapMade offset size) = Unit {0}

@@ -27,23 +27,23 @@ use std::marker::Model;
 /// Live blocks by key.
 type Blocks = SlotMap<MemoryBlock<ObjectName>>;
 
-/// How many places of keys there can be: a key's place is in its lower 32 bits.
+/// How many places of keys there can be: a key's place is its lower 32 bits.
 const PLACES: u64 = 1 << 32;
 
 /// The largest granularity of buffers and images, in bytes.
 const LARGEST_PAGE: u64 = 1 << 32;
 
-/// An allocator with its live blocks by key, whose device is asked from outside. It cannot be let go:
+/// An allocator with its live blocks by key, whose device is asked from outside. It cannot be dropped:
 /// [`close`](Desk::close) ends it.
 ///
-/// A call that needs the device takes the answers to its questions so far, and denies with the question that is open;
-/// its caller asks, and makes the call again. Names of objects that go back to the device are read one by one
+/// A call that needs the device takes the answers to its questions so far, and is denied with the next question if
+/// there is one. Its caller asks the device and makes the call again. The names of released objects are read one by one
 /// ([`next_gone`](Desk::next_gone)), and none is lost.
 pub struct Desk {
     allocator: GpuAllocator<ObjectName>,
     device: AnsweredDevice,
     blocks: Blocks,
-    // By the key's place: what is kept with its block, or was kept with the latest block that the place had.
+    // By the key's place: the tag of its block, or of the latest block that the place had.
     tags: Vec<Tag>,
     granularity: u64,
     offer: Offer<Global>,
@@ -76,13 +76,13 @@ impl Model for Desk {
 }
 
 impl Desk {
-    /// A desk over a device that offers these, with nothing held.
+    /// A desk over a device that offers these properties, with nothing held.
     ///
-    /// `granularity` is the device's `bufferImageGranularity`, in bytes: where it is over 1, the bytes of a linear and of
-    /// an optimal resource may share no page of that size. 0 counts as 1.
+    /// `granularity` is the device's `bufferImageGranularity`, in bytes: a linear and an optimal resource may share no
+    /// page of that size. 0 counts as 1.
     ///
-    /// Takes memory for its tables. Fails where the properties are not usable, or the granularity is no power of two or
-    /// over 2^32, by `BadProperties`; or for want of memory.
+    /// It takes memory for its tables. `BadProperties` where the properties are not usable, or the granularity is not a
+    /// power of two of at most 2^32; `OutOfHostMemory` for want of memory.
     pub fn new(
         alloc: Global,
         config: Config,
@@ -99,7 +99,7 @@ impl Desk {
         Desk::with_sharing(alloc, config, props, granularity, Sharing::Buddy)
     }
 
-    /// As [`new`](Desk::new), with the choice how requests that are not `TRANSIENT` share objects: in buddy chunks, or in
+    /// As [`new`](Desk::new), with a choice how requests that are not `TRANSIENT` share objects: in buddy chunks, or in
     /// fit chunks.
     pub fn with_sharing(
         alloc: Global,
@@ -153,15 +153,15 @@ impl Desk {
         })
     }
 
-    /// Nothing is done: its contract tells what every desk keeps, whatever calls were made. Live blocks are memory of
-    /// their own. Each name that waits to be read is that of no held object, and waits once.
+    /// A lemma about every desk, whatever calls were made: does nothing at run time. Live blocks share no memory. No
+    /// held object has a name that waits to be read, and each such name waits once.
     pub fn keeps_sound(&self)
         ensures { IsSound self.now }
     {
         self.device.keeps_names();
     }
 
-    /// Ends the desk, once no block is live, no object is held and each name was read (`counts` tells).
+    /// Ends the desk, once no block is live, no object is held and each name was read (see `counts`).
     pub fn close(self)
         requires blocks { map.len self.blocks.live ≡ 0 }
         requires held { map.len self.allocator.held ≡ 0 }
@@ -180,7 +180,7 @@ impl Desk {
     }
 }
 
-/// The place of a key, in which its tag is too.
+/// The place of a key, at which its tag stands too.
 #[inline(always)]
 fn place_of(key: u64) -> usize
     ensures { result ≡ slots.place_of key }
@@ -195,7 +195,7 @@ fn page_of(granularity: u64) -> u64
     if granularity == 0 { 1 } else { granularity }
 }
 
-/// The same properties once more.
+/// A copy of these properties.
 fn again<'a>(props: &DeviceProperties<'a>) -> DeviceProperties<'a>
     ensures { properties_of result ≡ properties_of props.now }
 {

@@ -1,4 +1,4 @@
-//! Laws of any calls of a desk, over the definitions alone. The functions do nothing.
+//! Laws of any calls of a desk, over the definitions alone. The functions are lemmas: they do nothing at run time.
 
 ghost use Rattle.std.specs.Prelude.{ℕ, List, All};
 ghost use Rattle.gpu_alloc.specs.Request.{IsGranularity};
@@ -8,9 +8,9 @@ ghost use Rattle.gpu_desk.specs.Names.{IsPast, IsSpent, MakesEver, NamesNothing,
 ghost use Rattle.gpu_desk.specs.Pages.{ArePaged, ShareNoPage};
 ghost use Rattle.gpu_desk.specs.Walk.{ComesOnce, IsLiveKey, NeverComes, WalksAll};
 
-/// However calls follow one another, a name never comes twice. An object that was given back is past: its name waits to
-/// be read, and no object and no live block has it, then and ever after. Once it is read ([`Desk::next_gone`]) it is
-/// spent, and never waits again.
+/// However calls follow one another, no name comes twice. The name of a released object is past: it waits to be read,
+/// and no object and no live block has it, then and ever after. Once it is read ([`Desk::next_gone`]) it is spent, and
+/// never waits again.
 ///
 /// [`Desk::next_gone`]: crate::Desk::next_gone
 pub fn no_name_comes_twice()
@@ -19,8 +19,9 @@ pub fn no_name_comes_twice()
     ensures once { MakesEver IsSpent (λ s name. Waits s name → ⊥) }
 {}
 
-/// A whole walk by [`Desk::block_after`] tells each block exactly once that lives all along, and none that lives at none
-/// of its calls, whatever calls are made between. So it tells exactly the live blocks where nothing changes meanwhile.
+/// A whole walk by [`Desk::block_after`] meets each block that lives all along exactly once, and no block that is live
+/// at none of its calls, whatever calls are made between. So where nothing changes meanwhile, it meets exactly the live
+/// blocks.
 ///
 /// [`Desk::block_after`]: crate::Desk::block_after
 pub fn a_walk_meets_each_block_once()
@@ -30,9 +31,9 @@ pub fn a_walk_meets_each_block_once()
         → All (λ s. IsLiveKey key s → ⊥) states → NeverComes keys key }
 {}
 
-/// Where each block for an optimal resource has its object alone, or begins at a page and has whole pages for what was
-/// asked, and blocks are memory of their own: no page of one object holds one of the first bytes, as many as were asked
-/// for, of a block for an optimal resource, and a byte of a block for a linear one. Every desk keeps so
+/// No page of an object holds both a requested byte of a block for an optimal resource and a byte of a block for a
+/// linear one. This follows where blocks share no memory and each block for an optimal resource has its object alone,
+/// or begins at a page and has whole pages for the requested bytes. Every desk keeps this so
 /// ([`Desk::keeps_sound`](crate::Desk::keeps_sound)).
 pub fn whole_pages_are_not_shared()
     ensures { (s : DeskState) → session.IsSound s.device.properties (objects s) (books s) → IsGranularity s.granularity

@@ -1,5 +1,5 @@
-//! An allocator with its live blocks by key, over a device that is asked from outside: what a library for callers that
-//! can't be called back stands on.
+//! An allocator with its live blocks by key, over a device that is asked from outside: the base of a library for
+//! callers that can't be called back.
 #![tactic(auto)]
 
 mod denial;

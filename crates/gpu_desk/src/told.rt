@@ -1,9 +1,9 @@
-//! What the calls of a desk tell.
+//! What the calls of a desk return.
 
 /// Where a block lies.
 #[derive(Clone, Copy, Debug, PartialEq, Eq)]
 pub struct Grant {
-    /// What names the block. It is never 0, and never names another block.
+    /// The key of the block. It is never 0, and never that of another block.
     pub key: u64,
 
     /// The name of its object.
@@ -18,16 +18,17 @@ pub struct Grant {
     /// The index of its memory type.
     pub memory_type: u32,
 
-    /// Whether its object is new: the one that was made last for this grant. No import's is.
+    /// Whether its object is new: the one that was made last for this grant. For an import this is false.
     pub fresh: bool,
 
-    /// The caller's own value: the wish's, or 0 for an import, or what [`set_user`](crate::Desk::set_user) set last.
+    /// The caller's own value: the latest of [`set_user`](crate::Desk::set_user), or else the wish's, or 0 for an
+    /// import.
     pub user: u64,
 
-    /// How many bytes were asked for, at most the size. Of an import it is the size.
+    /// How many bytes were requested, at most the size. For an import it is the size.
     pub asked: u64,
 
-    /// Whether the request was for an optimal resource. No import is.
+    /// Whether the request was for an optimal resource. For an import this is false.
     pub optimal: bool,
 }
 
@@ -44,13 +45,13 @@ pub struct ObjectRange {
     pub size: u64,
 }
 
-/// How much there is.
+/// How many there are.
 #[derive(Clone, Copy, Debug, PartialEq, Eq)]
 pub struct Counts {
     /// How many blocks are live.
     pub blocks: u64,
 
-    /// How many names of objects that were given back are not read yet.
+    /// How many names of released objects are still to be read.
     pub unread: u64,
 
     /// How many objects are held.
@@ -63,12 +64,12 @@ pub struct Counts {
 /// How much is held of a heap.
 #[derive(Clone, Copy, Debug, PartialEq, Eq)]
 pub struct HeapCounts {
-    /// What the held objects of its memory types count, in bytes.
+    /// How many bytes the held objects of its memory types count.
     pub used: u128,
 
     /// How many bytes may still be asked of it.
     pub budget: u64,
 
-    /// How many bytes of it may be held in all before no more are asked for: its size where no limit was set.
+    /// How many bytes of it may be held before no more are asked for: its size where no limit was set.
     pub limit: u64,
 }

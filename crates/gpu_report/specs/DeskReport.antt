@@ -1,4 +1,4 @@
--- What a report tells of a desk.
+-- What a report of a desk contains.
 use Rattle.std.specs.Prelude.{◌≡◌, ◌↔◌, ℕ, List, Contains, is_some, cond}
 use Rattle.std.specs.FinMap as map
 use Rattle.gpu_alloc.specs.State.{span_of}
@@ -8,7 +8,7 @@ use Rattle.gpu_report.specs.Report.{IsReport}
 use Rattle.gpu_report.specs.declared.live.LiveBlock.{LiveBlock}
 use Rattle.gpu_report.specs.declared.report.Report.{Report}
 
--- the block lies where the live one of the key lies that it has for a name
+-- the block lies where the live block of the key lies that it has as its name
 abbrev pub IsKeyed : DeskState → LiveBlock → Type 0
 IsKeyed s b = OfKey s b.name (λ x. span_of x ≡ span_told b)
 
@@ -16,12 +16,12 @@ IsKeyed s b = OfKey s b.name (λ x. span_of x ≡ span_told b)
 abbrev pub AreKeyed : DeskState → List LiveBlock → Type 0
 AreKeyed s blocks = (b : LiveBlock) → Contains blocks b ↔ IsKeyed s b
 
--- a report of its allocator, in which each live block has its key for a name
+-- a report of its allocator, in which each live block has its key as its name
 pub record IsDeskReport (s : DeskState) (r : Report) : Type 0 where
   pub blocks : List LiveBlock
   pub keyed : AreKeyed s blocks
   pub report : IsReport s.allocator blocks r
 
--- what stands with the block of a key for its caller, 0 where no live block has the key
+-- the caller's own value of the block of a key, 0 where no live block has the key
 abbrev pub user_of : DeskState → ℕ → ℕ
 user_of s key = cond (is_some (map.get s.blocks.live key)) (tag_of s key).user 0

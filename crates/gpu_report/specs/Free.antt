@@ -13,11 +13,11 @@ pub record AreFree (s : State) (t : ℕ) (free : List FreeRange) : Type 0 where
   pub exact : (r : FreeRange) → Contains free r ↔ IsFreeRangeOf s t r
   pub order : AreInOrder free
 
--- the lengths of those in those of the held objects that are held as this
+-- the lengths of those that lie in the held objects that are held as this
 abbrev pub free_sizes : List (ℕ × HeldObject) → Part → List FreeRange → List ℕ
 free_sizes held p free = map (λ r. r.end - r.start) (filter (λ r. is_listed_as held p r.object) free)
 
--- the greatest of the lengths, 0 where there is none
+-- the greatest of the lengths, 0 where there are none
 abbrev pub largest : List ℕ → ℕ
 largest [] = 0
 largest (n ∷ ns) = max n (largest ns)
@@ -26,7 +26,7 @@ largest (n ∷ ns) = max n (largest ns)
 abbrev pub shorter : ℕ → List ℕ → List ℕ
 shorter most sizes = filter (λ n. nat_lt (2 * n) most) sizes
 
--- the share in a whole, in thousandths, cut to a whole one; 0 of nothing
+-- a part's share of a whole, in thousandths, rounded down; 0 where the whole is 0
 abbrev pub thousandths : ℕ → ℕ → ℕ
 thousandths part whole = cond (whole == 0) 0 (1000 * part / whole)
 

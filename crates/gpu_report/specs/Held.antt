@@ -11,7 +11,7 @@ use Rattle.gpu_report.specs.declared.part.Part.{Part}
 use Rattle.gpu_report.specs.declared.report.ObjectKind.{ObjectKind}
 use Rattle.gpu_report.specs.declared.report.ObjectKind.TheVariants.{Dedicated, Imported, BuddyChunk, FreeListChunk, FitChunk}
 
--- what an object is reported to be held for: which number a free list's chunk has is not told
+-- the kind that a report gives an object: it leaves out the number of a free list's chunk
 abbrev pub kind_of : Kind → ObjectKind
 kind_of kind.Dedicated = Dedicated
 kind_of kind.Imported = Imported
@@ -39,7 +39,7 @@ is_found p (Some h) = is_of p h
 abbrev pub part_of : ℕ → ObjectKind → Part
 part_of t kind = record { memory_type = t; kind = kind }
 
--- the kinds of the first so many memory types, by memory type, then kind
+-- all kinds of a memory type, and those of the first n memory types, by memory type, then kind
 abbrev pub parts_of : ℕ → List Part
 parts_of t =
     part_of t Dedicated ∷ part_of t Imported ∷ part_of t BuddyChunk ∷ part_of t FreeListChunk ∷ part_of t FitChunk ∷ []
@@ -54,10 +54,10 @@ pub record AreHeld (s : State) (held : List (ℕ × HeldObject)) : Type 0 where
   pub once : IsDistinct nat_eq (keys_of held)
   pub rising : IsNonDecreasing (keys_of held)
 
--- whether the object of a name is one of them that is held as this
+-- whether the object of a name is one of these and is held as this
 abbrev pub is_listed_as : List (ℕ × HeldObject) → Part → ℕ → Bool
 is_listed_as entries p object = is_found p (lookup (nat_eq object) entries)
 
--- those of them that are held as this
+-- those of these that are held as this
 abbrev pub held_as : List (ℕ × HeldObject) → Part → List (ℕ × HeldObject)
 held_as entries p = filter (λ e. is_of p e.1) entries

@@ -1,4 +1,4 @@
--- Live blocks by the names that their keeper has for them.
+-- Live blocks under their owner's names for them.
 use Rattle.std.specs.Prelude.{◌≡◌, ℕ, List, map, Contains}
 use Rattle.std.specs.List.{filter}
 use Rattle.std.specs.Cmp.Lexicographic.{slice_cmp}
@@ -30,6 +30,6 @@ pub record LacksSpan (s : State) (blocks : List LiveBlock) : Type 0 where
   pub live : IsLive s span
   pub lacks : Contains (map span_told blocks) span → ⊥
 
--- the sizes of the live blocks in those of the held objects that are held as this
+-- the sizes of the live blocks in the held objects that are held as this
 abbrev pub live_sizes : List (ℕ × HeldObject) → Part → List LiveBlock → List ℕ
 live_sizes held p live = map (λ b. b.size) (filter (λ b. is_listed_as held p b.object) live)

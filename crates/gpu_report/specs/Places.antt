@@ -19,7 +19,7 @@ abbrev pub places_in : List LiveBlock → List FreeRange → ℕ → List Place
 places_in live free object =
     map block_place (filter (λ b. b.object == object) live) ++ map free_place (filter (λ r. r.object == object) free)
 
--- each place begins where the one before it ends, from here on to there
+-- the places follow one another without a gap, from here to there
 abbrev pub Tile : ℕ → ℕ → List Place → Type 0
 Tile at end [] = at ≡ end
 Tile at end (p ∷ ps) = (p.offset ≡ at) × Tile (at + p.size) end ps

@@ -1,4 +1,4 @@
--- What a report tells of an allocator.
+-- What a report of an allocator contains.
 use Rattle.std.specs.Prelude.{◌≡◌, ℕ, ◌<◌, Bool, true, false, List, length, map, All, Contains, Some, slice_get, nat_lt, sum}
 use Rattle.std.specs.FinMap as finite
 use Rattle.std.specs.List.{filter, flat_map}
@@ -52,16 +52,16 @@ is_chunk FitChunk = true
 abbrev pub HasPlaces : List LiveBlock → List FreeRange → ObjectReport → Type 0
 HasPlaces live free o = ArePlaces live free o.object o.places.items
 
--- An object's live blocks and free ranges, each once and in order. Of a shared object they cover it: the first begins at
--- 0, each begins where the one before it ends, and the last ends where the object does.
+-- An object's live blocks and free ranges, each once and in order. In a shared object they cover it: the first begins
+-- at 0, each begins where the one before it ends, and the last ends with the object.
 pub record IsObjectTold (s : State) (live : List LiveBlock) (o : ObjectReport) : Type 0 where
   pub free : List FreeRange
   pub are_free : AreFree s o.memory_type free
   pub places : HasPlaces live free o
   pub tiled : is_chunk o.kind ≡ true → Tile 0 o.size o.places.items
 
--- The held objects of a memory type and a kind: how many they are, the sum of the sizes of the live blocks in them, and of
--- the free ranges. All are 0 where no object is held so.
+-- The held objects of a memory type and a kind: how many there are, and the sums of the sizes of the live blocks in
+-- them and of their free ranges. All are 0 where no object is held so.
 pub record AreSums (s : State) (held : List (ℕ × HeldObject)) (live : List LiveBlock) (k : KindReport) : Type 0 where
   pub free : List FreeRange
   pub are_free : AreFree s k.memory_type free
@@ -72,7 +72,7 @@ pub record AreSums (s : State) (held : List (ℕ × HeldObject)) (live : List Li
   pub largest_free : k.largest_free ≡ largest (free_sizes held (part_of k.memory_type k.kind) free)
   pub scattered : k.scattered ≡ scattered (free_sizes held (part_of k.memory_type k.kind) free)
 
--- the same of a memory type and a kind as which an object is held
+-- the same for a memory type and a kind of which an object is held
 pub record IsKindTold (s : State) (held : List (ℕ × HeldObject)) (live : List LiveBlock) (k : KindReport) : Type 0 where
   pub sums : AreSums s held live k
   pub some : 0 < k.objects
@@ -84,8 +84,8 @@ is_used held p = nat_lt 0 (length (held_as held p))
 abbrev pub part_told : KindReport → Part
 part_told k = part_of k.memory_type k.kind
 
--- What is told of these memory types and kinds: each object that is held so, in their order and by name, and each of them
--- as which one is held.
+-- The reports of these memory types and kinds: each object that is held so, in their order and by name, and each memory
+-- type and kind of which one is held.
 pub record AreTold (s : State) (held : List (ℕ × HeldObject)) (live : List LiveBlock) (ps : List Part)
     (ks : List KindReport) (os : List ObjectReport) : Type 0 where
   pub heads : map head_told os ≡ map head_held (flat_map (held_as held) ps)
@@ -93,13 +93,13 @@ pub record AreTold (s : State) (held : List (ℕ × HeldObject)) (live : List Li
   pub rows : map part_told ks ≡ filter (is_used held) ps
   pub kinds : All (IsKindTold s held live) ks
 
--- each held object is told
+-- each held object is reported
 abbrev pub TellsEach : State → List ObjectReport → Type 0
 TellsEach s os = (object : ℕ) (h : HeldObject) → finite.get s.held object ≡ Some h
     → Contains (map head_told os) (head_held (object, h))
 
--- What a report tells: the heaps, and of each memory type and kind its objects. `held` are the held objects, and `live` the
--- live blocks, under names from those that were given.
+-- What a report contains: the heaps, and for each memory type and kind its objects. `held` are the held objects, and
+-- `live` the live blocks, with names from the given blocks.
 pub record IsReport (s : State) (blocks : List LiveBlock) (r : Report) : Type 0 where
   pub held : List (ℕ × HeldObject)
   pub are_held : AreHeld s held

@@ -1,4 +1,4 @@
--- What a report tells of a session.
+-- What a report of a session contains.
 use Rattle.std.specs.Prelude.{◌≡◌, List, Contains}
 use Rattle.gpu_alloc.specs.State.{span_of}
 use Rattle.gpu_session.specs.Books.{Books, OfBlock}
@@ -12,7 +12,7 @@ use Rattle.gpu_report.specs.declared.report.Report.{Report}
 abbrev pub block_of : NamedSpan → LiveBlock
 block_of row = record { name = row.name; object = row.object; offset = row.offset; size = row.size }
 
--- a report of its allocator, in which each live block has the name that it has in the session
+-- a report of its allocator, in which each live block has its name in the session
 pub record IsSessionReport (s : Books) (r : Report) : Type 0 where
   pub blocks : List LiveBlock
   pub named : (b : LiveBlock) → Contains blocks b → OfBlock s b.name (λ x. span_of x ≡ span_told b)

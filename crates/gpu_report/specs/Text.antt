@@ -1,4 +1,4 @@
--- The text of a report of a living program, as JSON, with a row a line.
+-- The text of a report of a living program, as JSON, with one line a row.
 use Rattle.std.specs.Prelude.{ℕ, zero, suc, List, [], ◌∷◌, ◌++◌, codes, decimal, Option, Some, None}
 use Rattle.std.specs.List.{flat_map}
 use Rattle.gpu_alloc_types.specs.Flags.{property_bits}
@@ -11,7 +11,7 @@ use Rattle.gpu_report.specs.declared.report.ObjectReport.{ObjectReport}
 use Rattle.gpu_report.specs.declared.report.Place.{Place}
 use Rattle.gpu_report.specs.declared.report.Report.{Report}
 
--- a number behind the words that name it
+-- a number after the words that name it
 abbrev pub member : List ℕ → ℕ → List ℕ
 member words number = words ++ decimal number
 
@@ -43,7 +43,7 @@ kind_text k =
     ++ member (codes ",\"free_bytes\":") k.free_bytes ++ member (codes ",\"largest_free\":") k.largest_free
     ++ member (codes ",\"scattered\":") k.scattered ++ codes "}"
 
--- a block's key and its caller's value, which free bytes have not
+-- a block's key and its caller's own value; null for free bytes
 abbrev pub key_text : (users : ℕ → ℕ) → Option ℕ → List ℕ
 key_text users None = codes "{\"key\":null,\"user\":null"
 key_text users (Some key) = member (codes "{\"key\":") key ++ member (codes ",\"user\":") (users key)
@@ -52,7 +52,7 @@ abbrev pub place_text : (users : ℕ → ℕ) → Place → List ℕ
 place_text users p =
     key_text users p.block ++ member (codes ",\"offset\":") p.offset ++ member (codes ",\"size\":") p.size ++ codes "}"
 
--- what begins the row behind so many
+-- what begins a row after n others
 abbrev pub lead : ℕ → List ℕ
 lead zero = codes "\n"
 lead (suc count) = codes ",\n"
@@ -69,7 +69,7 @@ object_text users o =
     ++ codes "\n]}"
 
 -- The text of a report: the heaps, the memory types, what is held by type and kind, and the objects. `users` are the
--- values that stand with the blocks for their caller, by key.
+-- caller's own values of the blocks, by key.
 abbrev pub report_text : (users : ℕ → ℕ) → List MemoryType → Report → List ℕ
 report_text users types r =
     codes "{\"heaps\":[" ++ rows heap_text r.heaps.items ++ codes "\n],\"types\":[" ++ rows type_text types

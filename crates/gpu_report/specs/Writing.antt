@@ -1,13 +1,13 @@
--- How a text is written where there may be room for a part of it alone.
+-- How a text is written where there may be too little room for it.
 use Rattle.std.specs.Prelude.{◌≡◌, ℕ, ◌-◌, ◌^◌, List, [], ◌∷◌, ◌++◌, length, min}
 
--- the bytes where a text is written over them: its bytes in place of the first of these, as many as there are
+-- the bytes after a text is written over them: its bytes take the place of the first of these, as many as there are
 abbrev pub over : (text bytes : List ℕ) → List ℕ
 over [] bytes = bytes
 over (b ∷ text) [] = []
 over (b ∷ text) (old ∷ bytes) = b ∷ over text bytes
 
--- how long a text is, and of one that is longer the most that 64 bits count
+-- the length of a text, at most the greatest number of 64 bits
 abbrev pub length_told : List ℕ → ℕ
 length_told text = min (length text) (2 ^ 64 - 1)
 
@@ -16,6 +16,6 @@ pub record IsWritten (text before now : List ℕ) (at : ℕ) : Type 0 where
   pub bytes : now ≡ over text before
   pub length : at ≡ length_told text
 
--- whatever was written before, now it is that and this text
+-- whatever text was written before, now it is that text followed by this one
 pub record GoesOn (old : List ℕ) (at : ℕ) (more new : List ℕ) (next : ℕ) : Type 0 where
   pub on : (text before : List ℕ) → IsWritten text before old at → IsWritten (text ++ more) before new next

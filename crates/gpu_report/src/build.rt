@@ -1,4 +1,4 @@
-//! A report made: heaps, then memory type by memory type.
+//! How a report is built: heaps, then memory type by memory type.
 
 ghost use Rattle.std.specs.Prelude.{◌≡◌, ◌<◌, ◌++◌, IfErr, IfNone, IfOk, IfSome, OnOk, List, length, map as mapped};
 ghost use Rattle.gpu_alloc.specs.Sound as Sound;
@@ -24,9 +24,9 @@ use std::alloc::{AllocError, Allocator, Global};
 impl Report {
     /// A report of what an allocator holds, from its live blocks under names. Nothing changes.
     ///
-    /// `blocks` has to have a block for each live span: where one lacks, the answer is `BlockMissing`. Blocks that are not
-    /// live are passed over, and of two of one span either may be told. Names may be any numbers, also equal ones. The
-    /// only other refusal is `OutOfHostMemory`.
+    /// `blocks` must have a block for each live span: where one is missing, the error is `BlockMissing`. Blocks that
+    /// are not live are ignored, and of two with one span either may be used. Names may be any numbers, even equal
+    /// ones. The only other error is `OutOfHostMemory`.
     pub fn of<M: MemoryObject, A: Allocator + Copy>(
         alloc: Global,
         allocator: &GpuAllocator<M, A>,
@@ -44,7 +44,7 @@ impl Report {
 
     /// A report of what a session's allocator holds, with the live blocks under their names there. Nothing changes.
     ///
-    /// The only refusal is want of host memory.
+    /// The only error is want of host memory.
     pub fn of_session<M: MemoryObject, D: MemoryDevice<M>, A: Allocator + Copy>(
         alloc: Global,
         session: &Session<M, D, A>,
@@ -76,7 +76,7 @@ fn named_blocks(alloc: Global, rows: &[NamedSpan]) -> Result<Vec<LiveBlock>, All
     Ok(blocks)
 }
 
-/// The report, or none where a live span has no block.
+/// The report, or `None` where a live span has no block.
 pub(crate) fn report_of<M: MemoryObject, A: Allocator + Copy>(
     alloc: Global,
     allocator: &GpuAllocator<M, A>,
@@ -110,7 +110,7 @@ pub(crate) fn report_of<M: MemoryObject, A: Allocator + Copy>(
     }))
 }
 
-/// Adds what is told of a memory type, kind by kind.
+/// Adds the rows of a memory type, kind by kind.
 fn add_type<M: MemoryObject, A: Allocator + Copy>(
     alloc: Global,
     allocator: &GpuAllocator<M, A>,

@@ -11,7 +11,7 @@ use std::alloc::{AllocError, Global};
 impl Report {
     /// A report of what a desk's allocator holds, with the live blocks under their keys. Nothing changes.
     ///
-    /// The only refusal is want of host memory.
+    /// The only error is want of host memory.
     pub fn of_desk(alloc: Global, desk: &Desk) -> Result<Report, AllocError>
         ensures report { IfOk result (IsDeskReport desk.now) }
     {
@@ -42,7 +42,7 @@ fn keyed_blocks(alloc: Global, desk: &Desk) -> Result<Vec<LiveBlock>, AllocError
     Ok(blocks)
 }
 
-/// What stands with the block of a key for its caller, 0 where the key has no live block.
+/// The caller's own value of the block of a key, 0 where the key has no live block.
 pub(crate) fn user_of(desk: &Desk, key: u64) -> u64
     ensures { result ≡ user_of desk.now key }
 {

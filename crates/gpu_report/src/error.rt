@@ -1,4 +1,4 @@
-//! Why there is no report.
+//! Why a report cannot be made.
 
 ghost use Rattle.std.specs.Prelude.{◌≡◌};
 ghost use Rattle.gpu_report.specs.declared.error.ReportError.TheVariants.{OutOfHostMemory};
@@ -6,13 +6,13 @@ ghost use Rattle.gpu_report.specs.declared.error.ReportError.TheVariants.{OutOfH
 use gpu_alloc::AllocationError;
 use std::alloc::AllocError;
 
-/// Why there is no report.
+/// Why a report cannot be made.
 #[derive(Clone, Copy, Debug, PartialEq, Eq)]
 pub enum ReportError {
-    /// The host's memory is exhausted.
+    /// Host memory is exhausted.
     OutOfHostMemory,
 
-    /// A live span is that of none of the blocks that were given.
+    /// A live span belongs to none of the given blocks.
     BlockMissing,
 }
 

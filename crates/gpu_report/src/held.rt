@@ -28,7 +28,7 @@ pub(crate) fn held_by_name<M: MemoryObject, A: Allocator>(
     Ok(rows)
 }
 
-/// What the object of a name is, exactly where it is one of these, by name.
+/// The object of a name, or `None` where it is not one of these, which are sorted by name.
 pub(crate) fn find(held: &[(u64, HeldRow)], object: u64) -> Option<HeldRow>
     requires once { IsDistinct nat_eq (keys_of (mapped entry_of held.now)) }
     requires rising { IsNonDecreasing (keys_of (mapped entry_of held.now)) }
@@ -40,7 +40,7 @@ pub(crate) fn find(held: &[(u64, HeldRow)], object: u64) -> Option<HeldRow>
     }
 }
 
-/// What is told of each heap.
+/// The report of each heap.
 pub(crate) fn heap_reports<M: MemoryObject, A: Allocator>(
     alloc: Global,
     allocator: &GpuAllocator<M, A>,

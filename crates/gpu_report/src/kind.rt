@@ -1,4 +1,4 @@
-//! What is told of a memory type and a kind.
+//! The report of a memory type and a kind.
 
 ghost use Rattle.std.specs.Prelude.{◌≡◌, ◌++◌, ◌∷◌, [], All, List, IfOk, OnOk, map as mapped};
 ghost use Rattle.std.specs.List.Sorted.{IsNonDecreasingBy};
@@ -20,7 +20,7 @@ use gpu_alloc::spans::HeldRow;
 use gpu_alloc::{FreeRange, GpuAllocator, MemoryObject};
 use std::alloc::{AllocError, Allocator, Global};
 
-/// What is told of a memory type and a kind, as which so many objects are held, or none.
+/// The report of a memory type and a kind with `count` objects, or `None` where there are none.
 pub(crate) fn kind_report<M: MemoryObject, A: Allocator>(
     alloc: Global,
     allocator: &GpuAllocator<M, A>,
@@ -48,7 +48,7 @@ pub(crate) fn kind_report<M: MemoryObject, A: Allocator>(
     })
 }
 
-/// What is told of an object.
+/// The report of an object.
 fn object_report(
     alloc: Global,
     row: &(u64, HeldRow),
@@ -70,7 +70,7 @@ fn object_report(
     })
 }
 
-/// What is told of each object that is held as this.
+/// The report of each object that is held as this.
 fn objects_of(
     alloc: Global,
     part: Part,
@@ -93,7 +93,7 @@ fn objects_of(
     Ok(objects)
 }
 
-/// Adds what is told of a memory type and a kind, and of each object that is held so.
+/// Adds the report of a memory type and a kind, and of each object that is held so.
 pub(crate) fn add_kind<M: MemoryObject, A: Allocator>(
     alloc: Global,
     allocator: &GpuAllocator<M, A>,

@@ -1,4 +1,4 @@
-//! What an allocator holds, object by object, for whoever prints or draws it.
+//! What an allocator holds, object by object, for callers that print or draw it.
 #![tactic(auto)]
 
 mod build;

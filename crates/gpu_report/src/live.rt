@@ -1,4 +1,4 @@
-//! Live blocks by the names that their keeper has for them.
+//! Live blocks under their owner's names for them.
 
 ghost use Rattle.std.specs.Prelude.{◌≡◌, ◌↔◌, All, Contains, IfNone, IfOk, IfSome, MatchOption, map as mapped};
 ghost use Rattle.std.specs.FinSet as set;
@@ -14,10 +14,10 @@ use gpu_alloc::spans::LiveSpan;
 use gpu_alloc::{GpuAllocator, MemoryBlock, MemoryObject};
 use std::alloc::{AllocError, Allocator, Global};
 
-/// Where a live block lies, and the name that its keeper has for it.
+/// Where a live block lies, and its owner's name for it.
 #[derive(Clone, Copy, Debug, PartialEq, Eq)]
 pub struct LiveBlock {
-    /// The block's name, any number.
+    /// The block's name: any number.
     pub name: u64,
 
     /// The name of its object.
@@ -77,7 +77,7 @@ fn blocks_by_span(alloc: Global, blocks: &[LiveBlock]) -> Result<Vec<LiveBlock>,
     Ok(sorted)
 }
 
-/// A block that has this span, of blocks that are sorted by their spans.
+/// A block with this span, from blocks that are sorted by their spans.
 fn find(blocks: &[LiveBlock], span: &LiveSpan) -> Option<LiveBlock>
     requires { AreBySpan blocks.now }
     ensures { MatchOption result (Contains (mapped span_told blocks.now) (span_in span.now) → ⊥)
@@ -117,7 +117,7 @@ pub(crate) fn live_unnamed<M: MemoryObject, A: Allocator>(
     unnamed(alloc, &spans)
 }
 
-/// For each live span a block that has it, by the name of their object, or none where a span has no block.
+/// For each live span a block with that span, by the name of their object, or `None` where a span has no block.
 pub(crate) fn live_blocks<M: MemoryObject, A: Allocator>(
     alloc: Global,
     allocator: &GpuAllocator<M, A>,

@@ -70,7 +70,7 @@ impl Part {
         row.memory_type == self.memory_type && ObjectKind::of(row.kind).rank() == self.kind.rank()
     }
 
-    /// Whether a row that was found is of an object that is held as this.
+    /// Whether a row, if it was found, is of an object that is held as this.
     fn is_of(&self, found: Option<HeldRow>) -> bool
         ensures { result ≡ is_found self.now (option_map held_of found) }
     {
@@ -93,7 +93,7 @@ impl Part {
         count
     }
 
-    /// The sizes of the live blocks in those of the held objects, by name, that are held as this.
+    /// The sizes of the live blocks in the held objects that are held as this, by name.
     pub(crate) fn live_sizes(
         &self,
         alloc: Global,
@@ -113,7 +113,7 @@ impl Part {
         Ok(sizes)
     }
 
-    /// The lengths of the free ranges in those of the held objects, by name, that are held as this.
+    /// The lengths of the free ranges in the held objects that are held as this, by name.
     pub(crate) fn free_sizes(
         &self,
         alloc: Global,

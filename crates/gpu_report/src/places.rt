@@ -32,7 +32,7 @@ impl Place {
     }
 }
 
-/// The live blocks of an object, of blocks that are sorted by the name of their object.
+/// The live blocks of an object, from blocks that are sorted by the name of their object.
 fn blocks_of(live: &[LiveBlock], object: u64) -> &[LiveBlock]
     requires { IsNonDecreasingBy (λ b. b.object) live.now }
     ensures { result.now ≡ filter (λ b. b.object == object) live.now }
@@ -43,7 +43,7 @@ fn blocks_of(live: &[LiveBlock], object: u64) -> &[LiveBlock]
     &rest[..count]
 }
 
-/// The free ranges of an object, of ranges in order.
+/// The free ranges of an object, from sorted ranges.
 fn ranges_of(free: &[FreeRange], object: u64) -> &[FreeRange]
     requires { AreInOrder free.now }
     ensures { result.now ≡ filter (λ r. r.object == object) free.now }
@@ -54,7 +54,7 @@ fn ranges_of(free: &[FreeRange], object: u64) -> &[FreeRange]
     &rest[..count]
 }
 
-/// The live blocks and free ranges of an object, in no order.
+/// The live blocks and free ranges of an object, in no particular order.
 fn gathered(
     alloc: Global,
     object: u64,
@@ -77,7 +77,7 @@ fn gathered(
     Ok(places)
 }
 
-/// The live blocks and free ranges of an object, in order of offset.
+/// The live blocks and free ranges of an object, sorted by offset.
 pub(crate) fn places_of(
     alloc: Global,
     object: u64,

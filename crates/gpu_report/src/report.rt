@@ -1,4 +1,4 @@
-//! What a report tells.
+//! The contents of a report.
 
 use serde::Serialize;
 
@@ -8,7 +8,7 @@ pub struct Report {
     /// The heaps, by index.
     pub heaps: Vec<HeapReport>,
 
-    /// What is held by memory type, then by what it is held for: those of which an object is held.
+    /// What is held by memory type, then by what it is held for, where an object is held.
     pub kinds: Vec<KindReport>,
 
     /// The held objects, by memory type, then by what they are held for, then by name.
@@ -43,11 +43,11 @@ pub enum ObjectKind {
     /// The blocks of a free list.
     FreeListChunk,
 
-    /// Blocks that are exactly as long as asked.
+    /// Blocks as long as asked.
     FitChunk,
 }
 
-/// The held objects of a memory type that are held for the same.
+/// The held objects of one memory type and one kind.
 #[derive(Clone, Copy, Debug, PartialEq, Eq, Serialize)]
 pub struct KindReport {
     /// The index of the memory type.
@@ -56,23 +56,23 @@ pub struct KindReport {
     /// What they are held for.
     pub kind: ObjectKind,
 
-    /// How many objects they are.
+    /// How many objects there are.
     pub objects: u64,
 
     /// How many live blocks lie in them.
     pub live_blocks: u64,
 
-    /// How many bytes these blocks have.
+    /// How many bytes these blocks have in all.
     pub live_bytes: u128,
 
-    /// How many bytes their free ranges have.
+    /// How many bytes their free ranges have in all.
     pub free_bytes: u128,
 
     /// The length of the longest free range, in bytes, 0 where nothing is free.
     pub largest_free: u64,
 
-    /// The share of the free bytes that lie in free ranges shorter than half of the longest one, in thousandths, cut to a
-    /// whole one; 0 where nothing is free.
+    /// The share of the free bytes that lie in free ranges shorter than half of the longest one, in thousandths,
+    /// rounded down; 0 where nothing is free.
     pub scattered: u64,
 }
 
@@ -88,17 +88,17 @@ pub struct ObjectReport {
     /// What it is held for.
     pub kind: ObjectKind,
 
-    /// How many bytes it counts: its size, or of an import the block's.
+    /// How many bytes it counts: its size, or for an import the block's size.
     pub size: u64,
 
-    /// Its live blocks and free ranges, in order of offset.
+    /// Its live blocks and free ranges, sorted by offset.
     pub places: Vec<Place>,
 }
 
 /// A live block, or a free range.
 #[derive(Clone, Copy, Debug, PartialEq, Eq, Serialize)]
 pub struct Place {
-    /// The block's name, and none for a free range.
+    /// The block's name, or `None` for a free range.
     pub block: Option<u64>,
 
     /// Where it starts in its object, in bytes.

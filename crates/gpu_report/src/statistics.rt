@@ -1,4 +1,4 @@
-//! The sums of one memory type, for who wants no more of it.
+//! The sums of one memory type, for callers that need no more of it.
 
 ghost use Rattle.std.specs.Prelude.{◌≡◌, ◌<◌, ◌≤◌, ◌↔◌, IfOk, IfSome, None, length};
 ghost use Rattle.gpu_report.specs.Statistics.{AreStatistics};
@@ -13,7 +13,7 @@ use gpu_alloc::{GpuAllocator, MemoryObject};
 use gpu_desk::Desk;
 use std::alloc::{AllocError, Allocator, Global};
 
-/// What is held of a memory type, by what it is held for: all zeros where no object is held so.
+/// What is held of a memory type, by what it is held for: zeros for a kind of which no object is held.
 #[derive(Clone, Copy, Debug, PartialEq, Eq)]
 pub struct Statistics {
     /// Objects of one block each.
@@ -33,9 +33,9 @@ pub struct Statistics {
 }
 
 impl Statistics {
-    /// What an allocator holds of a memory type, which has to be there. Nothing changes.
+    /// What an allocator holds of a memory type, which must exist. Nothing changes.
     ///
-    /// The only refusal is want of host memory.
+    /// The only error is want of host memory.
     pub fn of<M: MemoryObject, A: Allocator + Copy>(
         alloc: Global,
         allocator: &GpuAllocator<M, A>,
@@ -76,9 +76,9 @@ impl Statistics {
         })
     }
 
-    /// What a desk holds of a memory type, or `None` exactly where the type is not there. Nothing changes.
+    /// What a desk holds of a memory type, or `None` exactly where the type does not exist. Nothing changes.
     ///
-    /// The only refusal is want of host memory.
+    /// The only error is want of host memory.
     pub fn of_desk(
         alloc: Global,
         desk: &Desk,

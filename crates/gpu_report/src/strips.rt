@@ -1,5 +1,5 @@
-//! Where the ranges of a report lie in a picture of it, in the picture's units. Objects are drawn as strips in rows of equal
-//! length, one below another, and a strip that passes the end of its row goes on in the next one.
+//! Where the ranges of a report lie in a picture of it, in the picture's units. Objects are drawn as strips in rows of
+//! equal length, one below another. A strip that passes the end of its row goes on in the next one.
 
 ghost use Rattle.std.specs.Prelude.{◌≡◌, ◌+◌, ◌*◌, ◌^◌, ◌%◌, ◌<◌, ◌≤◌};
 ghost use Rattle.gpu_report.specs.OnLine.{on_line};
@@ -11,14 +11,14 @@ pub const ROW: u64 = 790;
 /// The least length of a range on its strip.
 pub const LEAST: u64 = 3;
 
-/// How long a strip is for each of its ranges, at least, so that a part of it is to scale.
+/// The least length of a strip for each of its ranges, so that a part of it is to scale.
 pub const EACH: u64 = 5;
 
 /// How far two strips lie apart.
 pub const GAP: u64 = 6;
 
-/// How far into a line of `length` that lies which is `part` into `whole`, rounded down. What is past the whole lies at
-/// the line's end, and of nothing all lies at its start.
+/// How far into a line of `length` a point lies that is `part` into `whole`, rounded down. A point past the whole lies
+/// at the line's end; where the whole is 0, every point lies at its start.
 pub fn on_line(part: u64, whole: u64, length: u64) -> u64
     ensures place { result ≡ on_line part whole length }
     ensures within { result ≤ length }
@@ -30,14 +30,13 @@ pub fn on_line(part: u64, whole: u64, length: u64) -> u64
     (u128::from(part) * u128::from(length) / u128::from(whole)) as u64
 }
 
-/// The strip on which an object is drawn. Each of its ranges has [`LEAST`], and what that leaves of the strip is to
-/// scale.
+/// The strip on which an object is drawn. Each of its ranges has [`LEAST`], and the rest of the strip is to scale.
 #[derive(Clone, Copy)]
 pub struct Strip {
     /// How many bytes it stands for.
     pub size: u64,
 
-    /// How many ranges they have.
+    /// How many ranges it has.
     pub count: u64,
 
     /// How long it is.
@@ -56,7 +55,7 @@ pub struct Span {
 }
 
 impl Span {
-    /// Where it is drawn if what it lies in starts at `start`.
+    /// The same span where what it lies in starts at `start`.
     pub fn moved(self, start: u64) -> Span
         ensures { start + self.end < 2 ^ 64 → self.start ≤ self.end
             → (result.start ≡ start + self.start) × (result.end ≡ start + self.end) }
@@ -86,7 +85,7 @@ impl Strip {
         }
     }
 
-    /// Where the range at `index` starts that lies `offset` bytes into the object, or the one before it ends.
+    /// Where the range at `index` starts that lies `offset` bytes into the object, or where the one before it ends.
     pub fn edge(&self, index: u64, offset: u64) -> u64
         requires { index ≤ self.now.count }
         ensures place { result ≡ edge_of self.now index offset }
@@ -111,8 +110,8 @@ impl Strip {
     }
 }
 
-/// Where a strip of this length starts, if the one before it ends at `at`: beside it, or in the next row if it would pass
-/// the end of this one.
+/// Where a strip of this length starts, if the one before it ends at `at`: after it, or in the next row if it would
+/// pass the end of this one.
 pub fn start_of(at: u64, length: u64) -> u64
     ensures after { at ≤ result }
     ensures in_one_row { length ≤ ROW → at + ROW < 2 ^ 64 → result % ROW + length ≤ ROW }
@@ -127,7 +126,7 @@ pub fn start_of(at: u64, length: u64) -> u64
     }
 }
 
-/// What is drawn in one row of a range that goes on from `from` to `end`: how far into the row it starts, and its width.
+/// The part in one row of a range that goes on from `from` to `end`: how far into the row it starts, and its width.
 pub fn piece(from: u64, end: u64) -> (u64, u64)
     requires { from < end }
     ensures seen { 0 < result.1 }

@@ -15,7 +15,7 @@ pub(crate) fn total(sizes: &[u64]) -> u128
     total
 }
 
-/// The greatest of sizes, 0 where there is none.
+/// The greatest of the sizes, 0 where there are none.
 pub(crate) fn greatest(sizes: &[u64]) -> u64
     ensures { result ≡ largest sizes.now }
 {
@@ -49,7 +49,7 @@ pub(crate) fn scattered(sizes: &[u64]) -> u64
     thousandths(part, whole)
 }
 
-/// The share of a part in a whole, in thousandths: three digits, one after the other.
+/// A part's share of a whole, in thousandths: three digits, one after the other.
 fn thousandths(part: u128, whole: u128) -> u64
     requires part { part ≤ whole }
     requires bound { whole < 2 ^ 124 }

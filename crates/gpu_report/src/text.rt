@@ -1,5 +1,5 @@
-//! The text of a report of a living program, as JSON, with a row a line. It is the library's own, so that a library for
-//! callers in C has it with no other crate.
+//! The text of a report of a living program, as JSON, with one line a row. It is this library's own, so that a library
+//! for C callers needs no other crate for it.
 
 ghost use Rattle.std.specs.Prelude.{◌≡◌};
 ghost use Rattle.gpu_report.specs.DeskReport.{user_of};
@@ -13,12 +13,12 @@ use crate::{HeapReport, KindReport, ObjectKind, ObjectReport, Place, Report};
 use gpu_alloc_types::MemoryType;
 use gpu_desk::Desk;
 
-/// Writes a report of a desk into `text` as JSON, as much of it as there is room for, and answers how many bytes all of
-/// it has. Behind what is written `text` stays as it was.
+/// Writes a report of a desk into `text` as JSON, as much of it as there is room for, and returns the length of the
+/// whole text in bytes. The rest of `text` is unchanged.
 ///
 /// The members are those of a [`Report`], in that order, and `types`, the memory types, with `heap` and `properties`.
-/// In place of a block's name there are its `key` and its `user`, both null of free bytes. Each row is a line. The text
-/// has no byte of 0. `report` is to be that of the desk as it is: of a key that has no live block the `user` is 0.
+/// In place of a block's name there are its `key` and its `user`, both null for free bytes. Each row is a line. The
+/// text has no 0 byte. `report` must be that of the desk as it is: for a key that has no live block the `user` is 0.
 pub fn write_report(desk: &Desk, report: &Report, text: &mut [u8]) -> u64
     ensures { IsWritten (report_text (user_of desk.now) (desk.now.allocator.properties).memory_types report.now)
         text.old text.new result }
@@ -89,7 +89,7 @@ fn put_places(desk: &Desk, text: &mut [u8], at: u64, places: &[Place]) -> u64
     end
 }
 
-/// What begins the row behind so many.
+/// What begins a row after `count` others.
 fn lead(count: usize) -> &'static str
     ensures { result.now ≡ lead count }
 {
@@ -174,7 +174,7 @@ fn put_place(desk: &Desk, text: &mut [u8], at: u64, place: &Place) -> u64
     put_words(text, size, "}")
 }
 
-/// The key of a block, and what stands with it for its caller; free bytes have none.
+/// The key of a block, and its caller's own value; null for free bytes.
 fn put_key(desk: &Desk, text: &mut [u8], at: u64, key: Option<u64>) -> u64
     ensures { GoesOn text.old at (key_text (user_of desk.now) key) text.new result }
 {

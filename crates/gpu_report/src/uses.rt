@@ -8,7 +8,7 @@ use crate::{LiveBlock, Report, ReportError};
 use gpu_alloc::{GpuAllocator, MemoryBlock, MemoryObject};
 use std::alloc::Global;
 
-/// A report where two blocks are all that are live.
+/// A report where exactly two blocks are live.
 pub fn report_of_two<M: MemoryObject>(
     alloc: Global,
     allocator: &GpuAllocator<M>,

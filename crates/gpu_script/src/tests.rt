@@ -1,6 +1,6 @@
 //! What no contract says: what scripts print, that calls succeed with ample memory, and what is left where memory is
-//! refused. The tests of the allocator and of its callers stand here, over the simulated device; those of the device
-//! and of single parts of the allocator in `gpu_alloc_tests`.
+//! missing. The tests of the allocator and of its callers are here, over the simulated device. Those of the device and
+//! of single parts of the allocator are in `gpu_alloc_tests`.
 
 mod allocator;
 mod bench;

@@ -2,6 +2,6 @@
 use Rattle.std.specs.Prelude.{◌≡◌, ◌⊎◌, ℕ, List, [], ◌∷◌, Ok}
 use Rattle.hex.specs.Hex.{decode_of}
 
--- A field stands for these bytes: it is a dash and they are none, or two hexadecimal digits for each.
+-- A field gives these bytes: a dash for no bytes, or two hexadecimal digits for each.
 abbrev pub IsWritten : List ℕ → List ℕ → Type 0
 IsWritten field bytes = ((field ≡ 45 ∷ []) × (bytes ≡ [])) ⊎ (decode_of field ≡ Ok bytes)

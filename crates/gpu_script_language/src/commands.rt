@@ -6,10 +6,10 @@ use gpu_alloc::{Dedicated, Request, UsageFlags};
 use gpu_session::Command;
 use std::alloc::Allocator;
 
-/// The words that command lines begin with, by what follows them.
+/// The first words of command lines, by what follows them.
 #[derive(Clone, Copy)]
 pub(crate) enum CommandWord {
-    /// A name and a request. The hint of the word, if it gives one.
+    /// A name and a request; the word may give a hint.
     Request(Option<Dedicated>),
 
     /// A name, a memory type, and the sizes of an object and of a span in it.
@@ -28,7 +28,7 @@ pub(crate) enum CommandWord {
     Plain(PlainWord),
 }
 
-/// Words that a name, an offset and a number of bytes follow.
+/// Words before a name, an offset and a number of bytes.
 #[derive(Clone, Copy)]
 pub(crate) enum SpanWord {
     Map,
@@ -36,14 +36,14 @@ pub(crate) enum SpanWord {
     Get,
 }
 
-/// Words that a name, an offset and bytes follow.
+/// Words before a name, an offset and bytes.
 #[derive(Clone, Copy)]
 pub(crate) enum BytesWord {
     Write,
     Put,
 }
 
-/// Words that one number follows.
+/// Words before one number.
 #[derive(Clone, Copy)]
 pub(crate) enum NumberWord {
     Free,
@@ -52,14 +52,14 @@ pub(crate) enum NumberWord {
     Ranges,
 }
 
-/// Words that nothing follows.
+/// Words with nothing after them.
 #[derive(Clone, Copy)]
 pub(crate) enum PlainWord {
     Cleanup,
     Counts,
 }
 
-/// What the words of command lines stand for.
+/// The meanings of the words of command lines.
 pub(crate) const COMMAND_WORDS: [(&str, CommandWord); 15] = [
     ("alloc", CommandWord::Request(None)),
     ("required", CommandWord::Request(Some(Dedicated::Required))),
@@ -92,7 +92,7 @@ impl CommandWord {
         }
     }
 
-    /// The command of a line that begins with the word, whose other fields these are.
+    /// The command of a line that begins with this word and has these other fields.
     pub(crate) fn read<A: Allocator>(
         self,
         alloc: A,
@@ -114,7 +114,7 @@ impl CommandWord {
     }
 }
 
-/// A name, and a request by its size, alignment mask, usage and memory types.
+/// Reads a name, and a request as its size, alignment mask, usage and memory types.
 fn request<A: Allocator>(
     hint: Option<Dedicated>,
     fields: &mut Fields<'_>,
@@ -136,7 +136,7 @@ fn request<A: Allocator>(
     })
 }
 
-/// A name, a memory type, an object's size, and a span of it by its offset and size.
+/// Reads a name, a memory type, an object's size, and a span of it as an offset and a size.
 fn import<A: Allocator>(fields: &mut Fields<'_>) -> Result<Command<A>, LineError> {
     Ok(Command::Import {
         name: fields.next_u32()?,
@@ -147,7 +147,7 @@ fn import<A: Allocator>(fields: &mut Fields<'_>) -> Result<Command<A>, LineError
     })
 }
 
-/// A name, an offset, and how many bytes are meant.
+/// Reads a name, an offset, and a number of bytes.
 fn of_span<A: Allocator>(word: SpanWord, fields: &mut Fields<'_>) -> Result<Command<A>, LineError> {
     let name = fields.next_u32()?;
     let offset = fields.next_u64()?;
@@ -167,7 +167,7 @@ fn of_span<A: Allocator>(word: SpanWord, fields: &mut Fields<'_>) -> Result<Comm
     })
 }
 
-/// A name, an offset, and the bytes that go there.
+/// Reads a name, an offset, and the bytes that go there.
 fn of_bytes<A: Allocator>(
     alloc: A,
     word: BytesWord,
@@ -190,7 +190,7 @@ fn of_bytes<A: Allocator>(
     })
 }
 
-/// What one number stands for: a name, a count or a memory type.
+/// The meaning of one number: a name, a count or a memory type.
 fn of_number<A: Allocator>(word: NumberWord, number: u32) -> Command<A> {
     match word {
         NumberWord::Free => Command::Free { name: number },

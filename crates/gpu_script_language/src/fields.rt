@@ -7,14 +7,14 @@ fn is_blank(byte: u8) -> bool {
     byte == b' ' || byte == b'\t'
 }
 
-/// The fields that are left of a line, which are separated by spaces and tabs.
+/// The fields that are left of a line. Spaces and tabs separate them.
 #[derive(Drop)]
 pub(crate) struct Fields<'a> {
     rest: &'a [u8],
 }
 
 impl<'a> Fields<'a> {
-    /// The fields of a line. One carriage return at its end does not belong to it.
+    /// The fields of a line. A carriage return at its end does not belong to it.
     pub(crate) fn of(line: &'a [u8]) -> Fields<'a> {
         match line {
             [rest @ .., b'\r'] => Fields { rest },

@@ -12,19 +12,19 @@ use std::fmt;
 /// What is wrong with a line.
 #[derive(Clone, Copy, Debug, PartialEq, Eq)]
 pub enum LineError {
-    /// Its first field is no word of the language, or a later one no word that is allowed there.
+    /// Its first field is not a word of the language, or a later one not a word that is allowed there.
     UnknownWord,
 
     /// A setup line after a command line.
     SetupAfterCommands,
 
-    /// Too few fields or too many.
+    /// Too few or too many fields.
     WrongNumberOfFields,
 
     /// A field that is not a number of its type or range.
     BadNumber,
 
-    /// A field that is not bytes.
+    /// A field that is not a list of bytes.
     BadBytes,
 
     /// After all lines: the properties cannot be used.
@@ -44,13 +44,13 @@ impl fmt::Display for LineError {
     }
 }
 
-/// Why a line was not taken.
+/// Why a line was not accepted.
 #[derive(Clone, Copy)]
 pub(crate) enum LineStop {
     /// It is bad.
     Bad(LineError),
 
-    /// The host's memory was refused.
+    /// Host memory is missing.
     Memory,
 }
 
@@ -72,7 +72,7 @@ impl<T: Drop> From<AllocFailed<T>> for LineStop {
     }
 }
 
-/// The number that a field holds: one or more decimal digits, whose value is a `u64`.
+/// The number in a field: one or more decimal digits with a value that fits a `u64`.
 fn number(field: &[u8]) -> Option<u64> {
     let mut value = 0u64;
     for digit in field {
@@ -86,7 +86,7 @@ fn number(field: &[u8]) -> Option<u64> {
     if field.is_empty() { None } else { Some(value) }
 }
 
-/// The bytes that a field holds: two hexadecimal digits for each, or `-` for none.
+/// The bytes in a field: two hexadecimal digits for each, or `-` for none.
 fn bytes<A: Allocator>(alloc: A, field: &[u8]) -> Result<Bytes<A>, LineStop>
     ensures { IfOk result (IsWritten field.now) }
 {
@@ -100,7 +100,7 @@ fn bytes<A: Allocator>(alloc: A, field: &[u8]) -> Result<Bytes<A>, LineStop>
     }
 }
 
-/// What a field stands for, as one of these words.
+/// The meaning of a field that is one of these words.
 pub(crate) fn meaning_of<T: Copy>(
     words: &[(&str, T)],
     field: Option<&[u8]>,

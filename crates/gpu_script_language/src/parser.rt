@@ -17,7 +17,7 @@ pub enum Stop {
     /// A line is bad. Lines count from 1.
     BadLine(u64, LineError),
 
-    /// The host's memory was refused to the program itself.
+    /// Host memory is missing for the program itself.
     Memory,
 }
 
@@ -27,7 +27,7 @@ impl From<AllocError> for Stop {
     }
 }
 
-/// What a script asks.
+/// A parsed script.
 #[derive(Drop)]
 pub struct Script<A: Allocator> {
     /// What its setup lines describe.
@@ -40,8 +40,8 @@ pub struct Script<A: Allocator> {
     pub lines: u64,
 }
 
-/// The script that these bytes are: lines of fields, of which the setup lines come first. If not, `Stop::BadLine` tells
-/// the first bad line, and `Stop::Memory` that memory for the script was refused.
+/// The script in these bytes: lines of fields, with the setup lines first. Otherwise `Stop::BadLine` has the first bad
+/// line, and `Stop::Memory` means that there was no memory for the script.
 pub fn parse<A: Allocator + Copy>(alloc: A, text: &[u8]) -> Result<Script<A>, Stop> {
     let mut script = Script {
         setup: Setup::new(alloc),
@@ -61,7 +61,7 @@ pub fn parse<A: Allocator + Copy>(alloc: A, text: &[u8]) -> Result<Script<A>, St
 }
 
 impl<A: Allocator + Copy> Script<A> {
-    /// Takes one line. Blank lines and comments say nothing.
+    /// Takes one line. Blank lines and comments mean nothing.
     fn take_line(&mut self, alloc: A, line: &[u8]) -> Result<(), LineStop> {
         let mut fields = Fields::of(line);
         let Some(first) = fields.next() else {

@@ -5,7 +5,7 @@ use gpu_session::{Fault, Reply};
 use gpu_sim::{Question, Sim};
 use std::alloc::{AllocError, Allocator};
 
-/// A line for each reply, and one that tells what the device holds at the end and how often it was asked to allocate.
+/// Prints a line for each reply, and one with what the device holds at the end and how often it was asked to allocate.
 pub(crate) fn print_replies<A: Allocator + Copy>(
     alloc: A,
     replies: &[Reply<A>],
@@ -22,7 +22,7 @@ pub(crate) fn print_replies<A: Allocator + Copy>(
     Ok(text)
 }
 
-/// Adds the line of a reply, without its line feed. Where memory for it is refused, a part of it may stand there.
+/// Appends the line of a reply, without its line feed. Where memory for it is missing, a part of it may remain.
 pub fn print_reply<A: Allocator>(text: &mut String<A>, reply: &Reply<A>) -> Result<(), AllocError> {
     match reply {
         Reply::Granted {
@@ -55,7 +55,7 @@ pub fn print_reply<A: Allocator>(text: &mut String<A>, reply: &Reply<A>) -> Resu
     }
 }
 
-/// Two hexadecimal digits for each byte.
+/// Prints two hexadecimal digits for each byte.
 fn print_bytes<A: Allocator>(text: &mut String<A>, bytes: &[u8]) -> Result<(), AllocError> {
     text.push_str("bytes ")?;
     if bytes.is_empty() {
@@ -67,7 +67,7 @@ fn print_bytes<A: Allocator>(text: &mut String<A>, bytes: &[u8]) -> Result<(), A
     Ok(())
 }
 
-/// The object, the start and the end of each range.
+/// Prints the object, the start and the end of each range.
 fn print_ranges<A: Allocator>(
     text: &mut String<A>,
     ranges: &[FreeRange],
@@ -82,7 +82,7 @@ fn print_ranges<A: Allocator>(
     Ok(())
 }
 
-/// How many objects remain and how many are held, and what is held of each heap.
+/// Prints how many more objects may be held, how many are held, and what is held of each heap.
 fn print_counts<A: Allocator>(
     text: &mut String<A>,
     remaining: u32,

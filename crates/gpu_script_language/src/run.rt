@@ -1,4 +1,4 @@
-//! A script's run: what a reader gives is parsed, run by a session over the simulated device, and answered to a writer.
+//! A script's run: it is read, parsed, run by a session over the simulated device, and answered to a writer.
 
 ghost use Rattle.std.specs.Prelude.{◌≡◌, ◌≤◌, IfOk};
 ghost use Rattle.gpu_alloc_types.specs.Properties.{IsUsable};
@@ -16,12 +16,14 @@ use std::io::{ErrorKind, Read, Write};
 /// A session over the simulated device.
 pub type SimSession<A> = Session<SimMemory<A>, Sim<A>, A>;
 
-/// Runs the script that a reader gives, and writes what it answers to a writer.
+/// Runs the script that a reader gives, and writes its answer to a writer.
 ///
-/// The whole script is read and parsed before anything runs, and the answer is written at once. The status is 0 where
-/// it ran; 1 where a read or a write failed, and then nothing is said of how much was written; 2 at a bad line, and
-/// then the output is `line N: ` and what is wrong with it; 3 where the host's memory was refused to the program
-/// itself, and then the output is `out of memory`.
+/// The whole script is read and parsed before anything runs, and the answer is written at once. The status is:
+///
+/// - 0 where it ran
+/// - 1 where a read or a write failed; how much was written is then unspecified
+/// - 2 for a bad line; the output is then `line N: ` and what is wrong with it
+/// - 3 where the program itself lacked host memory; the output is then `out of memory`.
 pub fn run_script<R: Read, W: Write, A: Allocator + Copy>(
     alloc: A,
     input: &mut R,
@@ -33,7 +35,7 @@ pub fn run_script<R: Read, W: Write, A: Allocator + Copy>(
     write_answer(output, answered)
 }
 
-/// Writes what a script answers, or why there is no answer. The status is that of [`run_script`].
+/// Writes a script's answer, or why there is none. The status is that of [`run_script`].
 pub fn write_answer<W: Write, A: Allocator>(output: &mut W, answer: Result<String<A>, Stop>) -> u8
     ensures { result ≤ 3 }
 {
@@ -49,18 +51,18 @@ pub fn write_answer<W: Write, A: Allocator>(output: &mut W, answer: Result<Strin
     status
 }
 
-/// What a script answers.
+/// A script's answer.
 fn answer<R: Read, A: Allocator + Copy>(alloc: A, input: &mut R) -> Result<String<A>, Stop> {
     let text = read_all(alloc, input)?;
     let script = parse_usable(alloc, text.as_slice())?;
     let printed = run(alloc, &script);
-    // By a call, as each device below, so that its parts are taken apart in `drop` and not here.
+    // A call, as for each device below, so that its parts are taken apart in `drop` and not here.
     drop(script);
     Ok(printed?)
 }
 
-/// The script that these bytes are, as [`parse`] gives it, if its device can be used. If not, `Stop::BadLine` tells the
-/// line after the last one.
+/// The script in these bytes, as [`parse`] returns it, if its device is usable. If not, `Stop::BadLine` has the line
+/// after the last one.
 pub fn parse_usable<A: Allocator + Copy>(alloc: A, text: &[u8]) -> Result<Script<A>, Stop>
     ensures usable { IfOk result (λ script. IsUsable (offered script.setup)) }
 {
@@ -72,7 +74,7 @@ pub fn parse_usable<A: Allocator + Copy>(alloc: A, text: &[u8]) -> Result<Script
     Ok(script)
 }
 
-/// The bytes of a reader. `Stop::Read` tells that a read failed, `Stop::Memory` that memory for them was refused.
+/// The bytes of a reader. `Stop::Read` means that a read failed, `Stop::Memory` that there was no memory for them.
 pub fn read_all<R: Read, A: Allocator + Copy>(alloc: A, input: &mut R) -> Result<Vec<u8, A>, Stop> {
     let mut text = Vec::new(alloc);
     let mut buffer = [0u8; 4096];
@@ -105,7 +107,7 @@ fn run<A: Allocator + Copy>(alloc: A, script: &Script<A>) -> Result<String<A>, A
     printed
 }
 
-/// Runs commands as one list, and finishes the session: the replies, and the device at the end.
+/// Runs commands as one list, and finishes the session. Returns the replies, and the device at the end.
 fn run_and_finish<A: Allocator + Copy>(
     mut session: SimSession<A>,
     commands: &[Command<A>],
@@ -115,7 +117,7 @@ fn run_and_finish<A: Allocator + Copy>(
 }
 
 /// A session over the device that the setup lines describe, with nothing live. It takes memory for the device's books
-/// and the session's; where that is refused, nothing is left.
+/// and the session's; where that is missing, nothing is left.
 pub fn open<A: Allocator + Copy>(alloc: A, setup: &Setup<A>) -> Result<SimSession<A>, AllocError>
     requires usable { IsUsable (offered setup.now) }
 {

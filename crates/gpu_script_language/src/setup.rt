@@ -11,10 +11,10 @@ use gpu_alloc::{Config, DeviceProperties, MemoryHeap, MemoryPropertyFlags, Memor
 use gpu_sim::{Cause, Question};
 use std::alloc::Allocator;
 
-/// The bits of a memory type's properties that have a name.
+/// The named bits of a memory type's properties.
 const NAMED_PROPERTIES: u8 = 0x3f;
 
-/// The words that setup lines begin with.
+/// The first words of setup lines.
 #[derive(Clone, Copy)]
 pub(crate) enum SetupWord {
     Config,
@@ -26,7 +26,7 @@ pub(crate) enum SetupWord {
     Refuse,
 }
 
-/// What the words of setup lines stand for.
+/// The meanings of the words of setup lines.
 pub(crate) const SETUP_WORDS: [(&str, SetupWord); 7] = [
     ("config", SetupWord::Config),
     ("heap", SetupWord::Heap),
@@ -38,7 +38,7 @@ pub(crate) const SETUP_WORDS: [(&str, SetupWord); 7] = [
 ];
 
 impl SetupWord {
-    /// Whether so many fields may follow the word.
+    /// Whether `count` fields may follow the word.
     fn takes(self, count: usize) -> bool {
         match self {
             SetupWord::Config => count == 1 || count == 7,
@@ -50,16 +50,16 @@ impl SetupWord {
     }
 }
 
-/// A question that the device is to refuse. Only a map may fail.
+/// A question that the device refuses. Only a map may fail.
 #[derive(Clone, Copy)]
 pub struct Refusal {
     /// Its kind.
     pub kind: Question,
 
-    /// How many of that kind come up to it, with it.
+    /// Its number among the questions of that kind, from 1.
     pub nth: u64,
 
-    /// What it is answered by.
+    /// The answer to it.
     pub cause: Cause,
     ghost only_maps_fail: { cause ≡ Failed → kind ≡ Map },
 }
@@ -88,14 +88,14 @@ pub struct Setup<A: Allocator> {
     /// Whether it gives device addresses.
     pub buffer_device_address: bool,
 
-    /// The questions that it is to refuse.
+    /// The questions that it refuses.
     pub refusals: Vec<Refusal, A>,
 }
 
 impl<A: Allocator + Copy> Setup<A> {
     ghost use Rattle.gpu_script_language.specs.Setup.{offered};
 
-    /// What no setup line describes: the potato's configuration, no heap and no type.
+    /// A setup without lines: the potato's configuration, no heaps and no memory types.
     pub(crate) fn new(alloc: A) -> Self {
         Setup {
             config: Config::i_am_potato(),
@@ -198,7 +198,7 @@ const CAUSES: [(&str, Cause); 3] = [
     ("failed", Cause::Failed),
 ];
 
-/// A kind of question, how many of it come up to this one, and the cause. Only a map may fail.
+/// Reads a kind of question, its number among those of that kind, and the cause. Only a map may fail.
 fn read_refusal(fields: &mut Fields<'_>) -> Result<Refusal, LineError> {
     let kind = meaning_of(&KINDS, fields.next())?;
     let nth = fields.next_u64()?;

@@ -16,15 +16,15 @@ pub record SessionState (D : Type 0) : Type 0 where
   pub books : Books
   pub device : D
 
--- a block has the name, and it is so
+-- the name has a block, and the block has the property
 abbrev pub OfBlock : Books → ℕ → (Block → Type 0) → Type 0
 OfBlock s name P = (b : Block) × (map.get s.blocks name ≡ Some b) × P b
 
--- the block is the one of the name from now on
+-- the name has this block from now on
 abbrev pub with_block : Books → ℕ → Block → Books
 with_block s name b = record s { blocks = map.insert s.blocks name b }
 
--- How these are stored.
+-- How contracts see these.
 
 abbrev pub books_code : Coded Books
 books_code =

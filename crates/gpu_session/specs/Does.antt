@@ -1,4 +1,4 @@
--- What a command does, answered so: what the device is asked, and what the books say afterwards.
+-- What a command with this answer does: what the device is asked, and what the books say afterwards.
 use Rattle.std.specs.Prelude.{◌≡◌, ◌⊎◌, ◌↔◌, ℕ, ◌+◌, ◌<◌, true, List, [], ◌∷◌, length, Some, None, Result, Ok, Err}
 use Rattle.std.specs.Prelude.{slice_get, is_some}
 use Rattle.std.specs.List.{Contains}
@@ -35,7 +35,7 @@ use Rattle.gpu_session.specs.declared.command.Reply.TheVariants.{Granted, Refuse
 use Rattle.gpu_session.specs.declared.command.Reply.TheVariants.{Unmapped as WasMapped, Bytes, Ranges}
 use Rattle.gpu_session.specs.declared.command.Reply.TheVariants.{Counts as Counted, Fault as Faulty}
 
--- the block that a grant tells
+-- the block that a grant describes
 abbrev pub IsTold : Block → (memory_type object offset size : ℕ) → Type 0
 IsTold b memory_type object offset size =
     (b.memory_type ≡ memory_type) × (b.object ≡ object) × (b.offset ≡ offset) × (b.size ≡ size)
@@ -46,7 +46,7 @@ GivesBlock old name Gives memory_type object offset size new =
     (b : Block) × IsTold b memory_type object offset size × Gives b new.allocator
     × (new.blocks ≡ map.insert old.blocks name b)
 
--- what the device is asked for an import: one object, with the flags of every question
+-- the device's call for an import: one object, with the flags of every question
 abbrev pub object_asked : Properties → (memory_type object_size : ℕ) → Result ℕ OutOfMemory → Event
 object_asked p t object_size answer = Allocated object_size t (flags_of p) answer
 
@@ -60,13 +60,13 @@ abbrev pub RefusesObject : State → (memory_type object_size : ℕ) → Allocat
 RefusesObject s t object_size e es =
     (cause : OutOfMemory) × (e ≡ like_memory cause) × (es ≡ object_asked s.properties t object_size (Err cause) ∷ [])
 
--- A byte call is refused: its mapping, by the block itself or by the device, or the copy between the two sides' bytes,
--- by the device. Where there are no bytes to move, only the block itself refuses.
+-- A byte call ends early. The block or the device refuses its mapping, or the device refuses the copy between host and
+-- device bytes. Where there are no bytes to move, only the block itself refuses.
 abbrev pub EndsEarly : Block → Range → ℕ → (OutOfMemory → List Event) → MapError → List Event → Type 0
 EndsEarly b r len failing e es =
     (refusal b ≡ None → 0 < len) × (IsMapRefused b r e es ⊎ IsCopyRefused b r failing e es)
 
--- bytes are moved where the block is mapped, where there are some
+-- some bytes are moved, in the block's mapping
 abbrev pub InMapping : Block → ℕ → (Mapping → Event) → List Event → Type 0
 InMapping b len e es = (m : Mapping) × (b.mapping ≡ Some m) × (es ≡ where_some len (e m ∷ []))
 
@@ -80,7 +80,7 @@ pub record IsEachFreeRange (s : State) (t : ℕ) (ranges : List FreeRange) : Typ
   pub exact : (r : FreeRange) → Contains ranges r ↔ IsFreeRangeOf s t r
   pub order : AreInOrder ranges
 
--- What is done where no fault is answered.
+-- What happens where no fault is answered.
 abbrev pub Serves : {A : Type 0} → Books → Command A → List Event → Reply A → Books → Type 0
 Serves old (Alloc name request) es (Granted memory_type object offset size) new =
     GivesBlock old name (λ b after. Allocates old.allocator request None es (Ok b) after) memory_type object offset size
@@ -143,13 +143,13 @@ Serves old Counts es (Counted remaining held used) new =
     × (remaining ≡ (old.allocator).remaining) × (held ≡ map.len (old.allocator).held) × IsEachLedger old.allocator used
 Serves old Counts es reply new = ⊥
 
--- an object that was made for an import goes back
+-- an object that was made for an import is released
 abbrev pub GivesObjectBack : Properties → (memory_type object_size : ℕ) → List Event → Type 0
 GivesObjectBack p t object_size es =
     (object : ℕ) × (es ≡ object_asked p t object_size (Ok object) ∷ Deallocated object ∷ [])
 
--- What the device is asked by a command that then finds no host memory: nothing, but that an import may have made its
--- object and given it back.
+-- What a command that then finds no host memory asks of the device: nothing, except that an import may have made its
+-- object and released it.
 abbrev pub AsksInVain : {A : Type 0} → Books → Command A → List Event → Type 0
 AsksInVain old (Alloc name request) es = es ≡ []
 AsksInVain old (Dedicated name request dedicated) es = es ≡ []
@@ -167,7 +167,7 @@ AsksInVain old Cleanup es = es ≡ []
 AsksInVain old (FreeRanges t) es = es ≡ []
 AsksInVain old Counts es = es ≡ []
 
--- A fault changes nothing: it is the first missed condition, or want of host memory where none is missed.
+-- A fault changes nothing: it is the first missed condition, or want of host memory where no condition is missed.
 abbrev pub Faults : {A : Type 0} → Books → Command A → List Event → Fault → Books → Type 0
 Faults old command es fault new =
     (new ≡ old)

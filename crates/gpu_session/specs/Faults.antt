@@ -18,7 +18,7 @@ use Rattle.gpu_session.specs.declared.command.Fault.TheVariants.{NameInUse, Unkn
 use Rattle.gpu_session.specs.declared.command.Fault.TheVariants.{NoDeviceAddress, BadRange, BadType, NoRemaining}
 use Rattle.gpu_session.specs.declared.command.Fault.TheVariants.{TooManyRemaining, BadImportEnd, NotMapped}
 
--- a fault where a test holds, else what comes next
+-- a fault where a test holds, and otherwise what comes next
 abbrev pub where_true : Bool → Fault → Option Fault → Option Fault
 where_true test fault next = cond test (Some fault) next
 
@@ -40,11 +40,11 @@ fault_of_request address r =
 abbrev pub fault_of_type : Properties → ℕ → Option Fault → Option Fault
 fault_of_type p t next = where_true (nat_le (length p.memory_types) t) BadType next
 
--- the range must end inside so many bytes
+-- the range must end inside `size` bytes
 abbrev pub fault_of_range : (offset len size : ℕ) → Option Fault → Option Fault
 fault_of_range offset len size next = where_true (nat_lt size (offset + len)) BadRange next
 
--- where an import of non-coherent memory may not end: neither on the atom nor where its object ends
+-- where an import of non-coherent memory may not end: neither on the atom nor at its object's end
 abbrev pub is_bad_end : Properties → (memory_type object_size end : ℕ) → Bool
 is_bad_end p t object_size end =
     is_non_coherent p t && not (end % p.non_coherent_atom_size == 0) && not (end == object_size)
@@ -57,12 +57,12 @@ fault_of_import s t object_size offset size =
     where_true (is_bad_end s.properties t object_size (offset + size)) BadImportEnd (
     where_true (s.remaining == 0) NoRemaining None))))
 
--- the name must have a block, of which more is asked
+-- the name must have a block, and then more conditions follow
 abbrev pub fault_of_block : Option Block → (Block → Option Fault) → Option Fault
 fault_of_block None more = Some UnknownName
 fault_of_block (Some b) more = more b
 
--- it must be mapped, and the range in the mapping
+-- the block must be mapped, and the range inside the mapping
 abbrev pub fault_of_mapping : Option Mapping → (offset len : ℕ) → Option Fault
 fault_of_mapping None offset len = Some NotMapped
 fault_of_mapping (Some m) offset len = fault_of_range offset len m.len None

@@ -21,8 +21,8 @@ use Rattle.gpu_session.specs.declared.command.Reply.{Reply}
 use Rattle.gpu_session.specs.declared.command.Reply.TheVariants.{Done, Mapped as MappedTo, MapRefused, Bytes}
 use Rattle.gpu_session.specs.declared.command.Reply.TheVariants.{Unmapped as WasMapped}
 
--- No other block's command changes: a block that the command does not name stays as it is, with its mapping and with
--- each of its bytes, as the host and as the device see it.
+-- A block that the command does not name is unchanged, with its mapping and each of its bytes, as host and device see
+-- it.
 abbrev pub LeavesOthers : {A : Type 0} → (ℕ → Option Object) → Books → Command A → (ℕ → Option Object) → Books → Type 0
 LeavesOthers objects old command new_objects new =
     (name : ℕ) (b : Block) → is_about name command ≡ false → finite.get old.blocks name ≡ Some b
@@ -31,7 +31,7 @@ LeavesOthers objects old command new_objects new =
 
 -- What a command does to the bytes of its own block.
 
--- the bytes are with host and device, as is all that is flushed with them
+-- host and device both have the bytes, and agree on all that is flushed with them
 pub record WritesBytes (b : Block) (offset : ℕ) (bytes : List ℕ) (old new : ℕ → Option Object) : Type 0 where
   pub through : ChangesBytes b (length bytes) (IsWrittenThrough b offset bytes) old new
   pub all : HasAll (rounded b offset (length bytes)) (b.offset + offset) (length bytes)
@@ -47,14 +47,14 @@ IsRefusedWrite b offset bytes e old new =
 abbrev pub IsRefusedRead : Block → (offset len : ℕ) → (old new : ℕ → Option Object) → Type 0
 IsRefusedRead b offset len old new = (new ≡ old) ⊎ Changes (IsPartlyRead (rounded b offset len)) old b.object new
 
--- where there are bytes they are put where the block is mapped
+-- some bytes are put, in the block's mapping
 abbrev pub PutsBytes : Properties → Block → ℕ → List ℕ → (old new : ℕ → Option Object) → Type 0
 PutsBytes p b offset bytes old new =
     (m : Mapping) × (b.mapping ≡ Some m)
     × ((0 < length bytes → Changes (IsPut p (m.start + offset) bytes) old b.object new)
     × (length bytes ≡ 0 → new ≡ old))
 
--- the object may have another mapping, and no other bytes
+-- the object may have another mapping, and has the same bytes
 abbrev pub HasOnlyOtherMapping : Object → Object → Type 0
 HasOnlyOtherMapping o new = (new.host_bytes ≡ o.host_bytes) × (new.device_bytes ≡ o.device_bytes)
 
@@ -79,12 +79,12 @@ MovesBytes old s command reply new = Unit {0}
 
 -- What was written.
 
--- one of these values
+-- the number is one of these values
 abbrev pub IsAmong : List ℕ → ℕ → Type 0
 IsAmong [] v = ⊥
 IsAmong (w ∷ values) v = (v ≡ w) ⊎ IsAmong values v
 
--- a byte is there, and has one of these values
+-- there is a byte, and it has one of these values
 abbrev pub HasOneOf : List ℕ → Option ℕ → Type 0
 HasOneOf values None = ⊥
 HasOneOf values (Some v) = IsAmong values v
@@ -93,7 +93,7 @@ HasOneOf values (Some v) = IsAmong values v
 abbrev pub HasBoth : List ℕ → Option Object → ℕ → Type 0
 HasBoth values o k = HasOneOf values (host_at o k) × HasOneOf values (device_at o k)
 
--- each byte of a live block that has values by what was written has one of them for the host, and one for the device
+-- each byte of a live block that has possible values has one of them for the host, and one for the device
 unfoldable pub HoldsWritten : (ℕ → Option Object) → Books → ((name byte : ℕ) → List ℕ) → Type 0
 HoldsWritten objects s values =
     (name byte : ℕ) (b : Block) → finite.get s.blocks name ≡ Some b → byte < b.size → values name byte ≢ []
@@ -106,15 +106,15 @@ HoldsAlong {D} Steps objects old commands replies =
     (n : ℕ) (mid : SessionState D) → Run Steps old (take n commands) (take n replies) mid
     → HoldsWritten (objects mid.device) mid.books (written (take n commands) (take n replies))
 
--- What was read of a byte after these commands: one of the values that it may have, where it has some; the only one,
--- where there is one; and that of the latest write, where no write or put went there since and the block stayed.
+-- What was read of a byte after these commands: one of its possible values, where it has any, and the only one, where
+-- there is one. It is the latest write's where the block stayed and no write or put has gone there since.
 pub record TellsByte {A : Type 0} (commands : List (Command A)) (replies : List (Reply A)) (name byte : ℕ) (read : Option ℕ)
     : Type 0 where
   pub known : written commands replies name byte ≢ [] → HasOneOf (written commands replies name byte) read
   pub only : (v : ℕ) → written commands replies name byte ≡ v ∷ [] → read ≡ Some v
   pub latest : (v : ℕ) → IsWrittenLast commands replies name byte v → read ≡ Some v
 
--- A read that is answered by bytes tells what was written by the commands before it.
+-- A read that is answered with bytes gives what the commands before it wrote.
 abbrev pub TellsWritten : {A : Type 0} → List (Command A) → List (Reply A) → Command A → Reply A → Type 0
 TellsWritten commands replies (Read name offset len) (Bytes bytes) =
     (j : ℕ) → j < length bytes → TellsByte commands replies name (offset + j) (slice_get bytes j)

@@ -4,7 +4,7 @@ use Rattle.gpu_alloc.specs.State.{Span, span_of}
 use Rattle.gpu_session.specs.Books.{Books, OfBlock}
 use Rattle.gpu_session.specs.declared.session.listing.NamedSpan.{NamedSpan}
 
--- the span that a row tells
+-- the span that a row describes
 abbrev pub span_told : NamedSpan → Span
 span_told row = record { object = row.object; offset = row.offset; size = row.size }
 

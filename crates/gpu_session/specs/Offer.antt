@@ -1,9 +1,9 @@
--- What a session keeps of what its device offers.
+-- What a session keeps of its device's offer.
 use Rattle.std.specs.Prelude.{◌≡◌, ◌<◌, ◌^◌, length}
 use Rattle.gpu_alloc_types.specs.Properties.{Properties}
 use Rattle.gpu_session.specs.declared.offer.Offer.{Offer}
 
--- these are what the device offers, and there are few heaps
+-- these are what the device offers, with fewer than 2^32 heaps
 pub record IsOffer {A : Type 0} (p : Properties) (o : Offer A) : Type 0 where
   pub types : o.memory_types.items ≡ p.memory_types
   pub heaps : o.heaps ≡ length p.memory_heaps

@@ -7,13 +7,13 @@ use Rattle.gpu_session.specs.declared.command.Command.{Command}
 use Rattle.gpu_session.specs.declared.command.Command.TheVariants.{Cleanup}
 use Rattle.gpu_session.specs.declared.command.Reply.{Reply}
 
--- From old, a session may answer the command so and go on to new: what the device was asked is a chain of its steps.
+-- From old, a session may give this reply to the command and go on to new: the device was asked a chain of its steps.
 abbrev pub Step : {D A : Type 0} → (D → Event → D → Type 0) → SessionState D → Command A → Reply A → SessionState D
     → Type 0
 Step step old command reply new =
     (es : List Event) × Chain step old.device es new.device × Does old.books command es reply new.books
 
--- These replies to these commands, one step after another.
+-- These replies answer these commands, one step after another.
 abbrev pub Run : {S A : Type 0} → (S → Command A → Reply A → S → Type 0) → S → List (Command A) → List (Reply A) → S
     → Type 0
 Run Steps old [] [] new = new ≡ old

@@ -1,4 +1,4 @@
--- What every state between two commands has, and what each step keeps.
+-- What holds in every state between two commands, and what each step keeps.
 use Rattle.std.specs.Prelude.{◌≡◌, ◌≢◌, ◌↔◌, ℕ, ◌+◌, ◌%◌, ◌≤◌, ◌<◌, true, List, length, map, Contains, Option, Some}
 use Rattle.std.specs.Prelude.{IsSome, IfSome}
 use Rattle.std.specs.FinMap as finite
@@ -25,21 +25,21 @@ use Rattle.gpu_session.specs.declared.command.Reply.{Reply}
 use Rattle.gpu_session.specs.declared.command.Reply.TheVariants.{Granted, Refused, Fault as Faulty}
 use Rattle.gpu_session.specs.declared.offer.Offer.{Offer}
 
--- What every state between two commands has.
+-- What holds in every state between two commands.
 
 -- a live block: bytes of an object that the allocator and the device hold
 pub record IsBlock (p : Properties) (s : State) (objects : ℕ → Option Object) (b : Block) : Type 0 where
   pub nonempty : 0 < b.size
   pub owned : IsOwned s b
   pub inside : HeldWith objects b.object (λ o. (o.memory_type ≡ b.memory_type) × (b.offset + b.size ≤ o.size))
-  -- in a shared object it is of whole atoms
+  -- in a shared object it has whole atoms
   pub whole_atoms : is_shared b.kind ≡ true → (b.offset % atom_of p b.memory_type ≡ 0)
       × (b.size % atom_of p b.memory_type ≡ 0)
-  -- its mapping is inside it, and what the device has mapped of its object is what that asks for
+  -- its mapping lies inside it, and the device has mapped that of its object
   pub agrees : BlockAgrees b p objects
 
--- Memory of its own: allocator and device agree, the allocator is sound, each named block is a live span of a held
--- object, no two share a byte (nor an object where one of them has its own), and nothing else is live.
+-- Live blocks share no memory: allocator and device agree, and the allocator is sound. Each named block is a live span
+-- of a held object, no two share a byte (nor an object where one of them has its own), and nothing else is live.
 pub record IsSound (p : Properties) (objects : ℕ → Option Object) (s : Books) : Type 0 where
   pub agrees : Agrees s.allocator p objects
   pub allocator : allocator.IsSound s.allocator
@@ -48,7 +48,7 @@ pub record IsSound (p : Properties) (objects : ℕ → Option Object) (s : Books
       → AreTwo b c
   pub named : (span : Span) → IsLive s.allocator span → (name : ℕ) × OfBlock s name (λ b. span_of b ≡ span)
 
--- what a session's fields keep
+-- the invariants of a session's fields
 pub record IsKept {A : Type 0} (p : Properties) (objects : ℕ → Option Object) (s : Books) (o : Offer A) : Type 0 where
   pub sound : IsSound p objects s
   pub offer : IsOffer p o
@@ -61,8 +61,8 @@ pub record KeepsGiven (s new : State) : Type 0 where
   pub config : new.config ≡ s.config
   pub sharing : new.sharing ≡ s.sharing
 
--- A block is granted as the command asks: large enough and aligned, an object of its own where it has to be one, and of
--- an import exactly the span that was given.
+-- A block is granted as the command asks: large enough and aligned, an object of its own where it must be one, and for
+-- an import exactly the given span.
 abbrev pub GrantsAsAsked : {A : Type 0} → Books → Command A → Reply A → Books → Type 0
 GrantsAsAsked old (Alloc name request) (Granted memory_type object offset size) new =
     OfBlock new name (λ b. IsTold b memory_type object offset size × IsGranted old.allocator request new.allocator b)
@@ -74,20 +74,19 @@ GrantsAsAsked old (Import name t object_size start len) (Granted memory_type obj
     × (b ≡ imported_block old.allocator object t start len))
 GrantsAsAsked old command reply new = Unit {0}
 
--- A refused allocation, or a fault, changes nothing in the books nor of the device's objects, with their mappings and
--- bytes.
+-- A refused allocation or a fault changes nothing: neither the books nor the device's objects, mappings and bytes.
 abbrev pub ChangesNothing : {A : Type 0} → (ℕ → Option Object) → Books → Reply A → (ℕ → Option Object) → Books → Type 0
 ChangesNothing objects old (Refused e) new_objects new = (new ≡ old) × (new_objects ≡ objects)
 ChangesNothing objects old (Faulty fault) new_objects new = (new ≡ old) × (new_objects ≡ objects)
 ChangesNothing objects old reply new_objects new = Unit {0}
 
--- nothing is held, and all that may be held may be held again
+-- nothing is held, and the whole total may be held again
 pub record HoldsNothing (s new : State) : Type 0 where
   pub held : new.held ≡ finite.empty
   pub remaining : new.remaining ≡ total s
   pub ledgers : (heap : ℕ) → ledger new heap ≡ 0
 
--- The total moves by `SetRemaining` alone. Once no name has a block, a cleanup leaves nothing held.
+-- Only `SetRemaining` changes the total. Once no name has a block, a cleanup leaves nothing held.
 abbrev pub Balances : {A : Type 0} → Books → Command A → Books → Type 0
 Balances old (SetRemaining remaining) new = Unit {0}
 Balances old Cleanup new =
@@ -104,7 +103,7 @@ pub record Keeps {D A : Type 0} (objects : D → ℕ → Option Object) (old : S
   pub others : LeavesOthers (objects old.device) old.books command (objects new.device) new.books
   pub bytes : MovesBytes (objects old.device) old.books command reply (objects new.device)
 
--- A step from a sound state to a sound state, which keeps what each step keeps.
+-- A step from a sound state to a sound state, with all that each step keeps.
 pub record SoundStep {D A : Type 0} (step : D → Event → D → Type 0) (properties : D → Properties)
     (objects : D → ℕ → Option Object) (old : SessionState D) (command : Command A) (reply : Reply A)
     (new : SessionState D) : Type 0 where
@@ -115,12 +114,12 @@ pub record SoundStep {D A : Type 0} (step : D → Event → D → Type 0) (prope
 
 -- Special runs, and the end.
 
--- the command does not say how many more objects may be held
+-- the command does not set how many more objects may be held
 abbrev pub LeavesRemaining : {A : Type 0} → Command A → Type 0
 LeavesRemaining (SetRemaining remaining) = ⊥
 LeavesRemaining command = Unit {0}
 
--- with no block under any name nothing is held
+-- if no name has a block, nothing is held
 abbrev pub HasNothingLeft : Books → Type 0
 HasNothingLeft s = s.blocks ≡ finite.empty → HoldsNothing s.allocator s.allocator
 
@@ -136,14 +135,14 @@ pub record AreWholeObjects (objects : ℕ → Option Object) (s : Books) : Type 
 abbrev pub HasWholeObjects : {D : Type 0} → (D → ℕ → Option Object) → SessionState D → Type 0
 HasWholeObjects objects s = AreWholeObjects (objects s.device) s.books
 
--- the command asks for no block but one with the hint `Required`
+-- the command asks for blocks only with the hint `Required`
 abbrev pub IsForRequired : {A : Type 0} → Command A → Type 0
 IsForRequired (Alloc name request) = ⊥
 IsForRequired (Dedicated name request dedicated) = dedicated ≡ Required
 IsForRequired (Import name t object_size offset size) = ⊥
 IsForRequired command = Unit {0}
 
--- each held object goes back once, and nothing else is asked
+-- each held object is released once, and nothing else is asked
 pub record ReturnsAll (s : Books) (es : List Event) : Type 0 where
   pub gone : List ℕ
   pub asked : es ≡ map Deallocated gone

@@ -4,70 +4,69 @@ use crate::{Bytes, Ledgers, Ranges};
 use gpu_alloc::{AllocationError, Dedicated, MapError, Mapping, Request};
 use std::alloc::{Allocator, Global};
 
-/// One command of a list. The bytes that a command carries are made with the allocator `A`.
+/// One command of a list. The bytes that a command carries are allocated with `A`.
 ///
-/// A command misses the first of the conditions that its faults name, in the order in which they stand, or none; where
-/// it misses one it is answered by [`Reply::Fault`], changes nothing and asks the device nothing. Sizes, offsets and
-/// lengths are in bytes.
+/// A command's faults are listed in the order in which their conditions are tested. A command that misses a condition
+/// is answered by [`Reply::Fault`] with the first one: it changes nothing and does not reach the device. Sizes, offsets
+/// and lengths are in bytes.
 #[derive(Drop)]
 pub enum Command<A: Allocator = Global> {
-    /// Asks for a block by `GpuAllocator::alloc`, and keeps it under a name.
+    /// Allocates a block by `GpuAllocator::alloc`, and keeps it under a name.
     ///
-    /// Faults: `NameInUse`, `BadSize`, `BadAlignment`, `NoDeviceAddress`, `NoMemory`. Else it is answered by `Granted`
-    /// or `Refused`.
+    /// Faults: `NameInUse`, `BadSize`, `BadAlignment`, `NoDeviceAddress`, `NoMemory`. Replies: `Granted` or `Refused`.
     Alloc {
-        /// The name that the block is to have.
+        /// The name for the block.
         name: u32,
 
-        /// What is asked for.
+        /// The request.
         request: Request,
     },
 
-    /// Asks for a block by `GpuAllocator::alloc_with_dedicated`, and keeps it under a name.
+    /// Allocates a block by `GpuAllocator::alloc_with_dedicated`, and keeps it under a name.
     ///
     /// Faults and replies are those of `Alloc`.
     Dedicated {
-        /// The name that the block is to have.
+        /// The name for the block.
         name: u32,
 
-        /// What is asked for.
+        /// The request.
         request: Request,
 
         /// The hint.
         dedicated: Dedicated,
     },
 
-    /// Has the device make an object, with `DEVICE_ADDRESS` exactly where the device has the feature, imports a span of
-    /// it by `GpuAllocator::import_memory`, and keeps the block under a name.
+    /// Has the device allocate an object, with `DEVICE_ADDRESS` exactly where the device has the feature. Imports a
+    /// span of it by `GpuAllocator::import_memory`, and keeps the block under a name.
     ///
     /// Faults: `NameInUse`, `BadType`, `BadSize` (of the object or of the span), `BadRange`, `BadImportEnd`,
-    /// `NoRemaining`, `NoMemory`. Else it is answered by `Granted`, or by `Refused` where the device refused the object.
-    /// Where the allocator finds no host memory the object goes back to the device, and the fault is `NoMemory`.
+    /// `NoRemaining`, `NoMemory`. Replies: `Granted`, or `Refused` where the device refused the object. Where the
+    /// allocator finds no host memory, the object is released and the fault is `NoMemory`.
     Import {
-        /// The name that the block is to have.
+        /// The name for the block.
         name: u32,
 
         /// The index of the object's memory type.
         memory_type: u32,
 
-        /// The object's size.
+        /// The object's size, in bytes.
         object_size: u64,
 
-        /// Where the span starts in the object.
+        /// Where the span starts in the object, in bytes.
         offset: u64,
 
-        /// The span's size.
+        /// The span's size, in bytes.
         size: u64,
     },
 
-    /// Gives the block of a name back. Fault: `UnknownName`. Else it is answered by `Done`.
+    /// Frees the block of a name. Fault: `UnknownName`. Reply: `Done`.
     Free {
         /// The block's name.
         name: u32,
     },
 
-    /// Maps some bytes of a block by `MemoryBlock::map`. Faults: `UnknownName`, `BadSize`, `BadRange`. Else it is
-    /// answered by `Mapped` or `MapRefused`.
+    /// Maps some bytes of a block by `MemoryBlock::map`. Faults: `UnknownName`, `BadSize`, `BadRange`. Replies:
+    /// `Mapped` or `MapRefused`.
     Map {
         /// The block's name.
         name: u32,
@@ -75,18 +74,18 @@ pub enum Command<A: Allocator = Global> {
         /// The first of the bytes, from the block's start.
         offset: u64,
 
-        /// How many they are.
+        /// How many bytes.
         size: u64,
     },
 
-    /// Ends a block's mapping by `MemoryBlock::unmap`. Fault: `UnknownName`. Else it is answered by `Unmapped`.
+    /// Unmaps a block by `MemoryBlock::unmap`. Fault: `UnknownName`. Reply: `Unmapped`.
     Unmap {
         /// The block's name.
         name: u32,
     },
 
-    /// Writes bytes to a block by `MemoryBlock::write_bytes`. Faults: `UnknownName`, `BadRange`. Else it is answered by
-    /// `Done` or `MapRefused`.
+    /// Writes bytes to a block by `MemoryBlock::write_bytes`. Faults: `UnknownName`, `BadRange`. Replies: `Done` or
+    /// `MapRefused`.
     Write {
         /// The block's name.
         name: u32,
@@ -98,8 +97,8 @@ pub enum Command<A: Allocator = Global> {
         bytes: Bytes<A>,
     },
 
-    /// Reads bytes of a block by `MemoryBlock::read_bytes`. Faults: `UnknownName`, `BadRange`, `NoMemory`. Else it is
-    /// answered by `Bytes` or `MapRefused`.
+    /// Reads bytes of a block by `MemoryBlock::read_bytes`. Faults: `UnknownName`, `BadRange`, `NoMemory`. Replies:
+    /// `Bytes` or `MapRefused`.
     Read {
         /// The block's name.
         name: u32,
@@ -107,12 +106,12 @@ pub enum Command<A: Allocator = Global> {
         /// Where the bytes are, from the block's start.
         offset: u64,
 
-        /// How many they are.
+        /// How many bytes.
         len: u64,
     },
 
-    /// Puts bytes where a block is mapped, for the host alone: nothing is flushed (on coherent memory the device sees
-    /// them too). Faults: `UnknownName`, `NotMapped`, `BadRange`. Else it is answered by `Done`.
+    /// Puts bytes in a block's mapping, for the host alone: nothing is flushed (in coherent memory the device sees them
+    /// too). Faults: `UnknownName`, `NotMapped`, `BadRange`. Reply: `Done`.
     Put {
         /// The block's name.
         name: u32,
@@ -120,12 +119,12 @@ pub enum Command<A: Allocator = Global> {
         /// Where the bytes go, from the mapping's start.
         offset: u64,
 
-        /// The bytes. No bytes at all ask nothing.
+        /// The bytes. An empty list does not reach the device.
         bytes: Bytes<A>,
     },
 
-    /// Gets bytes where a block is mapped, as the host sees them: nothing is invalidated. Faults: `UnknownName`,
-    /// `NotMapped`, `BadRange`, `NoMemory`. Else it is answered by `Bytes`.
+    /// Gets bytes from a block's mapping, as the host sees them: nothing is invalidated. Faults: `UnknownName`,
+    /// `NotMapped`, `BadRange`, `NoMemory`. Reply: `Bytes`.
     Get {
         /// The block's name.
         name: u32,
@@ -133,28 +132,26 @@ pub enum Command<A: Allocator = Global> {
         /// Where the bytes are, from the mapping's start.
         offset: u64,
 
-        /// How many they are. No bytes at all ask nothing.
+        /// How many bytes. With 0 the device is not reached.
         len: u64,
     },
 
-    /// Sets how many more objects may be held. Fault: `TooManyRemaining`. Else it is answered by `Done`.
+    /// Sets how many more objects may be held. Fault: `TooManyRemaining`. Reply: `Done`.
     SetRemaining {
         /// How many more.
         remaining: u32,
     },
 
-    /// Gives back the shared objects that are kept without a live block, by `GpuAllocator::cleanup`. It is answered by
-    /// `Done`.
+    /// Releases the shared objects that are kept without a live block, by `GpuAllocator::cleanup`. Reply: `Done`.
     Cleanup,
 
-    /// Asks for the free ranges of a memory type's shared chunks. Faults: `BadType`, `NoMemory`. Else it is answered by
-    /// `Ranges`.
+    /// Lists the free ranges of a memory type's shared chunks. Faults: `BadType`, `NoMemory`. Reply: `Ranges`.
     FreeRanges {
         /// The index of the memory type.
         memory_type: u32,
     },
 
-    /// Asks what is held. Fault: `NoMemory`. Else it is answered by `Counts`.
+    /// Counts what is held. Fault: `NoMemory`. Reply: `Counts`.
     Counts,
 }
 
@@ -167,42 +164,42 @@ pub enum Fault {
     /// The name has no live block.
     UnknownName = 2,
 
-    /// A size of 0.
+    /// The size is 0.
     BadSize = 3,
 
-    /// One more than the alignment mask is not a power of two of at most 2^63.
+    /// The alignment mask plus one is not a power of two of at most 2^63.
     BadAlignment = 4,
 
-    /// The usage `DEVICE_ADDRESS` without the device's feature.
+    /// The usage is `DEVICE_ADDRESS` and the device lacks the feature.
     NoDeviceAddress = 5,
 
-    /// A range passes the block's end, the mapping's length or the object's size.
+    /// A range ends past the block, the mapping or the object.
     BadRange = 6,
 
-    /// No such memory type.
+    /// There is no such memory type.
     BadType = 7,
 
-    /// An import with nothing remaining.
+    /// An import when no more objects may be held.
     NoRemaining = 8,
 
-    /// A number of remaining objects that with the held ones does not fit a `u32`.
+    /// The number of remaining objects plus the held ones does not fit a `u32`.
     TooManyRemaining = 9,
 
-    /// An import of non-coherent memory that ends neither on the atom nor where its object ends (the Vulkan
-    /// specification's rule on `VkMappedMemoryRange`).
+    /// An import of non-coherent memory ends neither on the atom nor at its object's end (the Vulkan specification's
+    /// rule on `VkMappedMemoryRange`).
     BadImportEnd = 10,
 
     /// The block is not mapped.
     NotMapped = 11,
 
-    /// The host's memory was refused to the session itself, or to an import or the list of free ranges.
+    /// Host memory is missing for the session itself, for an import or for the list of free ranges.
     NoMemory = 12,
 }
 
-/// What a command is answered by. What a reply carries is made with the session's allocator.
+/// The answer to a command. What a reply carries is allocated with the session's allocator.
 #[derive(Drop)]
 pub enum Reply<A: Allocator = Global> {
-    /// The block that was granted.
+    /// A block was granted.
     Granted {
         /// The index of its memory type.
         memory_type: u32,
@@ -217,13 +214,13 @@ pub enum Reply<A: Allocator = Global> {
         size: u64,
     },
 
-    /// Why no block was granted. Then nothing that is held has changed.
+    /// Why no block was granted. Nothing that is held has changed.
     Refused(AllocationError),
 
-    /// It was done.
+    /// The command was done.
     Done,
 
-    /// What is mapped of the block's object.
+    /// The mapped range of the block's object, in bytes.
     Mapped(Mapping),
 
     /// Why bytes were not mapped, written or read.
@@ -235,7 +232,7 @@ pub enum Reply<A: Allocator = Global> {
     /// The bytes that were read or got.
     Bytes(Bytes<A>),
 
-    /// The free ranges, by the name of their object, then by start.
+    /// The free ranges, sorted by the name of their object, then by start.
     Ranges(Ranges<A>),
 
     /// What is held.

@@ -1,4 +1,4 @@
-//! The conditions that a command has to meet, and the first one that it misses.
+//! The conditions of commands, and the first one that a command misses.
 
 ghost use Rattle.std.specs.Prelude.{◌≡◌, ◌+◌, nat_lt};
 ghost use Rattle.gpu_session.specs.Faults.{fault_of_import, fault_of_request};
@@ -10,8 +10,8 @@ use gpu_alloc::{GpuAllocator, Request};
 use gpu_alloc_types::MemoryObject;
 use std::alloc::Allocator;
 
-/// Why a request cannot be asked for: the first condition that it misses, of its size, its alignment and its usage. The
-/// usage `DEVICE_ADDRESS` needs the device's feature.
+/// Why a request is invalid: the first condition that it misses, of its size, its alignment and its usage. The usage
+/// `DEVICE_ADDRESS` needs the device's feature.
 pub fn request_fault(request: Request, buffer_device_address: bool) -> Option<Fault>
     ensures { result ≡ fault_of_request buffer_device_address request }
 {
@@ -27,8 +27,8 @@ pub fn request_fault(request: Request, buffer_device_address: bool) -> Option<Fa
     None
 }
 
-/// Why a range of an object of `object_size` bytes cannot be imported: the first condition that it misses. The offer has
-/// to be that of the device which the allocator serves.
+/// Why a range of an object of `object_size` bytes cannot be imported: the first condition that it misses. The offer
+/// must be that of the device that the allocator serves.
 pub fn import_fault<M: MemoryObject, A: Allocator + Copy>(
     allocator: &GpuAllocator<M, A>,
     offer: &Offer<A>,
@@ -58,7 +58,7 @@ pub fn import_fault<M: MemoryObject, A: Allocator + Copy>(
     None
 }
 
-/// Whether a range passes the end of so many bytes, also where its own end is no `u64`.
+/// Whether a range ends past `size` bytes, even where its end is not a `u64`.
 pub fn passes_end(offset: u64, len: u64, size: u64) -> bool
     ensures { result ≡ nat_lt size (offset + len) }
 {

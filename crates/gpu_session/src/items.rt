@@ -6,7 +6,7 @@ use gpu_alloc::FreeRange;
 use std::alloc::{Allocator, Global};
 use std::marker::Model;
 
-/// A list of items, of which contracts see the items alone. It is made of a vector and gives it back.
+/// A list of items. Contracts see only the items. It is made from a vector and can become one again.
 #[derive(Drop)]
 pub struct Items<T: Copy, A: Allocator = Global> {
     items: Vec<T, A>,
@@ -24,14 +24,14 @@ impl<T: Copy, A: Allocator> Model for Items<T, A> {
 }
 
 impl<T: Copy, A: Allocator> Items<T, A> {
-    /// The items that a vector lists. It takes no memory.
+    /// The items of a vector. It allocates nothing.
     pub fn from_vec(items: Vec<T, A>) -> Self
         ensures { result ≡ items.items }
     {
         Items { items }
     }
 
-    /// The vector again. It takes no memory.
+    /// The vector again. It allocates nothing.
     pub fn into_vec(self) -> Vec<T, A>
         ensures { result.items ≡ self }
     {
@@ -50,8 +50,8 @@ impl<T: Copy, A: Allocator> Items<T, A> {
 /// Bytes, in order.
 pub type Bytes<A = Global> = Items<u8, A>;
 
-/// Free ranges, by the name of their object, then by start.
+/// Free ranges, sorted by the name of their object, then by start.
 pub type Ranges<A = Global> = Items<FreeRange, A>;
 
-/// A number of bytes for each heap, in heap order: how much is held of it.
+/// A number of bytes for each heap, in heap order: how much of it is held.
 pub type Ledgers<A = Global> = Items<u128, A>;

@@ -1,4 +1,4 @@
-//! What a session keeps of what its device offers, for the conditions of commands.
+//! What a session keeps of its device's offer, for the conditions of commands.
 
 ghost use Rattle.std.specs.Prelude.{◌≡◌, ◌<◌, length, nat_lt, IfOk};
 ghost use Rattle.gpu_alloc_types.specs.Flags.{allocation_bits, property_bits};
@@ -8,7 +8,7 @@ ghost use Rattle.gpu_alloc.specs.NewChunk.{flags_of};
 use gpu_alloc::{AllocationFlags, DeviceProperties, MemoryPropertyFlags, MemoryType};
 use std::alloc::{AllocError, Allocator};
 
-/// What a session keeps of what its device offers. Whoever keeps live blocks beside an allocator may keep it too.
+/// What a session keeps of its device's offer. Other owners of live blocks and an allocator may keep it too.
 #[derive(Drop)]
 pub struct Offer<A: Allocator> {
     /// The memory types.
@@ -17,10 +17,10 @@ pub struct Offer<A: Allocator> {
     /// How many heaps there are.
     pub heaps: u32,
 
-    /// The least unit of a flush, in bytes.
+    /// The unit of a flush, in bytes.
     pub non_coherent_atom_size: u64,
 
-    /// Whether the device has the feature.
+    /// Whether the device has the feature `bufferDeviceAddress`.
     pub buffer_device_address: bool,
 
     ghost some_atom: { 0 < non_coherent_atom_size },
@@ -30,7 +30,7 @@ impl<A: Allocator> Offer<A> {
     ghost use Rattle.gpu_session.specs.Faults.{is_bad_end, fault_of_request};
     ghost use Rattle.gpu_session.specs.Offer.{IsOffer};
 
-    /// What a session has to know of these, which have to be usable. Fails only for want of memory.
+    /// What a session must know of these properties, which must be usable. The only error is want of memory.
     pub fn of(alloc: A, props: &DeviceProperties<'_>) -> Result<Self, AllocError>
         requires { IsUsable (properties_of props.now) }
         ensures { IfOk result (IsOffer (properties_of props.now)) }
@@ -50,7 +50,7 @@ impl<A: Allocator> Offer<A> {
         (memory_type as usize) < self.memory_types.len()
     }
 
-    /// The properties of a memory type, none where there is no such type.
+    /// The properties of a memory type, empty where there is no such type.
     pub fn props(&self, memory_type: u32) -> MemoryPropertyFlags
         ensures { (p : Properties) → IsOffer p self.now → property_bits result ≡ props_at p memory_type }
     {
@@ -60,15 +60,15 @@ impl<A: Allocator> Offer<A> {
         }
     }
 
-    /// The flags of what the device is asked for.
+    /// The flags of every question to the device.
     pub fn flags(&self) -> AllocationFlags
         ensures { (p : Properties) → IsOffer p self.now → allocation_bits result ≡ flags_of p }
     {
         AllocationFlags::by_feature(self.buffer_device_address)
     }
 
-    /// Whether an import of this memory type may not end there: what has to be flushed has to end on the atom or where
-    /// its object ends.
+    /// Whether an import of this memory type may not end at `end`: where the type must be flushed, it must end on the
+    /// atom or at its object's end.
     pub fn is_bad_end(&self, memory_type: u32, object_size: u64, end: u64) -> bool
         ensures { (p : Properties) → IsOffer p self.now → result ≡ is_bad_end p memory_type object_size end }
     {

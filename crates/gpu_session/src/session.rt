@@ -25,17 +25,17 @@ use std::alloc::{AllocError, Allocator, Global};
 use std::hash::{BuildHasherDefault, FoldHasher};
 use std::marker::Model;
 
-/// Blocks by name. Its hashes go by a fixed seed, so constant time is not promised for names that somebody picks.
+/// Blocks by name. The hash has a fixed seed, so constant time is not promised against names chosen by an adversary.
 type Blocks<M, A> = IndexMap<u32, MemoryBlock<M>, BuildHasherDefault<FoldHasher>, A>;
 
-/// A session could not be opened for want of host memory.
+/// Host memory for a session is missing.
 #[derive(Drop)]
 pub struct SessionOpenError<D> {
     /// The device, as it was given.
     pub device: D,
 }
 
-/// An allocator with its device, and live blocks by name. It cannot be let go: [`finish`](Session::finish) ends it.
+/// An allocator with its device, and live blocks by name. It cannot be dropped: [`finish`](Session::finish) ends it.
 pub struct Session<M: MemoryObject, D: MemoryDevice<M>, A: Allocator + Copy = Global> {
     alloc: A,
     allocator: GpuAllocator<M, A>,
@@ -64,11 +64,11 @@ impl<M: MemoryObject, D: MemoryDevice<M>, A: Allocator + Copy> Model for Session
 }
 
 impl<M: MemoryObject, D: MemoryDevice<M>, A: Allocator + Copy> Session<M, D, A> {
-    /// A session over a device, with nothing held. It is sound, and (as no block is live) each live block is a whole
+    /// A session over a device, with nothing held. It is sound, and (since no block is live) each live block is a whole
     /// object.
     ///
-    /// The properties have to be usable (`DeviceProperties::is_usable`) and those of the device. Want of host memory
-    /// gives the device back as it was.
+    /// The properties must be usable (`DeviceProperties::is_usable`) and the device's own. The only error is want of
+    /// host memory: the device comes back unchanged.
     pub fn new(
         alloc: A,
         config: Config,
@@ -89,8 +89,8 @@ impl<M: MemoryObject, D: MemoryDevice<M>, A: Allocator + Copy> Session<M, D, A> 
         Session::with_sharing(alloc, config, props, device, Sharing::Buddy)
     }
 
-    /// As [`new`](Session::new), with the choice how requests that are not `TRANSIENT` share objects: in buddy chunks, as
-    /// `new` has it, or in fit chunks. Each run leaves it as it is.
+    /// As [`new`](Session::new), with a choice how requests that are not `TRANSIENT` share objects: in buddy chunks, as
+    /// with `new`, or in fit chunks. Runs never change the choice.
     pub fn with_sharing(
         alloc: A,
         config: Config,
@@ -128,17 +128,20 @@ impl<M: MemoryObject, D: MemoryDevice<M>, A: Allocator + Copy> Session<M, D, A> 
         }
     }
 
-    /// Answers the commands in order, one reply for each. The replies and the state after them are a run, in which
-    /// every state between two commands is sound: live blocks are memory of their own. Each step grants as asked,
-    /// changes nothing where an allocation is refused or a condition missed, leaves each block that it does not name
-    /// with all its bytes, and leaves how many objects are held or may still be, but where it is told otherwise. After
-    /// each number of commands each byte of a live block that a `Write` among them gave a value has one of those that
-    /// it may have by what was written, for the host and for the device. Each `Read` among them that is answered by
-    /// bytes tells such a value for each byte that has some, and that of the latest write where its block stayed and no
-    /// write or put went there since.
+    /// Answers the commands in order, with one reply each. The replies and the state after them are a run, in which
+    /// every state between two commands is sound: live blocks share no memory.
     ///
-    /// Places for all replies are taken first: an error means that there was no memory for them, and nothing ran. What
-    /// a run keeps, [`laws`](crate::laws) tell.
+    /// Each step grants as asked, and changes nothing where an allocation is refused or a condition is missed. It
+    /// leaves each block that it does not name with all its bytes. It changes how many objects are held or may still be
+    /// only where the command sets it.
+    ///
+    /// After any number of commands, each byte of a live block that a `Write` among them has set has one of the values
+    /// that those commands allow, for the host and for the device. Each `Read` that is answered with bytes gives such a
+    /// value for each byte that has any. It gives the latest write's where the block stayed and no write or put has
+    /// gone there since.
+    ///
+    /// Places for all replies are taken first: an error means that there was no memory for them, and nothing ran.
+    /// [`laws`](crate::laws) say what a run keeps.
     pub fn run(&mut self, commands: &[Command<A>]) -> Result<Vec<Reply<A>, A>, AllocError>
         ensures run { IfOk result (λ replies.
             Run (SoundStep D.step D.properties D.objects) self.old commands.now replies.items self.new) }
@@ -159,10 +162,10 @@ impl<M: MemoryObject, D: MemoryDevice<M>, A: Allocator + Copy> Session<M, D, A> 
         Ok(replies)
     }
 
-    /// Returns every live block, cleans up, closes the allocator and gives the device back. It takes no memory and
+    /// Returns every live block, cleans up, closes the allocator and returns the device. It allocates nothing and
     /// cannot fail.
     pub fn finish(self) -> D
-        // Each held object goes back once, and nothing else is asked.
+        // Each held object is released once, and nothing else is asked.
         ensures returned { (es : List Event) × Chain D.step self.device es result × ReturnsAll self.books es }
         ensures gone { (object : ℕ) → IsSome (map.get ((self.books).allocator).held object)
             → D.objects result object ≡ None }
@@ -186,7 +189,7 @@ impl<M: MemoryObject, D: MemoryDevice<M>, A: Allocator + Copy> Session<M, D, A> 
         device
     }
 
-    /// Nothing is done: its contract tells what every session keeps.
+    /// A lemma about every session: does nothing at run time.
     fn keeps_sound(&self)
         ensures { IsSound (D.properties self.now.device) (D.objects self.now.device) self.now.books }
     {

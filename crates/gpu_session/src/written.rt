@@ -1,4 +1,4 @@
-//! What a byte of a block may hold, by the commands and their replies alone.
+//! What a byte of a block may hold, from the commands and their replies alone.
 
 ghost use Rattle.std.specs.Prelude.{◌≡◌, IfOk};
 ghost use Rattle.gpu_session.specs.Written.{given, is_about, maybe, own_after, surely, unseen, written};
@@ -8,8 +8,8 @@ use gpu_alloc::MapError;
 use std::alloc::{AllocError, Allocator};
 use std::marker::Model;
 
-/// What is known of one byte of a block: where the latest mapping of the block starts in it, and the values that the
-/// byte may have, the latest first.
+/// What is known of one byte of a block: where the block's latest mapping starts in it, and the values that the byte
+/// may have, the latest first.
 #[derive(Drop)]
 struct Known<A: Allocator> {
     mapped_from: u64,
@@ -35,7 +35,7 @@ impl<A: Allocator> Known<A> {
         }
     }
 
-    /// Nothing is known any more.
+    /// Forgets everything.
     fn forget(&mut self)
         ensures { self.new ≡ unseen }
     {
@@ -43,7 +43,7 @@ impl<A: Allocator> Known<A> {
         self.values.clear();
     }
 
-    /// If a value is given, the byte has it from now on.
+    /// If a value is given, the byte has that value from now on.
     fn surely(&mut self, value: Option<u8>) -> Result<(), AllocError>
         ensures { IfOk result (λ _. self.new ≡ surely value self.old) }
     {
@@ -54,7 +54,7 @@ impl<A: Allocator> Known<A> {
         Ok(())
     }
 
-    /// If a value is given, the byte may have it too, where it has some.
+    /// If a value is given, the byte may have that one too, if it has any.
     fn maybe(&mut self, value: Option<u8>) -> Result<(), AllocError>
         ensures { IfOk result (λ _. self.new ≡ maybe value self.old) }
     {
@@ -66,7 +66,7 @@ impl<A: Allocator> Known<A> {
         Ok(())
     }
 
-    /// After a command that names the block.
+    /// Learns from a command that names the block.
     fn learn(&mut self, byte: u64, command: &Command<A>, reply: &Reply<A>) -> Result<(), AllocError>
         ensures { IfOk result (λ _. self.new ≡ own_after byte command.now reply.now self.old) }
     {
@@ -98,7 +98,7 @@ impl<A: Allocator> Known<A> {
     }
 }
 
-/// The value that bytes give a byte, of which the first goes to an offset, if they cover it.
+/// The value that `bytes`, of which the first goes to `offset`, give a byte, if they cover it.
 fn given(offset: u128, bytes: &[u8], byte: u64) -> Option<u8>
     ensures { result ≡ given offset bytes.now byte }
 {
@@ -128,17 +128,17 @@ fn is_about<A: Allocator>(name: u32, command: &Command<A>) -> bool
     }
 }
 
-/// The values that a byte of the block of a name may have after these commands with these replies, the latest first (a
-/// value may come twice); none where no write that was done has covered it since the block was granted.
+/// The values that a byte of a named block may have after these commands with these replies, the latest first (a value
+/// may come twice). The list is empty where no completed write has covered the byte since the block was granted.
 ///
-/// A write that was done gives its bytes. A put may give its bytes to the host alone, and a write that was refused for
-/// want of memory may have given them to either side, so these come beside what was there. Where the lists are those of
-/// all runs of a session from some state on and there are values, the host's byte and the device's are each one of them
-/// ([`laws::runs_hold_what_was_written`](crate::laws::runs_hold_what_was_written)). There is one alone where a
-/// write was done and nothing has gone there since ([`laws::latest_is_only`](crate::laws::latest_is_only)).
+/// A completed write gives its bytes. A put may give its bytes to the host only, and a write that was refused for want
+/// of memory may have given them to either side. So their values are added to those before. If the lists are those of
+/// all runs of a session from some state on and there are values, the host's byte is one of them and so is the device's
+/// ([`laws::runs_hold_what_was_written`](crate::laws::runs_hold_what_was_written)). There is only one value where a
+/// write was completed and nothing has gone there since ([`laws::latest_is_only`](crate::laws::latest_is_only)).
 ///
-/// `byte` counts from the block's start. Where one list is longer its rest is not looked at. An error means that there
-/// was no memory for the values.
+/// `byte` counts from the block's start. Where one list is longer, its rest is ignored. The only error is want of
+/// memory for the values.
 pub fn values_of<A: Allocator>(
     alloc: A,
     commands: &[Command<A>],

@@ -1,4 +1,4 @@
--- What bytes that were copied or written are, index by index.
+-- Copied and written bytes, index by index.
 use Rattle.std.specs.Prelude.{◌≡◌, ◌⊎◌, ℕ, ◌+◌, ◌<◌, ◌≤◌, List, length, take, drop}
 use Rattle.std.specs.Prelude.{slice_get, Some, refl}
 use Rattle.std.proofs.Common.{◌∙◌, ap, sym, arith, inl, inr, get_or}

@@ -8,10 +8,10 @@ abbrev pub size_of_part : Part → ℕ → ℕ
 size_of_part Whole size = size
 size_of_part FirstHalf size = size / 2
 
--- `to`, with the bytes of a range taken from `from`
+-- `to`, with a range of its bytes taken from `from`
 abbrev pub with_range : (offset size : ℕ) → (from to : List ℕ) → List ℕ
 with_range offset size from to = take offset to ++ take size (drop offset from) ++ drop (offset + size) to
 
--- `to`, with bytes written over it from an offset on
+-- `to`, with `bytes` written over it from an offset on
 abbrev pub written : ℕ → (bytes to : List ℕ) → List ℕ
 written offset bytes to = take offset to ++ bytes ++ drop (offset + length bytes) to

@@ -1,4 +1,4 @@
--- How an object and a range are stored.
+-- How contracts see an object and a range.
 use Rattle.std.specs.Prelude.{ℕ, Option, List, refl}
 use Rattle.std.specs.Coded.{Coded, code_by, coded×, coded_ℕ, coded_option, coded_list}
 use Rattle.gpu_alloc_types.specs.Device.{Object, Range}

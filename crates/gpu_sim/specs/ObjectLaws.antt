@@ -1,4 +1,4 @@
--- What holds of the objects of the simulated device, and how they are shown.
+-- What holds of the simulated device's objects, and how they are shown.
 use Rattle.std.specs.Prelude.{◌≡◌, ℕ, ◌+◌, ◌≤◌, ◌==◌, ◌||◌, not, Bool, true, false, cond, List, [], length, replicate}
 use Rattle.std.specs.Prelude.{Option, Some, None, IfSome, IsTrue, nat_le, refl}
 use Rattle.std.specs.Bool.{Decides}
@@ -52,7 +52,7 @@ decides_well_formed p o =
     (bytes_eq-Decides o.host_bytes o.device_bytes)))
     (range_within o.mapped o.size))
 
--- What the calls make of an object that is whole is whole.
+-- Calls keep whole objects whole.
 
 length-bytes : (seen : Bool) (size byte : ℕ) → length (cond seen (replicate size byte) []) ≡ cond seen size 0
 length-bytes true size byte = length-replicate size byte
@@ -173,7 +173,7 @@ some_where : (P : Object → Type 0) (b : Bool) (x y : Option Object) → IfSome
 some_where P true x y is is' = is
 some_where P false x y is is' = is'
 
--- what holds of an object that may be there, of the one that is
+-- what holds of an object that may be there holds of the one that is
 some_is : (P : Object → Type 0) (found : Option Object) (o : Object) → IfSome found P → found ≡ Some o → P o
 some_is P None o is e = absurd (cc)
 some_is P (Some x) o is e = let same : x ≡ o = cc in subst P same is

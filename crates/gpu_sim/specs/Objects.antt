@@ -1,4 +1,4 @@
--- The objects of the simulated device, and what the calls make of their bytes.
+-- The objects of the simulated device, and how calls change their bytes.
 use Rattle.std.specs.Prelude.{◌≡◌, ℕ, ◌+◌, ◌≤◌, ◌==◌, ◌&&◌, ◌||◌, not, Bool, true, cond, List, [], ◌∷◌, length}
 use Rattle.std.specs.Prelude.{replicate, Option, Some, None, IfSome, nat_eq, nat_le}
 use Rattle.std.specs.Cmp.Lexicographic.{pointwise}
@@ -16,12 +16,12 @@ use Rattle.gpu_sim.specs.declared.sim.object.MappedRange.{MappedRange}
 abbrev pub offset_and_size : MappedRange → ℕ × ℕ
 offset_and_size range = (range.offset, range.size)
 
--- as many bytes as the object is long where the host sees them, and none elsewhere
+-- as many bytes as the object is long if it is host-visible, and none otherwise
 abbrev pub bytes_of : Properties → (size memory_type byte : ℕ) → List ℕ
 bytes_of p size t byte = cond (is_host_visible p t) (replicate size byte) []
 
--- A new object. The host's bytes begin with 00 where they are coherent and else with ee, so that a missing flush or
--- invalidate shows. The device's begin with 00.
+-- A new object. The host's bytes start as 00 in coherent memory and as ee in other memory, so that a missing flush or
+-- invalidate shows. The device's start as 00.
 abbrev pub new_object : Properties → (size memory_type : ℕ) → Object
 new_object p size t = record {
   memory_type = t;
@@ -40,14 +40,14 @@ abbrev pub copied : Direction → (offset size : ℕ) → Object → Object
 copied ToDevice offset size o = record o { device_bytes = with_range offset size o.host_bytes o.device_bytes }
 copied ToHost offset size o = record o { host_bytes = with_range offset size o.device_bytes o.host_bytes }
 
--- the object, once the host wrote bytes: where the memory is coherent the device sees them at once
+-- the object, once the host wrote bytes: in coherent memory the device sees them at once
 abbrev pub put_by_host : Properties → ℕ → List ℕ → Object → Object
 put_by_host p offset bytes o = record o {
   host_bytes = written offset bytes o.host_bytes;
   device_bytes = cond (is_coherent p o.memory_type) (written offset bytes o.device_bytes) o.device_bytes;
 }
 
--- the object, once the device wrote bytes: where the memory is coherent the host sees them at once
+-- the object, once the device wrote bytes: in coherent memory the host sees them at once
 abbrev pub put_by_device : Properties → ℕ → List ℕ → Object → Object
 put_by_device p offset bytes o = record o {
   host_bytes = cond (is_coherent p o.memory_type) (written offset bytes o.host_bytes) o.host_bytes;
@@ -64,13 +64,13 @@ abbrev pub HasBytes : Option (ℕ × ℕ) → Object → Type 0
 HasBytes None o = Unit {0}
 HasBytes (Some r) o = HasRange r.0 r.1 o
 
--- the object of that name, of which this was known, is changed so, and no other
+-- the object of that name, which has this property, changes so, and no other
 abbrev pub ChangesAt : (Object → Type 0) → (Object → Object) → FinMap nat_cmp Object → ℕ → FinMap nat_cmp Object
     → Type 0
 ChangesAt P change old name new =
     (o : Object) × (map.get old name ≡ Some o) × P o × (new ≡ map.insert old name (change o))
 
--- a part of each range is copied in turn, in the objects that the one before it left
+-- a part of each range is copied in turn, in the objects as the one before it left them
 abbrev pub CopiesEach : Direction → Part → List Range → FinMap nat_cmp Object → FinMap nat_cmp Object → Type 0
 CopiesEach way part [] old new = new ≡ old
 CopiesEach way part (r ∷ rs) old new =
@@ -80,7 +80,7 @@ CopiesEach way part (r ∷ rs) old new =
 
 -- What is known of each object that is held.
 
--- it has the bytes that its type and size ask for, and what is mapped of it has bytes
+-- it has the bytes that its type and size call for, and its mapped range has bytes
 pub record IsWhole (p : Properties) (o : Object) : Type 0 where
   pub well_formed : IsWellFormed p o
   pub mapped_bytes : IfSome o.mapped (λ r. r.0 + r.1 ≤ length o.host_bytes)
@@ -88,7 +88,7 @@ pub record IsWhole (p : Properties) (o : Object) : Type 0 where
 abbrev pub AreWhole : Properties → FinMap nat_cmp Object → Type 0
 AreWhole p objects = (name : ℕ) → IfSome (map.get objects name) (IsWhole p)
 
--- As every device shows them.
+-- In the form in which every device shows its objects.
 
 abbrev pub ends_within : Option (ℕ × ℕ) → ℕ → Bool
 ends_within None size = true
@@ -106,7 +106,7 @@ abbrev pub shown_if : (Object → Bool) → Option Object → Option Object
 shown_if test None = None
 shown_if test (Some o) = cond (test o) (Some o) None
 
--- The objects by name. Each that a `Sim` holds is whole. (Devices show well-formed objects alone, so of a state that no
--- `Sim` is in others aren't shown.)
+-- The objects by name. Each that a `Sim` holds is whole. (Devices show only well-formed objects, so a state that no
+-- `Sim` has shows no others.)
 abbrev pub shown : Properties → FinMap nat_cmp Object → ℕ → Option Object
 shown p objects name = shown_if (is_well_formed p) (map.get objects name)

@@ -20,26 +20,26 @@ at all Map = all.map
 at all Flush = all.flush
 at all Invalidate = all.invalidate
 
--- all, with another one for a kind of question
+-- all, with a new value for one kind of question
 abbrev pub with_at : {T : Type 0} → ByKind T → Question → T → ByKind T
 with_at all Allocate one = record all { allocate = one }
 with_at all Map one = record all { map = one }
 with_at all Flush one = record all { flush = one }
 with_at all Invalidate one = record all { invalidate = one }
 
--- the cause may be planned for that kind of question: a failed mapping is for maps alone
+-- the cause may be planned for that kind of question: a failed mapping only for maps
 abbrev pub CanRefuse : Cause → Question → Type 0
 CanRefuse Failed Map = Unit {0}
 CanRefuse Failed kind = ⊥
 CanRefuse cause kind = Unit {0}
 
--- the answer to a question for memory that is refused
+-- the answer to a refused question for memory
 abbrev pub refusal_of : Cause → OutOfMemory
 refusal_of Device = OutOfDeviceMemory
 refusal_of Host = OutOfHostMemory
 refusal_of Failed = OutOfDeviceMemory
 
--- the answer to a question to map that is refused
+-- the answer to a refused question to map
 abbrev pub map_refusal_of : Cause → DeviceMapError
 map_refusal_of Device = DeviceMap.OutOfDeviceMemory
 map_refusal_of Host = DeviceMap.OutOfHostMemory

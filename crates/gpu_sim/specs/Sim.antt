@@ -24,9 +24,9 @@ use Rattle.gpu_sim.specs.declared.sim.question.Question.{Question}
 use Rattle.gpu_sim.specs.declared.sim.question.Question.TheVariants.{Allocate, Map, Flush, Invalidate}
 use Rattle.gpu_sim.specs.Question.{at, with_at, refusal_of, map_refusal_of}
 
--- What it offers, the planned refusals by the number of the question, how often each kind was asked, the size, type and
--- flags of the latest question to allocate, the latest range that was asked for in a map, a flush or an invalidate, the
--- latest name that was used, and the objects by name
+-- What it offers, the planned refusals by the number of the question, and how often each kind was asked. The size, type
+-- and flags of the latest question to allocate, and the latest range of a map, a flush or an invalidate. The latest
+-- name that was used, and the objects by name.
 pub record SimState : Type 0 where
   pub properties : Properties
   pub plans : ByKind (FinMap nat_cmp Cause)
@@ -51,7 +51,7 @@ pub record IsSound (last : ℕ) (p : Properties) (objects : FinMap nat_cmp Objec
   pub named : IsNamedUpTo last objects
   pub whole : AreWhole p objects
 
--- a device that was asked nothing and told nothing
+-- a device that was asked nothing and has nothing planned
 abbrev pub fresh : Properties → SimState
 fresh p = record {
   properties = p;
@@ -83,7 +83,7 @@ asked_to_allocate s size memory_type flags =
 abbrev pub asked_to_map : SimState → Range → SimState
 asked_to_map s range = record s { asked = with_at s.asked Map (counted s.asked.map); last_range = Some range }
 
--- the last of some ranges, or where there is none the one that was told before
+-- the last of some ranges, or the earlier one where there is none
 abbrev pub latest : Option Range → List Range → Option Range
 latest told [] = told
 latest told (r ∷ rs) = latest (Some r) rs
@@ -99,33 +99,33 @@ pub record IsMade (old : SimState) (name : ℕ) (object : Object) (new : SimStat
   pub free : map.get old.objects name ≡ None
   pub held : new ≡ record old { last_name = name; objects = map.insert old.objects name object }
 
--- a refusal for the planned cause, or where nothing was planned for want of host memory, to which spent names count
+-- a refusal for the planned cause, or, where nothing is planned, for want of host memory or of names
 abbrev pub IsRefusal : Option Cause → OutOfMemory → Type 0
 IsRefusal (Some cause) error = error ≡ refusal_of cause
 IsRefusal None error = error ≡ OutOfHostMemory
 
--- the answer to a question to allocate that was counted
+-- the answer to a counted question to allocate
 abbrev pub Answers : SimState → (size memory_type : ℕ) → Result ℕ OutOfMemory → SimState → Type 0
 Answers old size t (Ok name) new =
     (cause_now old Allocate ≡ None) × IsMade old name (new_object old.properties size t) new
 Answers old size t (Err error) new = IsRefusal (cause_now old Allocate) error × (new ≡ old)
 
--- the objects are changed so, and nothing else
+-- only the objects change, and they change so
 abbrev pub WithObjects : SimState → (FinMap nat_cmp Object → Type 0) → SimState → Type 0
 WithObjects old P new = (objects : FinMap nat_cmp Object) × P objects × (new ≡ record old { objects = objects })
 
--- the range of the object of that name is this one, or none
+-- the mapped range of the object of that name is this one, or none
 abbrev pub Maps : SimState → ℕ → Option (ℕ × ℕ) → SimState → Type 0
 Maps old name range new = WithObjects old (ChangesAt (HasBytes range) (mapped_as range) old.objects name) new
 
--- the answer to a question to map that was counted: a refusal exactly where one was planned
+-- the answer to a counted question to map: a refusal exactly where one was planned
 abbrev pub MapAnswers : SimState → Range → Result (Unit {0}) DeviceMapError → SimState → Type 0
 MapAnswers old range (Ok _) new =
     (cause_now old Map ≡ None) × Maps old range.object (Some (range.offset, range.size)) new
 MapAnswers old range (Err error) new = (option_map map_refusal_of (cause_now old Map) ≡ Some error) × (new ≡ old)
 
--- The answer to a question to flush or to invalidate that was counted: a refusal exactly where one was planned, after
--- the first half of each range was copied. Where it is granted all of each is.
+-- The answer to a counted question to flush or to invalidate: a refusal exactly where one was planned, after the first
+-- half of each range was copied. A grant copies all of each range.
 abbrev pub CopyAnswers : Direction → Question → SimState → List Range → Result (Unit {0}) OutOfMemory → SimState
     → Type 0
 CopyAnswers way kind old ranges (Ok _) new =
@@ -140,7 +140,7 @@ Puts old name offset bytes new =
     WithObjects old
     (ChangesAt (HasRange offset (length bytes)) (put_by_host old.properties offset bytes) old.objects name) new
 
--- What a call does. What it does not name stays.
+-- What a call does. What it does not name is unchanged.
 abbrev pub Does : SimState → Event → SimState → Type 0
 Does old (Allocated size t flags answer) new = Answers (asked_to_allocate old size t flags) size t answer new
 Does old (Deallocated name) new = new ≡ record old { objects = map.remove old.objects name }
@@ -162,7 +162,7 @@ SimStep old e new = IsSound old.last_name old.properties old.objects × Does old
 abbrev pub objects_of : SimState → ℕ → Option Object
 objects_of s = shown s.properties s.objects
 
--- bytes of an object that a command of the graphics device may write: the host sees the object, and they lie inside it
+-- bytes of an object that a command of the graphics device may write: inside it, and host-visible
 pub record IsWritable (p : Properties) (offset size : ℕ) (o : Object) : Type 0 where
   pub visible : IsTrue (is_host_visible p o.memory_type)
   pub inside : offset + size ≤ o.size

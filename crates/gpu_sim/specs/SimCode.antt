@@ -1,4 +1,4 @@
--- How a state of the simulated device is stored.
+-- How contracts see a state of the simulated device.
 use Rattle.std.specs.Prelude.{ℕ, Option, refl}
 use Rattle.std.specs.Coded.{Coded, code_by, coded×, coded_ℕ, coded_option}
 use Rattle.std.specs.FinMap as map

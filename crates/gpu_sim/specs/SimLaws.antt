@@ -25,7 +25,7 @@ use Rattle.gpu_sim.specs.declared.sim.bytes.Part.{Part}
 use Rattle.gpu_sim.specs.declared.sim.bytes.Part.TheVariants.{Whole, FirstHalf}
 
 module _ (p : Properties) where
-  -- A change of one object, as every device shows it.
+  -- A change of one object, in the form in which every device shows it.
   module _ (Q : Object → Type 0) (f : Object → Object) (keeps : (o : Object) → IsWhole p o → Q o → IsWhole p (f o))
       (old : FinMap nat_cmp Object) (name : ℕ) (new : FinMap nat_cmp Object) (c : ChangesAt Q f old name new)
       (whole : AreWhole p old) where
@@ -72,7 +72,7 @@ module _ (p : Properties) where
           (change_keeps_whole (HasRange r.offset r.size) _ (keeps_copied r) old r.object c.0 c.1 whole),
     )
 
-  -- What a copy, and what a write does, as every device says it.
+  -- A copy and a write, in the form in which every device describes them.
   module _ (r : Range) (o : Object) (w : IsWhole p o) where
     flushed : (x : Unit {0}) → IsFlushed {E = OutOfMemory} (Ok x) r o (copied ToDevice r.offset r.size o)
     flushed x = (_, is_copied r.offset r.size o.host_bytes o.device_bytes (alike p o w), refl)
@@ -189,7 +189,7 @@ objects_are_well_formed s name =
     passes_well_formed s.properties (objects_of s name)
     (shown_passes (is_well_formed s.properties) (map.get s.objects name))
 
--- what a command writes, as every device shows it
+-- what a command writes, in the form in which every device shows it
 pub shown_command : (old : SimState) (object offset : ℕ) (bytes : List ℕ) (new : SimState)
     → CommandWrites old object offset bytes new
     → Changes (λ o o'. o' ≡ put_by_device old.properties offset bytes o) (objects_of old) object (objects_of new)

@@ -1,5 +1,5 @@
-//! A device in the host's memory, to test against: it refuses what it was told to refuse, and grants all else that
-//! there is memory and a name for. And host memory that runs out where a test says so.
+//! A device in host memory, for tests: it refuses what a test plans, and grants everything else for which there is
+//! memory and a name. And host memory that runs out where a test says so.
 #![tactic(auto)]
 
 mod scarce;

@@ -4,14 +4,14 @@ use bumpalo::Bump;
 use std::alloc::{AllocError, Global};
 use std::cell::Cell;
 
-/// What takes the bytes of a [`ScarceMemory`]: it is passed where an allocator is asked for.
+/// An allocator over a [`ScarceMemory`], to be passed wherever one is asked for.
 pub type HostMemory<'a> = &'a Bump;
 
-/// Host memory that runs out where a test says so, and is as ample as `Global` elsewhere.
+/// Host memory that runs out where a test says so, and is otherwise as ample as `Global`.
 ///
-/// What was given back is never used again, so each request leaves less. So the requests of a run can be refused in
-/// turn, each time the run is made: by [`leave`](ScarceMemory::leave) in rooms of 0, 8, 16 bytes and so on, the first
-/// request first, or in rooms that [`less_room`](ScarceMemory::less_room) tells, the last one first.
+/// Freed memory is never used again, so each request leaves less. So a test can refuse the requests of a run in turn,
+/// by making the run once for each. With [`leave`](ScarceMemory::leave) and rooms of 0, 8, 16 bytes and so on the first
+/// request is refused first. With the rooms that [`less_room`](ScarceMemory::less_room) returns, the last is.
 #[derive(Drop)]
 pub struct ScarceMemory {
     arena: Bump,
@@ -25,18 +25,18 @@ impl ScarceMemory {
             arena: Bump::new(alloc),
             unused: Cell::new(0),
         };
-        // An arena of one chunk uses its last block again, one of two does not.
+        // An arena of one chunk reuses its last block, one of two does not.
         memory.waste(1)?;
         memory.waste(memory.left().saturating_add(1))?;
         Ok(memory)
     }
 
-    /// What takes its bytes.
+    /// The allocator that takes its bytes.
     pub fn host(&self) -> HostMemory<'_> {
         &self.arena
     }
 
-    /// From now on so many bytes are left. Fails where `Global` has not as many, and then it is ample.
+    /// From now on `room` bytes are left. Fails where `Global` has fewer, and then the memory is ample.
     pub fn leave(&self, room: usize) -> Result<(), AllocError> {
         self.lift();
         // Each chunk is at least twice as large as the one before.
@@ -60,8 +60,8 @@ impl ScarceMemory {
     }
 
     /// The room for the next run of a series, after one in `room` bytes in which [`lift`](ScarceMemory::lift) was called
-    /// at the first refusal, or at the end. It is `room` without the bytes that were not used by then, or without 8
-    /// where fewer were left. There is none below 0.
+    /// at the first refusal, or at the end. It is `room` less the bytes that were unused by then, in whole 8s, and at
+    /// least 8 less, but never below 0. `None` after a run in 0 bytes.
     ///
     /// A series that begins with more bytes than the run takes comes to each of its requests, the last one first.
     pub fn less_room(&self, room: usize) -> Option<usize> {
@@ -77,7 +77,7 @@ impl ScarceMemory {
         self.arena.chunk_capacity()
     }
 
-    /// Takes so many bytes for nothing.
+    /// Wastes `count` bytes.
     fn waste(&self, count: usize) -> Result<(), AllocError> {
         let _wasted: Vec<u8, HostMemory<'_>> = Vec::with_capacity(self.host(), count)?;
         Ok(())

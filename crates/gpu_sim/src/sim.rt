@@ -30,10 +30,9 @@ pub use question::{Cause, Question};
 use std::alloc::{AllocError, Allocator, Global};
 use std::marker::Model;
 
-/// A device in the host's memory, which refuses what it was told to refuse and grants all else that there is memory
-/// for.
+/// A device in host memory, which refuses what a test plans and grants everything else for which there is memory.
 ///
-/// Its objects are named 1, 2, 3 and so on, and a name is never used again. Sizes are never compared with heaps.
+/// Its objects are named 1, 2, 3 and so on, and no name is used again. Sizes are never compared with heaps.
 #[derive(Drop)]
 pub struct Sim<A: Allocator + Copy = Global> {
     alloc: A,
@@ -69,9 +68,9 @@ impl<A: Allocator + Copy> Model for Sim<A> {
 }
 
 impl<A: Allocator + Copy> Sim<A> {
-    /// A device that offers what `props` says, holds no object, was asked nothing and has no refusal planned.
+    /// A device that offers what `props` says. It holds no object, was asked nothing and has no refusal planned.
     ///
-    /// Takes memory for a copy of `props`, and fails only for want of it.
+    /// It takes memory for a copy of `props`, and fails only for want of it.
     pub fn new(alloc: A, props: DeviceProperties<'_>) -> Result<Sim<A>, AllocError>
         ensures { IfOk result (λ sim. sim ≡ fresh (properties_of props.entry)) }
     {
@@ -97,11 +96,11 @@ impl<A: Allocator + Copy> Sim<A> {
         })
     }
 
-    /// Plans that the `nth` question of a kind, counted from 1 since [`new`](Sim::new), is refused with the cause. Of
+    /// Plans that the `nth` question of a kind, counted from 1 since [`new`](Sim::new), is refused with this cause. Of
     /// two plans for one question the first counts. Question 0 never comes, so a plan for it refuses none. The count
-    /// stays at `u64::MAX`: this is the number of each question from there on, and a plan for it refuses them all.
+    /// stops at `u64::MAX`: all later questions have this number, and a plan for it refuses them all.
     ///
-    /// `Cause::Failed` is for `Question::Map` alone. Fails only for want of memory, and all is as before then.
+    /// `Cause::Failed` is only for `Question::Map`. It fails only for want of memory, and then nothing changes.
     pub fn refuse(&mut self, kind: Question, nth: u64, cause: Cause) -> Result<(), AllocError>
         requires { CanRefuse cause kind }
         ensures ok { OnOk result (self.new ≡ record self.old { plans = with_plan self.old.plans kind nth cause }) }
@@ -117,7 +116,7 @@ impl<A: Allocator + Copy> Sim<A> {
         self.objects.len()
     }
 
-    /// How often a kind of question was asked since [`new`](Sim::new), refused or not. The count stays at `u64::MAX`.
+    /// How often a kind of question was asked since [`new`](Sim::new), refused or not. The count stops at `u64::MAX`.
     pub fn asked(&self, kind: Question) -> u64
         ensures { result ≡ at self.now.asked kind }
     {
@@ -131,10 +130,10 @@ impl<A: Allocator + Copy> Sim<A> {
         self.last_allocation
     }
 
-    /// The object's name, the offset and the size in bytes of the latest range that was asked for in a map, a flush or
-    /// an invalidate, refused or not.
+    /// The object's name, the offset and the size in bytes of the latest range of a map, a flush or an invalidate,
+    /// refused or not.
     ///
-    /// Of a question with several ranges it is the last of them. One with none leaves it as it was.
+    /// Of a question with several ranges it is the last. A question without ranges does not change it.
     pub fn last_range(&self) -> Option<(u64, u64, u64)>
         ensures { option_map as_range result ≡ self.now.last_range }
     {
@@ -142,10 +141,11 @@ impl<A: Allocator + Copy> Sim<A> {
     }
 
     /// Writes bytes into the object of that name from `offset` on, in bytes, as a command of the graphics device does:
-    /// they are the device's, and where the memory is coherent the host's too. It is no question, and takes no memory.
+    /// the device sees them, and in coherent memory the host does too. It does not count as a question, and allocates
+    /// nothing.
     ///
-    /// Answers `false`, and all is as before, where no object of that name is held, where the host does not see its
-    /// memory, or where the bytes pass its end. (Bytes that the host does not see are kept nowhere.)
+    /// Returns `false` and changes nothing where no object of that name is held, where its memory is not host-visible,
+    /// or where the bytes end past it. (Bytes in memory that is not host-visible are not kept.)
     pub fn gpu_write(&mut self, object: u64, offset: u64, data: &[u8]) -> bool
         ensures answer { IsTrue result
             ↔ HeldWith (objects_of self.old) object (IsWritable self.old.properties offset (length «data».now)) }
@@ -159,7 +159,7 @@ impl<A: Allocator + Copy> Sim<A> {
         true
     }
 
-    // Whether a command may write so many bytes of the object of that name.
+    // Whether a command may write `size` bytes of the object of that name.
     fn can_write(&self, object: u64, offset: u64, size: u64) -> bool
         ensures { IsTrue result ↔ HeldWith (objects_of self.now) object (IsWritable self.now.properties offset size) }
     {
@@ -173,7 +173,7 @@ impl<A: Allocator + Copy> Sim<A> {
         offset <= length && size <= length - offset
     }
 
-    // Makes an object under the next name. Where names are spent or no memory is found, all is as before.
+    // Makes an object under the next name. Where names are used up or memory is missing, nothing changes.
     fn make_object(&mut self, size: u64, memory_type: u32) -> Result<SimMemory<A>, AllocError>
         ensures ok { IfOk result
             (λ name. IsMade self.old name (new_object self.old.properties size memory_type) self.new) }
@@ -292,7 +292,7 @@ impl<A: Allocator + Copy> MemoryDevice<SimMemory<A>> for Sim<A> {
     ghost well_formed = { objects_are_well_formed };
 }
 
-// Notes the last of some ranges. Where there is none, what was told before stays.
+// Notes the last of some ranges. Without ranges the earlier one stays.
 fn note_last<A: Allocator + Copy>(
     told: &mut Option<(u64, u64, u64)>,
     ranges: &[MappedMemoryRange<'_, SimMemory<A>>],

@@ -1,4 +1,4 @@
--- What a `SlotMap` ends as, where a `&mut` to one of its values is returned.
+-- What a `SlotMap` becomes when a `&mut` to one of its values is returned.
 use Rattle.std.specs.Prelude.{ℕ, Option, Some}
 use Rattle.std.specs.Borrow.{Lends, LendsIf, Fml, RattleType, MutBor}
 use Rattle.std.specs.declared.alloc.Allocator.{Ghosts}
@@ -12,7 +12,7 @@ module _ (T A : RattleType) (alloc : Ghosts A.Denot) (s : MutBor (SlotState T.De
   abbrev pub lends_value : MutBor T.Denot → Fml
   lends_value r = Lends (the_row T A alloc) T s r (with_value s.now key)
 
-  -- the same where r is a reference, and at `None` the map stays as it is
+  -- the same where r is a reference; at `None` the map is unchanged
   abbrev pub lends_get : Option (MutBor T.Denot) → Fml
   lends_get r = LendsIf (the_row T A alloc) T s r (with_value s.now key) s.now
 

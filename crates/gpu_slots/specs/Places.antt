@@ -5,14 +5,15 @@ use Rattle.std.specs.FinMap.{FinMap}
 use Rattle.std.specs.Ordering.{nat_cmp}
 use Rattle.gpu_slots.specs.declared.slot_map.Place.{Place}
 
--- How many more values fit in: one in each free place, and one in each place that may be added, of the 2^32 - 1 that
--- there can be, for which there is room, among the free places too for when its value is removed.
+-- How many more values fit in: one for each free place, and one for each place that may be added. The latter are
+-- limited by the 2^32 - 1 that there can be, and by the room for them, also among the free places for when the value is
+-- removed.
 abbrev pub room_in : (places places_capacity free len free_capacity : ℕ) → ℕ
 room_in places places_capacity free len free_capacity =
     free + min (free_capacity - (free + len)) (min (places_capacity - places) (2 ^ 32 - 1 - places))
 
 module _ {T : Type 0} where
-  -- the key of a value of that generation in that place, with the value, where there is one
+  -- the key of that generation and place with its value, if there is one
   abbrev pub entry_at : (generation place : ℕ) → Option T → List (ℕ × T) → List (ℕ × T)
   entry_at generation place None later = later
   entry_at generation place (Some value) later = (generation * 2 ^ 32 + place, value) ∷ later
@@ -26,17 +27,17 @@ module _ {T : Type 0} where
   abbrev pub live_in : List (Place T) → FinMap nat_cmp T
   live_in places = map.from_entries (live_from 0 places)
 
-  -- the place of that number, which has no value where it is past the last
+  -- the place of that number, which is empty where it is past the last
   abbrev pub place_at : List (Place T) → ℕ → Place T
   place_at places i = slice_index_or places i (record { generation = 0; value = None })
 
-  -- the place has no value, and a generation left for the next
+  -- the place is empty, and a generation is left for its next value
   pub record IsFree (places : List (Place T)) (i : ℕ) : Type 0 where
     pub within : i < length places
     pub empty : (place_at places i).value ≡ None
     pub unspent : (place_at places i).generation < 2 ^ 32
 
-  -- What always holds. There is room among the free places for each value's place.
+  -- What always holds. There is room among the free places for the place of each value.
   pub record IsSound (places : List (Place T)) (free : List ℕ) (len free_capacity : ℕ) : Type 0 where
     pub few : length places < 2 ^ 32
     pub counted : len ≡ map.len (live_in places)

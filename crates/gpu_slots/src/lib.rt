@@ -1,5 +1,5 @@
-//! Values under keys that are never given twice, for a library whose callers hold keys: a key that was removed is
-//! refused for ever after.
+//! Values under keys that are never given twice, for a library whose callers hold keys: a removed key stays invalid for
+//! ever.
 #![tactic(auto)]
 
 mod slot_map;

@@ -15,7 +15,7 @@ use std::mem;
 /// How many generations a place has, and how many places there can be, each counted from 0 on.
 const SPAN: u64 = 1 << 32;
 
-/// A place, with the generation of the value in it, or of the next one where there is none.
+/// A place, with the generation of the value in it, or of the next value if it is empty.
 #[derive(Drop)]
 struct Place<T> {
     generation: u64,
@@ -40,13 +40,13 @@ impl<T> Place<T> {
 /// Values, each under a key that is given once.
 ///
 /// A key has the number of its place in the lower 32 bits, and the place's generation in the upper 32 bits. Generations
-/// begin at 1, so that 0 is never a key. When a value is removed its place's generation rises by one. A place whose
-/// generations are used up is never used again. Each call takes a number of steps that hangs on no count, but where
-/// `reserve` moves the values to more memory.
+/// begin at 1, so 0 is never a key. When a value is removed, its place's generation rises by one. A place whose
+/// generations are used up is never used again. Each call takes constant time, except where `reserve` moves the values
+/// to more memory.
 #[derive(Drop)]
 pub struct SlotMap<T, A: Allocator = Global> {
     places: Vec<Place<T>, A>,
-    // The places that have no value and a generation left.
+    // The places that are empty and have a generation left.
     free: Vec<u32, A>,
     len: usize,
 }
@@ -71,7 +71,7 @@ impl<T, A: Allocator> Model for SlotMap<T, A> {
 }
 
 impl<T, A: Allocator + Copy> SlotMap<T, A> {
-    /// No value. `alloc` gives the memory of the values, of which this call takes none.
+    /// No values. They take their memory from `alloc`; this call takes none.
     pub fn new(alloc: A) -> SlotMap<T, A>
         ensures live { result.live ≡ map.empty }
         ensures generations { result.generations ≡ [] }
@@ -96,7 +96,7 @@ impl<T, A: Allocator> SlotMap<T, A> {
         self.len
     }
 
-    /// Whether there is no value.
+    /// Whether there are no values.
     pub fn is_empty(&self) -> bool
         ensures { result ≡ (map.len self.now.live == 0) }
     {
@@ -105,8 +105,8 @@ impl<T, A: Allocator> SlotMap<T, A> {
 
     /// Makes room for one more value, so that the next `insert_reserved` takes no memory.
     ///
-    /// Fails for want of memory, or where no place is free and 2^32 - 1 places are spent. Nothing but the room changes,
-    /// which is no less, after a refusal too.
+    /// It fails for want of memory, or where no place is free and 2^32 - 1 places are used. Nothing but the room
+    /// changes, and it never shrinks, even after an error.
     pub fn reserve(&mut self) -> Result<(), AllocError>
         ensures room { OnOk result (0 < self.new.room) }
         ensures stays { self.old.room ≤ self.new.room }
@@ -123,7 +123,7 @@ impl<T, A: Allocator> SlotMap<T, A> {
         self.free.reserve(self.len + 1)
     }
 
-    /// Puts a value under a key that was never given before, which it answers. There has to be room.
+    /// Puts a value under a new key, which was never given before, and returns the key. There must be room.
     pub fn insert_reserved(&mut self, value: T) -> u64
         requires { 0 < self.old.room }
         ensures never_zero { result ≢ 0 }
@@ -181,9 +181,9 @@ impl<T, A: Allocator> SlotMap<T, A> {
         self.places[(key % SPAN) as usize].value_mut()
     }
 
-    /// Takes the value out that is under a key, or answers `None` where the key is not live, with nothing changed. It
-    /// takes no memory. The key stays given, so that no later value has it, and is refused for ever after. There is room
-    /// for one more value then, but where the place's generations are used up.
+    /// Removes and returns the value under a key, or returns `None` and changes nothing where the key is not live. It
+    /// allocates nothing. The key stays invalid for ever, and no later value has it. There is then room for one more
+    /// value, unless the place's generations are used up.
     pub fn remove(&mut self, key: u64) -> Option<T>
         ensures value { result ≡ map.get self.old.live key }
         ensures live { self.new.live ≡ map.remove self.old.live key }
@@ -210,18 +210,18 @@ impl<T, A: Allocator> SlotMap<T, A> {
         value
     }
 
-    /// Nothing is done: its contract tells where values lie in every map. Each live key's place is one of those that
-    /// there are, and no other live key has it.
+    /// A lemma about where values lie in every map: does nothing at run time. Each live key has a place that exists,
+    /// and no other live key has it.
     pub fn keeps_places(&self)
         ensures { ArePlaced self.now }
     {
         let _ = &self.places;
     }
 
-    /// The key of the first value at this place or at a later one, or `None` where there is none.
+    /// The key of the first value at this place or at a later one, or `None` where there is no such value.
     ///
-    /// Whoever goes on behind the place of each key that is answered, from place 0 on, meets the values in the order of
-    /// their places. It takes a step for each place without a value that it passes.
+    /// A caller that starts at place 0 and goes on after the place of each returned key meets the values in the order
+    /// of their places. The call takes one step for each empty place that it passes.
     pub fn first_from(&self, place: u64) -> Option<u64>
         ensures first { IfSome result (IsFirstFrom self.now place) }
         ensures none { result ≡ None → HasNoneFrom self.now place }
@@ -237,7 +237,7 @@ impl<T, A: Allocator> SlotMap<T, A> {
         None
     }
 
-    /// Ends the map, and gives its values one after another.
+    /// Ends the map, and returns its values one after another.
     pub fn into_values(self) -> Values<T, A>
         ensures { result ≡ self.live }
     {
@@ -249,7 +249,7 @@ impl<T, A: Allocator> SlotMap<T, A> {
         Values { places }
     }
 
-    /// Ends a map that has no value (`is_empty` tells). A map of values that can't be dropped ends so, or by
+    /// Ends a map without values (see `is_empty`). A map whose values can't be dropped ends this way, or by
     /// [`into_values`](SlotMap::into_values).
     pub fn destroy_empty(self)
         requires { map.len self.live ≡ 0 }
@@ -258,7 +258,7 @@ impl<T, A: Allocator> SlotMap<T, A> {
     }
 }
 
-/// The values of a map that has ended, in no order that is told. Contracts see them by the keys that they had.
+/// The values of a map that has ended, in no particular order. Contracts see them by the keys that they had.
 #[derive(Drop)]
 pub struct Values<T, A: Allocator = Global> {
     places: Vec<Place<T>, A>,
@@ -282,7 +282,7 @@ impl<T, A: Allocator> Model for Values<T, A> {
 }
 
 impl<T, A: Allocator> Values<T, A> {
-    /// One of the values, or `None` where there is none. The places of all together are gone through once.
+    /// One of the values, or `None` where none is left. All calls together go through the places once.
     pub fn next(&mut self) -> Option<T>
         ensures taken { IfSome result (λ value. (key : ℕ) × TakesAt self.old key value self.new) }
         ensures ended { result ≡ None → map.len self.new ≡ 0 }
@@ -301,7 +301,7 @@ impl<T, A: Allocator> Values<T, A> {
         None
     }
 
-    /// Ends them once there is none.
+    /// Ends the values, once none is left.
     pub fn destroy_empty(self)
         requires { map.len self ≡ 0 }
     {

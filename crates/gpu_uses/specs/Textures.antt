@@ -1,4 +1,4 @@
--- What a contract sees of a cache of textures.
+-- What contracts see of a cache of textures.
 use Rattle.std.specs.Prelude.{ℕ, List, Option, refl}
 use Rattle.std.specs.Coded.{Coded, code_by, coded×, coded_ℕ, coded_list}
 use Rattle.gpu_alloc.specs.Codes.{block_code, state_code}

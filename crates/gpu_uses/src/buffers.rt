@@ -8,7 +8,8 @@ use gpu_alloc::laws::spans_come_and_go;
 use gpu_alloc::{AllocationError, GpuAllocator, Request};
 use gpu_alloc_types::{MemoryDevice, MemoryObject};
 
-/// Takes two buffers and returns them in the order in which they came: what is live is what was live before.
+/// Allocates two buffers and returns them in the order in which they were granted: the live blocks are then those of
+/// before.
 pub fn two_buffers<M: MemoryObject, D: MemoryDevice<M>>(
     allocator: &mut GpuAllocator<M>,
     device: &mut D,

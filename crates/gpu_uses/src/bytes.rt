@@ -10,7 +10,7 @@ use gpu_alloc::laws::kept_blocks_agree;
 use gpu_alloc::{AllocationError, Dedicated, GpuAllocator, MemoryBlock, Request};
 use gpu_alloc_types::{MemoryDevice, MemoryObject};
 
-/// Writes bytes at a block's start. What the device refuses is left at that.
+/// Writes bytes at a block's start. A refusal of the device is ignored.
 pub(crate) fn fill<M: MemoryObject, D: MemoryDevice<M>>(
     device: &mut D,
     block: &mut MemoryBlock<M>,
@@ -25,7 +25,7 @@ pub(crate) fn fill<M: MemoryObject, D: MemoryDevice<M>>(
     let _ = block.write_bytes(device, 0, bytes);
 }
 
-/// Reads bytes from a block's start. What the device refuses is left at that.
+/// Reads bytes from a block's start. A refusal of the device is ignored.
 fn peek<M: MemoryObject, D: MemoryDevice<M>>(
     device: &mut D,
     block: &mut MemoryBlock<M>,
@@ -131,7 +131,7 @@ fn return_third<M: MemoryObject, D: MemoryDevice<M>>(
     allocator.dealloc(device, third);
 }
 
-/// Returns two blocks, in the order in which they came.
+/// Returns two blocks, in the order in which they were granted.
 fn return_both<M: MemoryObject, D: MemoryDevice<M>>(
     allocator: &mut GpuAllocator<M>,
     device: &mut D,
@@ -147,7 +147,8 @@ fn return_both<M: MemoryObject, D: MemoryDevice<M>>(
     allocator.dealloc(device, second);
 }
 
-/// Takes a block with an object of its own beside two others, uses the bytes of all three, and returns it.
+/// Allocates a block with an object of its own while two others are in hand, uses the bytes of all three, and returns
+/// it.
 fn with_third<M: MemoryObject, D: MemoryDevice<M>>(
     allocator: &mut GpuAllocator<M>,
     device: &mut D,
@@ -174,8 +175,8 @@ fn with_third<M: MemoryObject, D: MemoryDevice<M>>(
     Ok(())
 }
 
-/// Takes two blocks as a request asks and a third with an object of its own; writes bytes to the first, reads as many of
-/// the second, and maps and unmaps the third. Then all are returned.
+/// Allocates two blocks for a request and a third with an object of its own. Writes bytes to the first, reads as many
+/// of the second, and maps and unmaps the third. Then it returns all.
 pub fn three_blocks<M: MemoryObject, D: MemoryDevice<M>>(
     allocator: &mut GpuAllocator<M>,
     device: &mut D,

@@ -1,11 +1,11 @@
-//! The README's first use, of which it shows the end.
+//! The README's first use; the README shows its end.
 
 ghost use Rattle.gpu_alloc.specs.Agreement.{Agrees};
 
 use gpu_alloc::{GpuAllocator, MemoryBlock, Request, UsageFlags};
 use gpu_alloc_types::{MemoryDevice, MemoryObject};
 
-/// A buffer that holds these bytes, for the device to copy from, if there is room.
+/// Allocates a buffer with these bytes, for the device to copy from, if there is room.
 pub fn upload<M: MemoryObject, D: MemoryDevice<M>>(
     allocator: &mut GpuAllocator<M>,
     device: &mut D,

@@ -1,4 +1,4 @@
-//! A free list by itself, over a memory that its caller has.
+//! A free list by itself, over its caller's own memory.
 
 ghost use Rattle.std.specs.Prelude.{◌≡◌, ◌≤◌};
 ghost use Rattle.std.specs.FinSet as set;
@@ -9,9 +9,9 @@ use gpu_alloc_types::MemoryObject;
 use std::alloc::Global;
 use std::sync::ledger::Ledger;
 
-/// Puts a memory of so many bytes into a list of its own, takes two blocks of it, and returns them in the order in which
-/// they came. Whether the memory had room for both, and the host for what is stored. A test stands before each call
-/// that needs one. The memory is dropped in the end. `steps` never falls.
+/// Puts a memory of `memory_size` bytes into a list of its own, takes two blocks of it, and returns them in the order
+/// in which they were granted. Returns whether the memory had room for both, and the host for what is stored. A test
+/// stands before each call that needs one. The memory is dropped in the end. `steps` never falls.
 pub fn two_of_a_memory<M: MemoryObject, L: Ledger>(
     alloc: Global,
     memory: M,
@@ -52,8 +52,8 @@ pub fn two_of_a_memory<M: MemoryObject, L: Ledger>(
     }
 }
 
-/// Takes each chunk out of a list of which no block is live, the oldest first, and closes it, without a test. (What is
-/// dropped here, a program with a device gives back to it.)
+/// Takes each chunk out of a list without live blocks, the oldest first, and closes it, without a test. (A program with
+/// a device would release what is dropped here.)
 fn end<M: MemoryObject>(list: FreeList<M>)
     requires { set.len (list.space).live ≡ 0 }
 {

@@ -1,4 +1,4 @@
-//! A memory object that the caller has the device make, imported beside a block of the allocator's own.
+//! A memory object that the caller has the device make, imported next to a block of the allocator's own.
 
 ghost use Rattle.std.specs.Prelude.{◌≡◌, ◌+◌, ◌≤◌, ◌<◌, length, IfSome, IfOk, IfErr, OnErr, MatchOption};
 ghost use Rattle.std.specs.Prelude.{None, [], ◌∷◌};
@@ -80,8 +80,8 @@ fn import_whole<M: MemoryObject, D: MemoryDevice<M>>(
     Ok(block)
 }
 
-/// Imports the whole of an object that somebody else made, with a test for each condition that has one. Where one fails,
-/// or where the allocator has no room, the object comes back.
+/// Imports the whole of an object that somebody else made, with a test for each condition that has one. Where a test
+/// fails, or the allocator has no room, the object comes back.
 pub fn import_of_others<M: MemoryObject, D: MemoryDevice<M>>(
     allocator: &mut GpuAllocator<M>,
     device: &D,
@@ -116,7 +116,7 @@ pub fn import_of_others<M: MemoryObject, D: MemoryDevice<M>>(
     )
 }
 
-/// Gives an object back to the device that an allocator does not hold.
+/// Releases an object that an allocator does not hold.
 fn take_back<M: MemoryObject, D: MemoryDevice<M>>(
     allocator: &GpuAllocator<M>,
     device: &mut D,
@@ -141,7 +141,7 @@ fn take_back<M: MemoryObject, D: MemoryDevice<M>>(
 }
 
 /// Has the device make an object, and imports the whole of it, while a block is in hand. Where the allocator has no
-/// room for it, the object goes back.
+/// room for it, the object is released.
 fn import_new<M: MemoryObject, D: MemoryDevice<M>>(
     allocator: &mut GpuAllocator<M>,
     device: &mut D,
@@ -225,9 +225,9 @@ fn count_free<M: MemoryObject>(allocator: &GpuAllocator<M>, memory_type: u32) ->
     Some(ranges.len())
 }
 
-/// Takes a block as a request asks, imports an object of as many bytes beside it, writes bytes to both, and returns
-/// both. It tells how many free ranges there were beside them, or none where no object was imported or no memory was
-/// found for the list of them.
+/// Allocates a block for a request, imports an object of as many bytes next to it, writes bytes to both, and returns
+/// both. Returns how many free ranges there were meanwhile, or `None` where no object was imported or there was no
+/// memory for the list of them.
 pub fn import_beside<M: MemoryObject, D: MemoryDevice<M>>(
     allocator: &mut GpuAllocator<M>,
     device: &mut D,

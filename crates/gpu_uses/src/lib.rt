@@ -1,6 +1,6 @@
-//! Programs that call the allocator, each over any device. They are checked with no proof of their own: what their
-//! calls need, the contracts of the calls before them give. A loop's invariant repeats clauses, in `textures` a line tells
-//! wherever a block is returned that it is owned, and one goal of `two_buffers` has a line of proof.
+//! Programs that call the allocator, each over any device. They are checked without a proof of their own: the contracts
+//! of earlier calls give what later calls need. There are three exceptions. A loop's invariant repeats clauses. In
+//! `textures` a line says wherever a block is returned that it is owned. One goal of `two_buffers` has a line of proof.
 #![tactic(auto)]
 
 pub mod buffers;

@@ -9,7 +9,7 @@ use gpu_alloc::laws::{byte_calls_keep_agreement, these_bytes_may_be_moved};
 use gpu_alloc::{AllocationError, GpuAllocator, Mapping, MemoryBlock, Request};
 use gpu_alloc_types::{MemoryDevice, MemoryObject};
 
-/// Puts bytes where a block's mapping starts, and gets as many from there.
+/// Puts bytes at the start of a block's mapping, and gets as many from there.
 fn put_and_get<M: MemoryObject, D: MemoryDevice<M>>(
     allocator: &GpuAllocator<M>,
     device: &mut D,
@@ -35,7 +35,7 @@ fn put_and_get<M: MemoryObject, D: MemoryDevice<M>>(
     byte_calls_keep_agreement(allocator, device);
 }
 
-/// Maps the first bytes of a block, if the device does so, moves them, and ends the mapping.
+/// Maps the first bytes of a block, if the device does so, moves them, and unmaps it.
 fn move_bytes<M: MemoryObject, D: MemoryDevice<M>>(
     allocator: &GpuAllocator<M>,
     device: &mut D,
@@ -58,7 +58,7 @@ fn move_bytes<M: MemoryObject, D: MemoryDevice<M>>(
     }
 }
 
-/// Takes a block, moves bytes through a mapping of it, and returns it.
+/// Allocates a block, moves bytes through a mapping of it, and returns it.
 pub fn through_a_mapping<M: MemoryObject, D: MemoryDevice<M>>(
     allocator: &mut GpuAllocator<M>,
     device: &mut D,

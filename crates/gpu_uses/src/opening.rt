@@ -1,4 +1,4 @@
-//! An allocator from its opening to its close.
+//! An allocator, from opening to close.
 
 ghost use Rattle.std.specs.Prelude.{◌≡◌, IfOk};
 ghost use Rattle.std.specs.FinSet as set;
@@ -26,7 +26,7 @@ pub fn open<M: MemoryObject, D: MemoryDevice<M>>(
     Ok(allocator)
 }
 
-/// Takes a block, if there is room, and returns it.
+/// Allocates a block, if there is room, and returns it.
 fn borrow<M: MemoryObject, D: MemoryDevice<M>>(
     allocator: &mut GpuAllocator<M>,
     device: &mut D,
@@ -44,7 +44,7 @@ fn borrow<M: MemoryObject, D: MemoryDevice<M>>(
     }
 }
 
-/// Opens an allocator over a device, takes a block and returns it, cleans up and closes.
+/// Opens an allocator over a device, allocates a block and returns it, cleans up and closes.
 pub fn open_and_close<M: MemoryObject, D: MemoryDevice<M>>(
     alloc: Global,
     props: DeviceProperties<'_>,

@@ -5,7 +5,7 @@ ghost use Rattle.gpu_alloc.specs.Agreement.{Agrees};
 use gpu_alloc::{GpuAllocator, MemoryBlock};
 use gpu_alloc_types::{MemoryDevice, MemoryObject};
 
-/// Gives a block back, or the block itself where another allocator has to take it.
+/// Returns a block, or hands it back where another allocator must take it.
 pub fn give_back<M: MemoryObject, D: MemoryDevice<M>>(
     allocator: &mut GpuAllocator<M>,
     device: &mut D,

@@ -1,4 +1,4 @@
-//! A list of commands, as one session answers it.
+//! Lists of commands, answered by one session.
 
 ghost use Rattle.std.specs.Prelude.{◌≡◌, ◌++◌, All, IfOk, OnOk};
 ghost use Rattle.gpu_alloc.specs.State.{total};
@@ -17,8 +17,8 @@ use gpu_session::laws::{
 use gpu_session::{Command, Reply, Session};
 use std::alloc::{AllocError, Global};
 
-/// Answers a list of commands twice over, as far as there is memory for the replies, and gives the device back, which
-/// has the properties that it had.
+/// Answers a list of commands twice, as far as there is memory for the replies, and returns the device, which has the
+/// properties that it had.
 pub fn answer_twice<M: MemoryObject, D: MemoryDevice<M>>(
     alloc: Global,
     props: DeviceProperties<'_>,
@@ -41,8 +41,8 @@ pub fn answer_twice<M: MemoryObject, D: MemoryDevice<M>>(
     }
 }
 
-/// Answers a list of commands of which none says how many more objects may be held: as many are held or may be held as
-/// before.
+/// Answers a list of commands that never sets how many more objects may be held: the total of objects that are held or
+/// may be held stays.
 pub fn answer<M: MemoryObject, D: MemoryDevice<M>>(
     session: &mut Session<M, D>,
     commands: &[Command<Global>],
@@ -59,7 +59,7 @@ pub fn answer<M: MemoryObject, D: MemoryDevice<M>>(
     }
 }
 
-/// Answers a list of commands that ends with `Cleanup`: where no name has a block then, nothing is held.
+/// Answers a list of commands that ends with `Cleanup`: if no name has a block then, nothing is held.
 pub fn answer_and_clean_up<M: MemoryObject, D: MemoryDevice<M>>(
     session: &mut Session<M, D>,
     commands: &[Command<Global>],
@@ -76,8 +76,8 @@ pub fn answer_and_clean_up<M: MemoryObject, D: MemoryDevice<M>>(
     }
 }
 
-/// Answers a list of commands: each byte of a live block that was written by one of them that was done has one of the
-/// values that it may have by them, for the host and for the device, whatever other blocks' commands did.
+/// Answers a list of commands. Each byte of a live block that a completed command has written has one of the values
+/// that they allow, for host and device, whatever other blocks' commands did.
 pub fn answer_and_hold<M: MemoryObject, D: MemoryDevice<M>>(
     session: &mut Session<M, D>,
     commands: &[Command<Global>],
@@ -112,8 +112,8 @@ pub fn answer_both<M: MemoryObject, D: MemoryDevice<M>>(
     Ok((replies, answers))
 }
 
-/// Answers two lists of commands, one after the other: each read of the second tells what both lists wrote before it, as
-/// each one of the first does.
+/// Answers two lists of commands, one after the other. Each read of the second gives what both lists wrote before it,
+/// as each read of the first does for the first.
 pub fn answer_both_and_tell<M: MemoryObject, D: MemoryDevice<M>>(
     session: &mut Session<M, D>,
     commands: &[Command<Global>],
@@ -127,8 +127,8 @@ pub fn answer_both_and_tell<M: MemoryObject, D: MemoryDevice<M>>(
     Ok(told)
 }
 
-/// Opens a session and answers a list of commands that asks for no block but with the hint `Required`: each live block is
-/// the whole of an object of its own. Where there is no memory, the device comes back.
+/// Opens a session and answers a list of commands that asks for blocks only with the hint `Required`: each live block
+/// is the whole of an object of its own. Where there is no memory, the device comes back.
 pub fn open_with_whole_objects<M: MemoryObject, D: MemoryDevice<M>>(
     alloc: Global,
     props: DeviceProperties<'_>,

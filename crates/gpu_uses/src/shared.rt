@@ -29,8 +29,8 @@ use std::alloc::Global;
 use std::marker::Brand;
 use std::sync::ledger::{Blank, Ledger};
 
-/// Takes two blocks of an empty buddy allocator, returns them in the order in which they came, and closes it. No call
-/// takes more than 63 steps of a kind.
+/// Takes two blocks of an empty buddy allocator, returns them in the order in which they were granted, and closes it.
+/// No call takes more than 63 steps of a kind.
 pub fn two_in_a_buddy_chunk<M: MemoryObject, D: MemoryDevice<M>, L: Ledger, K: Ledger, R: Ledger>(
     allocator: BuddyAllocator<M>,
     device: &mut D,
@@ -129,8 +129,8 @@ fn two_uncounted<M: MemoryObject, D: MemoryDevice<M>, L: Ledger, K: Ledger, R: L
     )
 }
 
-/// Takes two blocks of an empty free list's allocator, returns them in the order in which they came, cleans up and
-/// closes it.
+/// Takes two blocks of an empty free list's allocator, returns them in the order in which they were granted, cleans up
+/// and closes it.
 pub fn two_in_a_free_list<M: MemoryObject, D: MemoryDevice<M>>(
     allocator: FreeListAllocator<M>,
     device: &mut D,
@@ -170,7 +170,7 @@ pub fn two_in_a_free_list<M: MemoryObject, D: MemoryDevice<M>>(
     }
 }
 
-/// Cleans up and closes an allocator of which no block is live, without a test.
+/// Cleans up and closes an allocator without live blocks, without a test.
 fn end_a_free_list<M: MemoryObject, D: MemoryDevice<M>>(
     allocator: FreeListAllocator<M>,
     device: &mut D,
@@ -234,8 +234,8 @@ pub fn open_a_buddy_allocator<M: MemoryObject, D: MemoryDevice<M>>(
     )
 }
 
-/// Makes a free list's allocator for a memory type that the device offers, and takes and returns two blocks of at most
-/// a largest chunk.
+/// Makes a free list's allocator for a memory type that the device offers, and takes and returns two blocks that fit
+/// the largest chunk.
 pub fn open_a_free_list<M: MemoryObject, D: MemoryDevice<M>>(
     alloc: Global,
     device: &mut D,
@@ -283,8 +283,8 @@ pub fn open_a_free_list<M: MemoryObject, D: MemoryDevice<M>>(
     )
 }
 
-/// Takes two blocks of an empty allocator of exact runs, returns them in the order in which they came, cleans up and closes
-/// it.
+/// Takes two blocks of an empty allocator of exact runs, returns them in the order in which they were granted, cleans
+/// up and closes it.
 pub fn two_in_exact_runs<M: MemoryObject, D: MemoryDevice<M>, L: Ledger>(
     allocator: FitAllocator<M>,
     device: &mut D,
@@ -325,7 +325,7 @@ pub fn two_in_exact_runs<M: MemoryObject, D: MemoryDevice<M>, L: Ledger>(
     }
 }
 
-/// Cleans up and closes an allocator of which no block is live, without a test.
+/// Cleans up and closes an allocator without live blocks, without a test.
 fn end_exact_runs<M: MemoryObject, D: MemoryDevice<M>>(
     allocator: FitAllocator<M>,
     device: &mut D,
@@ -341,8 +341,8 @@ fn end_exact_runs<M: MemoryObject, D: MemoryDevice<M>>(
     exact.close();
 }
 
-/// Makes an allocator of exact runs for a memory type that the device offers, and takes and returns two blocks of at most a
-/// largest chunk.
+/// Makes an allocator of exact runs for a memory type that the device offers, and takes and returns two blocks that fit
+/// the largest chunk.
 pub fn open_exact_runs<M: MemoryObject, D: MemoryDevice<M>, L: Ledger>(
     alloc: Global,
     device: &mut D,

@@ -21,7 +21,7 @@ use std::marker::Model;
 
 type Textures<M, A> = IndexMap<u64, MemoryBlock<M>, BuildHasherDefault<FoldHasher>, A>;
 
-/// Puts a block under a key that has none. There has to be room for its entry.
+/// Puts a block under a key that has none. There must be room for its entry.
 fn put<M: MemoryObject, A: Allocator + Copy>(
     textures: &mut Textures<M, A>,
     key: u64,
@@ -38,7 +38,7 @@ fn put<M: MemoryObject, A: Allocator + Copy>(
     }
 }
 
-/// Takes the block under a key out, where it has one.
+/// Takes out the block under a key, if it has one.
 fn take<M: MemoryObject, A: Allocator + Copy>(
     textures: &mut Textures<M, A>,
     key: u64,
@@ -50,7 +50,7 @@ fn take<M: MemoryObject, A: Allocator + Copy>(
     textures.shift_remove(&key)
 }
 
-/// Takes the block out that came first, where there is one, with its key.
+/// Takes out the block that was added first, with its key, if there is one.
 fn take_first<M: MemoryObject, A: Allocator + Copy>(
     textures: &mut Textures<M, A>,
 ) -> Option<(u64, MemoryBlock<M>)>
@@ -64,7 +64,7 @@ fn take_first<M: MemoryObject, A: Allocator + Copy>(
     textures.shift_remove_index(0)
 }
 
-/// Takes the block out that came last, where there is one, with its key.
+/// Takes out the block that was added last, with its key, if there is one.
 fn take_last<M: MemoryObject, A: Allocator + Copy>(
     textures: &mut Textures<M, A>,
 ) -> Option<(u64, MemoryBlock<M>)>
@@ -77,7 +77,7 @@ fn take_last<M: MemoryObject, A: Allocator + Copy>(
     textures.pop()
 }
 
-/// Textures of a device's memory, each a block under a key of the caller's. It cannot be let go:
+/// Textures of a device's memory, each a block under a key of the caller's. It cannot be dropped:
 /// [`end`](TextureCache::end) ends it.
 pub struct TextureCache<M: MemoryObject, D: ObjectDevice<M>, A: Allocator + Copy = Global> {
     allocator: GpuAllocator<M, A>,
@@ -103,7 +103,8 @@ impl<M: MemoryObject, D: ObjectDevice<M>, A: Allocator + Copy> Model for Texture
 }
 
 impl<M: MemoryObject, D: ObjectDevice<M>, A: Allocator + Copy> TextureCache<M, D, A> {
-    /// A cache of no texture, over a device with these properties. Want of host memory gives the device back.
+    /// A cache without textures, over a device with these properties. Where host memory is missing, the device comes
+    /// back.
     #[tactic(auto, using(gpu_alloc::proofs::UnderKeys::none))]
     pub fn new(alloc: A, config: Config, props: DeviceProperties<'_>, device: D) -> Result<Self, D>
         requires usable { IsUsable (properties_of props) }
@@ -133,11 +134,11 @@ impl<M: MemoryObject, D: ObjectDevice<M>, A: Allocator + Copy> TextureCache<M, D
         self.textures.get(&key)
     }
 
-    /// Sees to it that a key has a texture: the one that it has, or a new one as the request asks. As long as that one
-    /// is refused, the oldest texture goes. A request that can never be served evicts nothing.
+    /// Ensures that a key has a texture: the one that it has, or a new one for the request. As long as the new one is
+    /// refused, the oldest texture is evicted. A request that can never be served evicts nothing.
     ///
-    /// The request has to be askable (`Request::is_askable`). The refusals are those of [`GpuAllocator::alloc`], and
-    /// `OutOfDeviceMemory` for one that can never be served.
+    /// The request must be askable (`Request::is_askable`). The errors are those of [`GpuAllocator::alloc`], and
+    /// `OutOfDeviceMemory` for a request that can never be served.
     pub fn load(&mut self, key: u64, request: Request) -> Result<(), AllocationError>
         requires { IsAskable ((self.old.allocator).properties).buffer_device_address request }
         ensures there { OnOk result (IsSome (texture_at self.new key)) }
@@ -159,7 +160,7 @@ impl<M: MemoryObject, D: ObjectDevice<M>, A: Allocator + Copy> TextureCache<M, D
         Ok(())
     }
 
-    /// A new texture under a key that has none, as the request asks. A refusal leaves the textures as they were.
+    /// Makes a new texture for the request, under a key that has none. An error leaves the textures unchanged.
     #[tactic(auto, using(gpu_alloc::proofs::UnderKeys::comes))]
     fn create(&mut self, key: u64, request: Request) -> Result<(), AllocationError>
         requires askable { IsAskable ((self.old.allocator).properties).buffer_device_address request }
@@ -178,7 +179,7 @@ impl<M: MemoryObject, D: ObjectDevice<M>, A: Allocator + Copy> TextureCache<M, D
         Ok(())
     }
 
-    /// Gives back the texture of a key, and tells whether it had one.
+    /// Frees the texture of a key, and returns whether it had one.
     #[tactic(auto, using(gpu_alloc::proofs::UnderKeys::goes))]
     pub fn evict(&mut self, key: u64) -> bool
         ensures found { IsTrue result ↔ IsSome (texture_at self.old key) }
@@ -196,7 +197,7 @@ impl<M: MemoryObject, D: ObjectDevice<M>, A: Allocator + Copy> TextureCache<M, D
         }
     }
 
-    /// Gives back the texture that came first, and tells whether there was one.
+    /// Frees the oldest texture, and returns whether there was one.
     #[tactic(auto, using(gpu_alloc::proofs::UnderKeys::goes))]
     pub fn evict_oldest(&mut self) -> bool
         ensures some { IsTrue result ↔ (0 < length self.old.textures) }
@@ -214,7 +215,7 @@ impl<M: MemoryObject, D: ObjectDevice<M>, A: Allocator + Copy> TextureCache<M, D
         }
     }
 
-    /// Gives every texture back, and then the device.
+    /// Frees every texture, and then returns the device.
     #[tactic(auto, using(gpu_alloc::proofs::UnderKeys::goes))]
     pub fn end(self) -> D
         ensures properties { D.properties result ≡ D.properties self.device }

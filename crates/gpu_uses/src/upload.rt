@@ -12,8 +12,8 @@ use gpu_alloc::laws::{candidates_serve_the_request, owned_blocks_are_apart};
 use gpu_alloc::{GpuAllocator, MemoryBlock, Request, UsageFlags};
 use gpu_alloc_types::{MemoryDevice, MemoryObject};
 
-/// A buffer that the host fills, of one of these memory types, if there is room: the host sees its memory, and the
-/// property bits and the atom that it carries are those of its memory type.
+/// Allocates a buffer that the host fills, of one of these memory types, if there is room. Its memory is host-visible,
+/// and it carries the property bits and the atom of its memory type.
 pub fn upload_buffer<M: MemoryObject, D: MemoryDevice<M>>(
     allocator: &mut GpuAllocator<M>,
     device: &mut D,
@@ -47,7 +47,7 @@ pub fn upload_buffer<M: MemoryObject, D: MemoryDevice<M>>(
     }
 }
 
-/// Whether bytes may be copied from one block to another: both are the allocator's, and they are of two places.
+/// Whether bytes may be copied from one block to another: both are the allocator's, and lie at two places.
 pub fn may_copy<M: MemoryObject>(
     allocator: &GpuAllocator<M>,
     from: &MemoryBlock<M>,

@@ -6,7 +6,7 @@ use crate::words::{FREE, KINDS, PATTERNS, Title, fill, name};
 use gpu_report::strips::{ROW, Span, piece};
 use std::alloc::{AllocError, Global};
 
-/// Where the picture's left column starts, which says what is beside it, and the rows.
+/// Where the picture's left column starts, with the texts next to the rows, and where the rows start.
 pub const MARGIN: u64 = 20;
 
 pub const LEFT: u64 = 150;
@@ -19,7 +19,7 @@ pub const LINE: u64 = 22;
 
 const BAR: u64 = 16;
 
-/// How a text is set.
+/// The style of a text.
 #[derive(Clone, Copy)]
 pub enum Set {
     /// A heading.
@@ -28,7 +28,7 @@ pub enum Set {
     /// The name of what follows.
     Name,
 
-    /// What is told.
+    /// A plain text.
     Plain,
 
     /// A remark that ends where it is put.
@@ -51,7 +51,7 @@ impl Drawing {
         }
     }
 
-    /// Leaves so much room below what is drawn.
+    /// Leaves `room` units free below what is drawn.
     pub(crate) fn leave(&mut self, room: u64) {
         self.bottom = self.bottom.saturating_add(room);
     }
@@ -73,7 +73,7 @@ impl Drawing {
         Ok(())
     }
 
-    /// Writes a text from `x` on, on a line that stands at the bottom.
+    /// Writes a text from `x` on, on the line at the bottom.
     pub(crate) fn write(&mut self, x: u64, set: Set, text: &str) -> Result<(), AllocError> {
         let how = match set {
             Set::Heading => " font-size=\"16\" font-weight=\"bold\"",
@@ -104,14 +104,14 @@ impl Drawing {
         )
     }
 
-    /// How far down the row is drawn in which a range starts.
+    /// How far down the row is in which a range starts.
     fn row_at(&self, from: u64) -> u64 {
         self.bottom
             .saturating_add((from / ROW).saturating_mul(LINE))
     }
 
-    /// Draws a range of rows that begin at the bottom, in as many pieces as it has rows, and says of it on hovering what
-    /// it is.
+    /// Draws a range of rows that begin at the bottom, in as many pieces as it has rows, with a title that shows on
+    /// hovering.
     pub(crate) fn range(
         &mut self,
         span: Span,
@@ -123,7 +123,7 @@ impl Drawing {
             let (into_row, width) = piece(start, end);
             let x = LEFT + into_row;
             let y = self.row_at(start);
-            // The last unit is left out, so that the next range is seen to be another.
+            // The last unit is left out, so that the next range stands apart.
             let drawn = (width - 1).max(1);
             write!(
                 self.body,
@@ -135,7 +135,7 @@ impl Drawing {
         Ok(())
     }
 
-    /// Writes what stands to the left of a row.
+    /// Writes a text to the left of a row.
     pub(crate) fn aside(&mut self, row: u64, text: &str) -> Result<(), AllocError> {
         let x = LEFT - 10;
         let y = self.row_at(row.saturating_mul(ROW)).saturating_add(12);
@@ -145,7 +145,7 @@ impl Drawing {
         )
     }
 
-    /// Writes in the middle of a range the name of the block that it is, if there is room for it in one row.
+    /// Writes a block's name in the middle of its range, if there is room for it in one row.
     pub(crate) fn number(&mut self, span: Span, ink: &str, number: u64) -> Result<(), AllocError> {
         let width = span.end.saturating_sub(span.start);
         let into_row = span.start % ROW;

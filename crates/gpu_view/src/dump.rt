@@ -1,4 +1,4 @@
-//! A report of a living program, read from the JSON that the library for C writes.
+//! A report of a living program, read from the JSON that the C library writes.
 
 use crate::picture::picture;
 use crate::rows::Dump;
@@ -6,16 +6,16 @@ use gpu_script_language::{Stop, read_all, write_answer};
 use std::alloc::{AllocError, Global};
 use std::io::{Read, Write};
 
-/// The status where the text is no report.
+/// The status where the text is not a report.
 const NO_REPORT: u8 = 2;
 
-/// Why there is no picture of a report.
+/// Why a report cannot be drawn.
 #[derive(Drop)]
 pub enum NoPicture {
-    /// The text was not read, or the host's memory was refused.
+    /// The text was not read, or host memory is missing.
     Stop(Stop),
 
-    /// The text is no report. The error tells why, and the line and the column.
+    /// The text is not a report. The error says why, with the line and the column.
     NoReport(serde_json::Error),
 }
 
@@ -49,8 +49,8 @@ pub(crate) fn draw_dump<R: Read>(alloc: Global, input: &mut R) -> Result<String,
     Ok(picture(alloc, &dump.report, dump.types.as_slice(), heading)?)
 }
 
-/// Writes the picture, or why there is none: `no report:`, what is wrong, and at which line and column. The status is that
-/// of a script's replies, 2 where the text is no report.
+/// Writes the picture, or why there is none: `no report:`, what is wrong, and at which line and column. The status is
+/// that of a script's replies, or 2 where the text is not a report.
 pub(crate) fn write_drawn<W: Write>(output: &mut W, drawn: Result<String, NoPicture>) -> u8 {
     let written = match drawn {
         Ok(text) => return write_answer(output, Ok(text)),

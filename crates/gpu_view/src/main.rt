@@ -1,5 +1,5 @@
-//! Reports or draws what a script's allocator holds, or draws a report of a living program: reads the script or the report
-//! from standard input, and writes the report or the picture to standard output.
+//! Reports or draws what a script's allocator holds, or draws a report of a living program. Reads the script or the
+//! report from standard input, and writes the report or the picture to standard output.
 #![tactic(auto)]
 
 mod drawing;
@@ -19,7 +19,7 @@ use gpu_script_language::write_answer;
 use std::process::ExitCode;
 use std::{env, io};
 
-/// The status where the words that it is started with ask for nothing.
+/// The status for words that ask for nothing.
 const USAGE: u8 = 64;
 
 fn main(rt: HostRuntime) -> ExitCode {
@@ -35,7 +35,7 @@ fn main(rt: HostRuntime) -> ExitCode {
     ExitCode::from(write_answer(&mut output, view(rt.alloc(), &mut input, wanted)))
 }
 
-/// What the program's words ask for, if they ask for something.
+/// What the program's words ask for, if anything.
 fn asked(rt: &HostRuntime) -> Option<Wanted> {
     let mut words = env::args(rt).ok()?;
     let _name = words.next();

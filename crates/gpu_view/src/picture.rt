@@ -1,6 +1,6 @@
-//! The picture: the heaps one below another, under each its memory types, and under each type what it holds.
+//! The picture: the heaps one below another, with their memory types, and what each type holds.
 //!
-//! All that is written in it are words of this crate and numbers, in which nothing has to be escaped.
+//! It contains only words of this crate and numbers, in which nothing needs escaping.
 
 ghost use Rattle.std.specs.Prelude.{◌<◌, ◌^◌};
 
@@ -11,11 +11,11 @@ use gpu_report::strips::{ROW, Span, Strip, start_of};
 use gpu_report::{HeapReport, KindReport, ObjectReport, Report};
 use std::alloc::{AllocError, Global};
 
-/// How many rows the objects of a kind and type take to scale, at most; what the least lengths add is beside that.
+/// How many rows the objects of a kind and type take to scale, at most. What the least lengths add comes on top.
 const ROWS: u128 = 6;
 
-/// The picture of a report under a heading, as an SVG. `types` are the device's memory types. Only want of memory is
-/// refused.
+/// The picture of a report under a heading, as an SVG. `types` are the device's memory types. The only error is want of
+/// memory.
 pub(crate) fn picture(
     alloc: Global,
     report: &Report,
@@ -39,7 +39,7 @@ pub(crate) fn picture(
     drawing.finish(alloc)
 }
 
-/// What is drawn so far, and of what.
+/// What is drawn so far, and of which report.
 #[derive(Drop)]
 struct Page<'r, 't> {
     drawing: Drawing,
@@ -117,7 +117,7 @@ impl Page<'_, '_> {
         Ok(())
     }
 
-    /// What is told of a kind's objects of a type, and the objects.
+    /// The sums of a kind's objects of a type, and the objects.
     fn draw_kind(&mut self, kind: &KindReport) -> Result<(), AllocError> {
         self.drawing.leave(20);
         self.drawing.sample(LEFT, fill(kind.kind))?;
@@ -196,7 +196,7 @@ impl Page<'_, '_> {
         Ok(())
     }
 
-    /// What is said beside a row.
+    /// The text next to a row.
     fn draw_label(&mut self, label: Label) -> Result<(), AllocError> {
         let Label {
             row,
@@ -223,7 +223,7 @@ struct Label {
 }
 
 impl Label {
-    /// Says that this object starts in the row too.
+    /// Adds this object to those that start in the row.
     fn take(&mut self, object: &ObjectReport) {
         match self.first {
             Some(_) => self.last = Some(object.object),
@@ -257,7 +257,8 @@ fn heap_of(types: &[MemoryType], number: u32) -> Option<u64> {
     Some(u64::from(types.get(number as usize)?.heap))
 }
 
-/// How many ranges a heap's bar has: one for each type and kind that it holds, and one for what is left, if that is some.
+/// How many ranges a heap's bar has: one for each type and kind that it holds, and one for what is left, if anything
+/// is.
 fn ranges_of(report: &Report, types: &[MemoryType], index: u64, heap: &HeapReport) -> u64
     ensures { result < 2 ^ 32 }
 {
@@ -270,12 +271,12 @@ fn ranges_of(report: &Report, types: &[MemoryType], index: u64, heap: &HeapRepor
     count_of(ranges)
 }
 
-/// A number, cut to 64 bits.
+/// A number, at most the greatest `u64`.
 fn as_u64(number: u128) -> u64 {
     u64::try_from(number).unwrap_or(u64::MAX)
 }
 
-/// How many ranges are drawn of so many.
+/// A count of ranges as a `u64`.
 fn count_of(ranges: usize) -> u64
     ensures { result < 2 ^ 32 }
 {

@@ -1,11 +1,12 @@
-//! The rows of a report, read member by member. A member that is missing, there twice, or unknown is refused where it stands.
+//! The rows of a report, read member by member. A member that is missing, repeated or unknown is refused where it
+//! stands.
 
 use gpu_alloc::{MemoryPropertyFlags, MemoryType};
 use gpu_report::{HeapReport, KindReport, ObjectKind, ObjectReport, Place, Report};
 use serde::{Deserialize, Deserializer, Format, Name};
 use std::alloc::Global;
 
-/// A report, in which each block has its key for a name, with the memory types.
+/// A report in which each block has its key as its name, with the memory types.
 #[derive(Drop)]
 pub(crate) struct Dump {
     pub report: Report,
@@ -50,7 +51,7 @@ impl<'de> Deserialize<'de> for Dump {
     }
 }
 
-/// A list that has to be there.
+/// A list that must be there.
 fn present<T: Drop, F: Format>(
     from: &Deserializer<'_, '_, F>,
     name: &str,
@@ -62,7 +63,7 @@ fn present<T: Drop, F: Format>(
     }
 }
 
-/// The error of a member that is there twice, or unknown.
+/// The error of a member that is repeated or unknown.
 fn unexpected<F: Format>(
     from: &Deserializer<'_, '_, F>,
     names: &[Name<'_>],
@@ -74,7 +75,7 @@ fn unexpected<F: Format>(
     }
 }
 
-/// What a row is read into.
+/// A value that a row is read into.
 trait Row: Sized + Drop {
     fn read<F: Format>(alloc: Global, from: &mut Deserializer<'_, '_, F>) -> Result<Self, F::Error>;
 }
@@ -232,8 +233,8 @@ impl Row for Place {
 /// The most members of a row.
 const MOST: usize = 8;
 
-/// The members of a row, in the order of its names: numbers, and for a kind its place among the kinds. There is no number
-/// where a member is missing or null.
+/// The members of a row, in the order of its names: numbers, and for a kind its place among the kinds. A member that is
+/// missing or null has no number.
 #[derive(Clone, Copy)]
 struct Members<'n> {
     names: &'n [Name<'n>],
@@ -248,7 +249,7 @@ impl<'n> Members<'n> {
         }
     }
 
-    /// The members of a row that has numbers and kinds alone.
+    /// Reads the members of a row that has only numbers and kinds.
     fn read<F: Format>(
         names: &'n [Name<'n>],
         from: &mut Deserializer<'_, '_, F>,
@@ -279,7 +280,7 @@ impl<'n> Members<'n> {
         }
     }
 
-    /// A number that has to be there.
+    /// A number that must be there.
     fn wide<F: Format>(&self, from: &Deserializer<'_, '_, F>, at: usize) -> Result<u128, F::Error> {
         match (self.numbers.get(at), self.names.get(at)) {
             (Some(Some(number)), _) => Ok(*number),
@@ -317,7 +318,7 @@ impl<'n> Members<'n> {
     }
 }
 
-/// A number, or the place of a kind; none where it is null.
+/// A number, or the place of a kind; `None` where it is null.
 fn member<F: Format>(
     from: &mut Deserializer<'_, '_, F>,
     is_kind: bool,

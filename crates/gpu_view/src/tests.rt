@@ -14,7 +14,7 @@ const REPORT: &str = concat!(
     r#"{"key":null,"user":null,"offset":1024,"size":7168}]}]}"#,
 );
 
-/// What is written of them.
+/// The texts in its picture.
 const WRITTEN: [&str; 4] = [
     "fill=\"url(#fitted)\"><title>fit chunks, type 0: 8192 bytes</title>",
     ">fit chunks: 1 object, 1 block, 1 KiB live, 7 KiB free (largest 7 KiB, scattered 0.0 %)<",

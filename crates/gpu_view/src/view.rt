@@ -11,7 +11,7 @@ use gpu_script_language::{Script, Stop, open, parse, parse_usable, read_all};
 use std::alloc::{AllocError, Global};
 use std::io::Read;
 
-/// What is wanted of the script that a reader gives. `Stop` tells why a script has no replies either.
+/// The output for the script that a reader gives. `Stop` says why there is none.
 pub(crate) fn view<R: Read>(alloc: Global, input: &mut R, wanted: Wanted) -> Result<String, Stop> {
     let text = read_all(alloc, input)?;
     let script = parse_usable(alloc, text.as_slice())?;
@@ -31,7 +31,7 @@ pub(crate) fn view<R: Read>(alloc: Global, input: &mut R, wanted: Wanted) -> Res
     Ok(picture(alloc, &report, types, heading.as_str())?)
 }
 
-/// The first lines of a text, as many as are asked for or as it has.
+/// The first lines of a text: `count`, or as many as it has.
 fn lines(text: &[u8], count: u64) -> &[u8] {
     let mut left = count;
     for (index, byte) in text.iter().enumerate() {
@@ -45,7 +45,7 @@ fn lines(text: &[u8], count: u64) -> &[u8] {
     text
 }
 
-/// What is held after a script's first commands, so many of them or all.
+/// What is held after a script's first `count` commands.
 fn report_of(alloc: Global, script: &Script<Global>, count: usize) -> Result<Report, AllocError>
     requires usable { IsUsable (offered script.now.setup) }
 {
@@ -60,7 +60,7 @@ fn report_of(alloc: Global, script: &Script<Global>, count: usize) -> Result<Rep
 
 /// A report as JSON.
 fn json(alloc: Global, report: &Report) -> Result<String, Stop> {
-    // Nothing but memory can be wanting: a report has no key that is not a text, and no depth.
+    // Only memory can be missing: a report has no key that is not a text, and no depth.
     let Ok(mut text) = serde_json::to_string_pretty(alloc, report) else {
         return Err(Stop::Memory);
     };

@@ -1,6 +1,6 @@
-//! What the program is asked for.
+//! What the program's words ask for.
 
-/// What is made.
+/// The form of the output.
 #[derive(Clone, Copy, Debug, PartialEq, Eq)]
 pub enum Form {
     /// The report of a script, as JSON.
@@ -13,10 +13,10 @@ pub enum Form {
     Dump,
 }
 
-/// What is made, and of a script after which of its lines, if not after all.
+/// The form of the output, and for a script the last line that counts, if not all do.
 #[derive(Clone, Copy, Debug, PartialEq, Eq)]
 pub struct Wanted {
-    /// What is made.
+    /// The form of the output.
     pub form: Form,
 
     /// How many lines count: the commands on later ones are not run.
@@ -24,7 +24,7 @@ pub struct Wanted {
 }
 
 impl Wanted {
-    /// What these words ask for: `report` or `picture`, and behind it nothing, or `--after` and a number; or `dump`.
+    /// What these words ask for: `report` or `picture`, and after it nothing, or `--after` and a number; or `dump`.
     pub(crate) fn of(words: &[String]) -> Option<Wanted> {
         let (form, after) = match words {
             [form] => (form, None),

@@ -1,4 +1,4 @@
-//! What the picture says, and in which colours.
+//! The picture's texts and colours.
 
 use gpu_alloc::MemoryPropertyFlags;
 use gpu_report::{ObjectKind, Place};
@@ -13,7 +13,7 @@ pub const KINDS: [ObjectKind; 5] = [
     ObjectKind::FitChunk,
 ];
 
-/// The properties of memory types that are told, by name.
+/// The properties of memory types that are shown, by name.
 pub const PROPERTIES: [(MemoryPropertyFlags, &str); 6] = [
     (MemoryPropertyFlags::DEVICE_LOCAL, "device-local"),
     (MemoryPropertyFlags::HOST_VISIBLE, "host-visible"),
@@ -23,8 +23,8 @@ pub const PROPERTIES: [(MemoryPropertyFlags, &str); 6] = [
     (MemoryPropertyFlags::PROTECTED, "protected"),
 ];
 
-/// The hatching of imported blocks, the dots of those of free lists and the stripes of those of fit chunks, over colours
-/// that the colour-blind tell apart, as dark blue and orange are; so each kind differs in print too.
+/// The hatching of imported blocks, the dots of blocks of free lists and the stripes of blocks of fit chunks. They lie
+/// over colours that the colour-blind can tell apart, such as dark blue and orange; so each kind differs in print too.
 pub const PATTERNS: &str = "\
 <defs>\
 <pattern id=\"imported\" width=\"6\" height=\"6\" patternUnits=\"userSpaceOnUse\" patternTransform=\"rotate(45)\">\
@@ -35,7 +35,7 @@ pub const PATTERNS: &str = "\
 <rect width=\"4\" height=\"4\" fill=\"#56b4e9\"/><rect width=\"4\" height=\"1\" fill=\"#e3f3fc\"/></pattern>\
 </defs>\n";
 
-/// What is said below the picture.
+/// The note below the picture.
 pub const NOTE: &str = "Rows are to scale, but each range is long enough to be seen. \
 On hovering a block tells its name, offset, size and type.";
 
@@ -53,7 +53,7 @@ pub(crate) fn fill(kind: ObjectKind) -> &'static str {
     }
 }
 
-/// How a block's name is written on it, so that it is read on the pattern too.
+/// How a block's name is written on it, so that it can be read on the pattern too.
 pub(crate) fn ink(kind: ObjectKind) -> &'static str {
     match kind {
         ObjectKind::Dedicated => "fill=\"#fff\"",
@@ -64,7 +64,7 @@ pub(crate) fn ink(kind: ObjectKind) -> &'static str {
     }
 }
 
-/// What a kind's objects are called.
+/// The name of a kind's objects.
 pub(crate) fn name(kind: ObjectKind) -> &'static str {
     match kind {
         ObjectKind::Dedicated => "dedicated",
@@ -75,7 +75,7 @@ pub(crate) fn name(kind: ObjectKind) -> &'static str {
     }
 }
 
-/// How many of something there are.
+/// A count of something.
 #[derive(Clone, Copy)]
 pub struct Count(pub u64, pub &'static str);
 
@@ -90,7 +90,7 @@ impl fmt::Display for Count {
     }
 }
 
-/// A number of bytes, in the largest unit of which there is one, with a tenth where it isn't whole.
+/// A number of bytes, in the largest unit that fits, with one decimal where it isn't whole.
 #[derive(Clone, Copy, Default)]
 pub struct Amount(pub u128);
 
@@ -127,7 +127,7 @@ impl fmt::Display for Share {
     }
 }
 
-/// What is said of a range on hovering.
+/// The title of a range on hovering.
 #[derive(Clone, Copy)]
 pub enum Title {
     /// A live block or free bytes, in an object of this memory type.

@@ -1,4 +1,4 @@
--- What a request of C comes to, by whether it may be served from what is held alone.
+-- How a request of C ends, by whether it may be served only from what is held.
 use Rattle.std.specs.Prelude.{List, map, MatchBool}
 use Rattle.gpu_desk.specs.Calls.{Allocated, AllocatedHeld, AllocationDenied, HeldDenied}
 use Rattle.gpu_desk.specs.Desk.{DeskState}
@@ -14,7 +14,7 @@ IsAllocated r asked b old new =
     MatchBool (is_held_only r) (AllocatedHeld old (request_of r) (wish_of r) new (grant_of b))
     (Allocated old (request_of r) (wish_of r) (map answered_of asked) new (grant_of b))
 
--- it is denied so
+-- it is denied for this reason
 abbrev pub IsDenied : Request → List Question → DeskState → Denial → Type 0
 IsDenied r asked s d =
     MatchBool (is_held_only r) (HeldDenied s (request_of r) (wish_of r) d)

@@ -1,4 +1,4 @@
--- Which memory types are told for a usage.
+-- Which memory types are listed for a usage.
 use Rattle.std.specs.Prelude.{◌≡◌, ℕ, Bool, List, length, take}
 use Rattle.gpu_alloc_types.specs.Flags.{usage_bits}
 use Rattle.gpu_alloc_types.specs.declared.usage_flags.UsageFlags.{UsageFlags}
@@ -18,6 +18,6 @@ candidates_for s usage permitted = candidates s.allocator.properties.memory_type
 abbrev pub needs_feature : DeskState → ℕ → Bool
 needs_feature s usage = lacks_address s (usage_of usage)
 
--- the memory types are told in their order, as many as there is room for
+-- the memory types are written in their order, as many as there is room for
 abbrev pub AreListed : List ℕ → List ℕ → Type 0
 AreListed found told = take (length found) told ≡ take (length told) found

@@ -9,14 +9,14 @@ use Rattle.wallthyme.specs.declared.handle.Handle.{Handle}
 abbrev pub desk_of : Handle → Option DeskState
 desk_of handle = handle.seal.desk
 
--- the two desks are so related, or there is none before and none after
+-- the two desks are related so, or there is none before and none after
 abbrev pub Relates : (DeskState → DeskState → Type 0) → Option DeskState → Option DeskState → Type 0
 Relates R None None = Unit {0}
 Relates R None (Some new) = ⊥
 Relates R (Some old) None = ⊥
 Relates R (Some old) (Some new) = R old new
 
--- a handle was open and still is, and its desks before and after are so related; or it was closed and still is
+-- a handle was open and still is, and its desks before and after are related so; or it was closed and still is
 abbrev pub OnDesks : (DeskState → DeskState → Type 0) → Handle → Handle → Type 0
 OnDesks R old new = Relates R (desk_of old) (desk_of new)
 
@@ -24,7 +24,7 @@ OnDesks R old new = Relates R (desk_of old) (desk_of new)
 abbrev pub NoBlock : DeskState → ℕ → Type 0
 NoBlock s key = map.get s.blocks.live key ≡ None
 
--- what was given stays given, live blocks are memory of their own, and no name of an object comes twice
+-- what was given stays, live blocks share no memory, and no name of an object comes twice
 pub record KeepsSound (old new : DeskState) : Type 0 where
   pub keeps : Keeps old new
   pub sound : IsSound new

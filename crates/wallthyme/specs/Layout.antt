@@ -1,4 +1,4 @@
--- What the structs of C stand for.
+-- What the structs of C mean.
 use Rattle.std.specs.Prelude.{◌+◌, ◌-◌, ◌*◌, ◌^◌, ◌==◌, ◌&&◌, ℕ, Bool, not, nat_lt, List, map, Option, Some, None, bit_and, if◌then◌else◌}
 use Rattle.gpu_alloc_base.specs.declared.config.Config as desk_config
 use Rattle.gpu_alloc_types.specs.Flags.{has_bit, named_property_bits}
@@ -32,9 +32,9 @@ use Rattle.wallthyme.specs.declared.layout.Question.{Question}
 use Rattle.wallthyme.specs.declared.layout.Range.{Range}
 use Rattle.wallthyme.specs.declared.layout.Request.{Request}
 
--- What C hands over.
+-- What C passes in.
 
--- a memory type, without the property bits that have no name
+-- a memory type, without its unnamed property bits
 abbrev pub memory_type_of : MemoryType → desk_type.MemoryType
 memory_type_of t = record { heap = t.heap; props = record { bits = bit_and t.props named_property_bits } }
 
@@ -78,11 +78,11 @@ request_of r = record {
 abbrev pub hint_of : ℕ → Option Dedicated
 hint_of n = if n == number.SHARED then None else (if n == number.PREFERRED then Some Preferred else Some Required)
 
--- a request's wish, where its flags are those below; any others are refused
+-- a request's wish, where its flags are valid; any others are refused
 abbrev pub wish_of : Request → Wish
 wish_of r = record { dedicated = hint_of r.dedicated; optimal = has_bit r.flags number.OPTIMAL; user = r.user }
 
--- it may be served from what is held alone
+-- it may be served only from what is held
 abbrev pub is_held_only : Request → Bool
 is_held_only r = has_bit r.flags number.HELD_ONLY
 
@@ -90,7 +90,7 @@ is_held_only r = has_bit r.flags number.HELD_ONLY
 abbrev pub desk_flags_of : Question → ℕ
 desk_flags_of q = if nat_lt q.flags number.ALLOCATE_OWN then q.flags else q.flags - number.ALLOCATE_OWN
 
--- the question is for an object that will hold the request's block alone
+-- the question is for an object that will hold only the request's block
 abbrev pub is_own : Question → Bool
 is_own q = q.kind == number.ALLOCATE && not (nat_lt q.flags number.ALLOCATE_OWN)
 
@@ -110,7 +110,7 @@ answer_of n =
 abbrev pub answered_of : Question → Answered
 answered_of q = record { question = question_of q; answer = answer_of q.answer }
 
--- What C is told.
+-- What C gets back.
 
 abbrev pub grant_of : Block → Grant
 grant_of b = record {
@@ -128,7 +128,7 @@ grant_of b = record {
 abbrev pub range_of : Range → ObjectRange
 range_of r = record { object = r.object; offset = r.offset; size = r.size }
 
--- a free range, as C is told it
+-- a free range, as C gets it
 abbrev pub free_range_of : FreeRange → Range
 free_range_of r = record { object = r.object; offset = r.start; size = r.end - r.start }
 

@@ -1,4 +1,4 @@
--- What C hands over that a desk has no word for.
+-- Invalid values from C, which a desk cannot represent.
 use Rattle.std.specs.Prelude.{◌≡◌, ◌≢◌, ◌⊎◌, ◌==◌, ◌+◌, ◌<◌, ◌≤◌, ◌&&◌, ◌||◌, ℕ, Bool, true, false, nat_lt, IsTrue, List, All, Any}
 use Rattle.gpu_alloc_types.specs.Flags.{has_all_bits, named_usage_bits}
 use Rattle.wallthyme.specs.declared.layout.TheConstants as number
@@ -7,11 +7,11 @@ use Rattle.wallthyme.specs.declared.layout.Question.{Question}
 use Rattle.wallthyme.specs.declared.layout.Request.{Request}
 use Rattle.wallthyme.specs.declared.status.TheConstants as status
 
--- each usage bit has a name
+-- each usage bit is named
 abbrev pub IsUsage : ℕ → Type 0
 IsUsage bits = IsTrue (has_all_bits named_usage_bits bits)
 
--- it says how requests share objects
+-- the number is a way to share objects
 abbrev pub IsSharing : ℕ → Type 0
 IsSharing n = n ≤ number.FIT
 
@@ -19,40 +19,40 @@ IsSharing n = n ≤ number.FIT
 abbrev pub all_flags : ℕ
 all_flags = number.OPTIMAL + number.HELD_ONLY
 
--- the request has bits or a hint without a name, and the status says which: of usage, hint and flags the first
+-- the request has an invalid usage, hint or flag, and the status names the first in this order
 abbrev pub IsUnnamed : Request → ℕ → Type 0
 IsUnnamed r told =
     ((told ≡ status.BAD_USAGE) × (IsUsage r.usage → ⊥))
     ⊎ (((told ≡ status.BAD_DEDICATED) × (IsUsage r.usage × (number.REQUIRED < r.dedicated)))
     ⊎ ((told ≡ status.BAD_FLAGS) × (IsUsage r.usage × ((r.dedicated ≤ number.REQUIRED) × (all_flags < r.flags)))))
 
--- there is such a question
+-- it is a valid question
 abbrev pub is_question : Question → Bool
 is_question q = (q.kind == number.ALLOCATE && nat_lt q.flags 512) || (q.kind == number.MAP_MADE || q.kind == number.MAP)
 
--- and such an answer
+-- its answer is valid
 abbrev pub is_answered : Question → Bool
 is_answered q = is_question q && nat_lt q.answer 4
 
 abbrev pub HasNoAnswer : List Question → Type 0
 HasNoAnswer asked = Any (λ q. is_answered q ≡ false) asked
 
--- each usage bit has a name, the hint is one of the three, and no flag has no name
+-- each usage bit is named, the hint is one of the three, and each flag is named
 pub record HasNames (r : Request) : Type 0 where
   pub usage : IsUsage r.usage
   pub hint : r.dedicated ≤ number.REQUIRED
   pub flags : r.flags ≤ all_flags
 
--- each is a question with an answer
+-- each is a valid question with a valid answer
 abbrev pub AreAnswered : List Question → Type 0
 AreAnswered asked = All (λ q. is_answered q ≡ true) asked
 
--- the request and its answers are some
+-- the request and its answers are valid
 pub record IsWellFormed (r : Request) (asked : List Question) : Type 0 where
   pub request : HasNames r
   pub answers : AreAnswered asked
 
--- a question as it is told: one that nobody answered, with 0 wherever it has nothing to tell
+-- a question as C gets it: unanswered, with 0 in every field that it does not use
 pub record IsAsked (q : Question) : Type 0 where
   pub question : is_question q ≡ true
   pub unanswered : q.answer ≡ number.UNANSWERED
@@ -61,11 +61,11 @@ pub record IsAsked (q : Question) : Type 0 where
   pub memory_type : q.kind ≢ number.ALLOCATE → q.memory_type ≡ 0
   pub flags : q.kind ≢ number.ALLOCATE → q.flags ≡ 0
 
--- the request or, where that is one, its answers are none, and the status says which
+-- the request is invalid, or else one of its answers, and the status says which
 abbrev pub IsMalformed : Request → List Question → ℕ → Type 0
 IsMalformed r asked told = IsUnnamed r told ⊎ ((told ≡ status.BAD_ANSWER) × (HasNames r × HasNoAnswer asked))
 
--- a block as it is told: fresh or not, optimal or not, and nothing else
+-- a block as C gets it: fresh or not, optimal or not, and nothing else
 pub record HasFlags (b : Block) : Type 0 where
   pub fresh : b.fresh ≤ 1
   pub flags : b.flags ≤ number.OPTIMAL

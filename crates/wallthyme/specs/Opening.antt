@@ -7,14 +7,14 @@ use Rattle.gpu_alloc.specs.Opening.{opened_by}
 use Rattle.gpu_alloc_block.specs.declared.sharing.Sharing.{Sharing}
 use Rattle.gpu_desk.specs.Desk.{DeskState, IsEmpty, page_of}
 
--- a desk for such a device, of this granularity of buffers and images, whose requests share objects so, with nothing held
+-- a desk with nothing held, for this device, with this granularity of buffers and images and this way to share objects
 pub record IsOpened (sharing : Sharing) (config : Config) (properties : Properties) (granularity : ℕ) (s : DeskState)
     : Type 0 where
   pub allocator : s.allocator ≡ opened_by sharing config properties
   pub page : s.granularity ≡ page_of granularity
   pub empty : IsEmpty s
 
--- no block is live, no object is held, and each name of an object that went was read
+-- no block is live, no object is held, and each name of a released object was read
 pub record HasNothing (s : DeskState) : Type 0 where
   pub blocks : map.len s.blocks.live ≡ 0
   pub held : map.len s.allocator.held ≡ 0

@@ -1,4 +1,4 @@
--- What is told of all that is held.
+-- What the reports of all that is held contain.
 use Rattle.std.specs.Prelude.{◌≡◌, ℕ, ◌+◌, ◌*◌, ◌^◌, List}
 use Rattle.gpu_desk.specs.Desk.{DeskState}
 use Rattle.gpu_report.specs.DeskReport.{IsDeskReport, user_of}
@@ -11,7 +11,7 @@ use Rattle.gpu_report.specs.declared.statistics.Statistics.{Statistics}
 use Rattle.wallthyme.specs.declared.layout.KindStatistics.{KindStatistics}
 use Rattle.wallthyme.specs.declared.layout.TypeStatistics.{TypeStatistics}
 
--- the sums of a kind, as C is told them
+-- the sums of a kind, as C gets them
 pub record AreKindSums (k : KindReport) (c : KindStatistics) : Type 0 where
   pub objects : c.objects ≡ k.objects
   pub blocks : c.blocks ≡ k.live_blocks
@@ -27,11 +27,11 @@ pub record AreTypeSums (s : Statistics) (c : TypeStatistics) : Type 0 where
   pub free_list : AreKindSums s.free_list c.free_list
   pub fit : AreKindSums s.fit c.fit
 
--- what the desk holds of a memory type is told
+-- the statistics are those of what the desk holds of a memory type
 abbrev pub SumsUp : DeskState → (memory_type : ℕ) → TypeStatistics → Type 0
 SumsUp s t told = (a : Statistics) × AreStatistics s.allocator t a × AreTypeSums a told
 
--- a report of the desk was written, as much of it as there was room for, and that is its length
+-- a report of the desk was written, as much of it as there was room for, and the number is its length
 unfoldable pub Reports : DeskState → (before now : List ℕ) → ℕ → Type 0
 Reports s before now at =
     (r : Report) × IsDeskReport s r × IsWritten (report_text (user_of s) s.allocator.properties.memory_types r) before now at

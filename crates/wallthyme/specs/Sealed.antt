@@ -1,4 +1,4 @@
--- What a seal owns: the same as a box of its desk, where it has one, and else nothing.
+-- What a seal owns: the same as a box of its desk, if it has one, and otherwise nothing.
 use base.Fml.{Fml, ftrue}
 use base.Stored.{Coded}
 use denote.RawPtr.{Ptr}

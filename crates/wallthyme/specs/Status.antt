@@ -58,10 +58,10 @@ status_of_opening OutOfHostMemory = status.OUT_OF_HOST_MEMORY
 abbrev pub IsQuestionOf : Denial → Question → Type 0
 IsQuestionOf d q = (own : Bool) × (d ≡ Open (question_of q) own) × (q.kind ≡ number.ALLOCATE → own ≡ is_own q)
 
--- a denial which is so leaves the question open
+-- such a denial leaves the question open
 abbrev pub Asks : (Denial → Type 0) → Question → Type 0
 Asks P q = (d : Denial) × P d × IsQuestionOf d q
 
--- the status is that of a denial which is so
+-- the status is that of such a denial
 abbrev pub Denies : (Denial → Type 0) → ℕ → Type 0
 Denies P status = (d : Denial) × P d × (status ≡ status_of d)

@@ -9,8 +9,8 @@ use crate::layout;
 use crate::status::{ASK, BAD_ANSWER, NOT_OPEN, OK, OUT_OF_HOST_MEMORY, denied};
 use gpu_desk::{Answered, Denial};
 
-/// Reads the answers that C gave so far into `answers`, or tells the status of one that is none. It takes memory where
-/// there are more than ever before.
+/// Reads C's answers so far into `answers`, or returns the status of an invalid one. It takes memory only when there
+/// are more answers than ever before.
 #[inline(always)]
 pub(crate) fn answers_of(answers: &mut Vec<Answered>, asked: &[layout::Question]) -> Result<(), u32>
     ensures answers { OnOk result (answers.new.items ≡ map answered_of asked.now) }
@@ -28,7 +28,7 @@ pub(crate) fn answers_of(answers: &mut Vec<Answered>, asked: &[layout::Question]
     read_answers(answers, asked)
 }
 
-/// The same of some answers. (It stands apart, so that a call with none does not pay for it.)
+/// The same of at least one answer. (It stands apart so that a call without answers does not pay for it.)
 #[inline(never)]
 fn read_answers(answers: &mut Vec<Answered>, asked: &[layout::Question]) -> Result<(), u32>
     ensures answers { OnOk result (answers.new.items ≡ map answered_of asked.now) }
@@ -51,7 +51,7 @@ fn read_answers(answers: &mut Vec<Answered>, asked: &[layout::Question]) -> Resu
     Ok(())
 }
 
-/// The status of what a desk denies. A question that has no answer yet is told.
+/// The status of a desk's denial. For an open question it also writes the question.
 pub(crate) fn denied_or_asked(denial: Denial, question: &mut layout::Question) -> u32
     ensures status { result ≡ status_of denial }
     ensures unanswered { result ≡ ASK → IsAsked question.new }

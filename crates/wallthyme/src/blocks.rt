@@ -1,4 +1,4 @@
-//! The calls that give blocks out and take them back.
+//! The calls that allocate, import and free blocks.
 
 ghost use Rattle.std.specs.Prelude.{◌≡◌, ◌≢◌, ◌↔◌, ◌⊎◌, ◌<◌, IsNone, length, true};
 ghost use Rattle.gpu_desk.specs.Calls.{AllocatedHeld, HeldDenied, ImportDenied, Imported, IsAsBefore, Keeps, Returns, SetsUser, Told};
@@ -101,7 +101,7 @@ fn allocate(
     }
 }
 
-/// Serves a request from what is held alone.
+/// Serves a request only from what is held.
 fn allocate_held(desk: &mut Desk, request: Request, wish: Wish, block: &mut layout::Block) -> u32
     ensures is_open { result ≢ NOT_OPEN }
     ensures granted { result ≡ OK → AllocatedHeld desk.old request wish desk.new (grant_of block.new) }

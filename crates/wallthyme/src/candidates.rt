@@ -1,4 +1,4 @@
-//! The call that says which memory types would serve.
+//! The call that lists the memory types that would serve a usage.
 
 ghost use Rattle.std.specs.Prelude.{◌≡◌, ◌≢◌, ◌↔◌, ◌⊎◌, IsNone, false, length, true};
 ghost use Rattle.wallthyme.specs.Candidates.{AreListed, candidates_for, needs_feature};
@@ -51,7 +51,7 @@ pub extern "C" fn wt_candidates(
     }
 }
 
-/// Tells memory types, as many as fit in.
+/// Writes memory types to C's array, as many as fit.
 fn tell_types(found: &[u32], types: &mut [u32])
     ensures { AreListed found.now types.new }
 {

@@ -6,9 +6,9 @@ use crate::kept::KeptDesk;
 use crate::seal::Seal;
 use std::alloc::Global;
 
-/// A desk or none, in memory of C's own: `wt_allocator`. It is open while there is one.
+/// A desk or none, in memory of C's own: `wt_allocator`. It is open while it has a desk.
 ///
-/// C begins it as zeros, which is closed. From then on only the exports write it, one at a time, and C copies it nowhere
+/// C starts it as zeros, which is closed. From then on only the exports write it, one at a time, and C does not copy it
 /// while it is open.
 #[repr(C)]
 #[derive(Drop)]
@@ -37,7 +37,7 @@ impl Handle {
         self.full == 1
     }
 
-    /// Takes the desk out, where there is one. Between this and [`put`](Handle::put) the handle is closed.
+    /// Takes the desk out, if there is one. Until [`put`](Handle::put) the handle is closed.
     pub(crate) fn take(&mut self, alloc: Global) -> Option<Box<KeptDesk>>
         ensures taken { MatchOption result (IsNone (desk_of self.old)) (λ desk. desk_of self.old ≡ Some desk.value) }
         ensures closed { IsNone (desk_of self.new) }
@@ -49,7 +49,7 @@ impl Handle {
         Some(seal.into_box())
     }
 
-    /// Puts a desk in, where there is none.
+    /// Puts a desk in. The handle must have none.
     pub(crate) fn put(&mut self, desk: Box<KeptDesk>)
         requires { IsNone (desk_of self.old) }
         ensures held { desk_of self.new ≡ Some desk.value }
@@ -64,6 +64,6 @@ impl Handle {
     }
 }
 
-/// Nothing is done: the bound asks for a proof that what lies behind a handle may change threads. So a call may be made on
-/// another thread than the one before it, as `c/wallthyme.h` says.
+/// Does nothing: its bound demands a proof that what lies behind a handle may change threads. So each call may be made
+/// on another thread than the one before it, as `c/wallthyme.h` says.
 fn may_change_threads<T: Send>(_desk: &T) {}

@@ -1,4 +1,4 @@
-//! A desk that may be sealed.
+//! A desk that may be dropped by the compiler, between calls.
 
 ghost use Rattle.std.specs.Prelude.{◌≡◌};
 
@@ -7,15 +7,15 @@ use std::alloc::Global;
 use std::marker::Model;
 use std::mem::ManuallyDrop;
 
-/// A desk that may be left lying where nobody sees it, seen in contracts as the desk.
+/// A desk that the compiler may drop, seen in contracts as the desk.
 ///
-/// A desk has to be closed, so that no object is forgotten. But between two calls from C it lies behind a pointer, and
-/// what does so has to be droppable.
+/// A desk must be closed, so that no object is forgotten. But between two calls from C it lies behind a pointer, and
+/// whatever lies there must be droppable.
 #[derive(Drop)]
 pub(crate) struct KeptDesk {
     pub(crate) desk: ManuallyDrop<Desk>,
 
-    /// The answers of a call, kept for their memory alone.
+    /// The answers of a call, kept only for their memory.
     pub(crate) answers: Vec<Answered>,
 }
 
@@ -34,8 +34,8 @@ impl KeptDesk {
     pub(crate) fn new(alloc: Global, desk: Desk) -> KeptDesk
         ensures { result ≡ desk }
     {
-        // What is wrapped has to be closed all the same. Both places that let a kept desk go do so: `wt_close`, and
-        // `wt_open` where it finds no memory.
+        // What is wrapped must still be closed. Both places that drop a kept desk do so: `wt_close`, and `wt_open`
+        // where it finds no memory.
         let desk = unsafe { ManuallyDrop::new_unchecked(desk) };
         KeptDesk {
             desk,

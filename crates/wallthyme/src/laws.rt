@@ -1,4 +1,4 @@
-//! Laws of any calls, over the definitions alone. The functions do nothing.
+//! Laws of any calls, over the definitions alone. The functions are lemmas: they do nothing at run time.
 
 ghost use Rattle.std.specs.Prelude.{ℕ, List, All};
 ghost use Rattle.gpu_desk.specs.Desk.{DeskState};
@@ -7,9 +7,9 @@ ghost use Rattle.wallthyme.specs.Walk.{Page, WalksInPages, keys_in, states_in};
 
 use gpu_desk::laws::a_walk_meets_each_block_once;
 
-/// A whole walk by `wt_blocks`, from 0 on and each call with the last key of the one before, tells each block exactly once
-/// that lives all along, and none that lives at none of its calls, whatever calls are made between. So it tells exactly
-/// the live blocks where nothing changes meanwhile.
+/// A whole walk by `wt_blocks` starts from 0, and each call goes on with the last key of the one before. It writes each
+/// block that lives all along exactly once, and no block that is live at none of its calls, whatever calls are made
+/// between. So where nothing changes meanwhile, it writes exactly the live blocks.
 pub fn a_walk_in_pages_tells_each_block_once()
     ensures once { (pages : List Page) (last : DeskState) → WalksInPages 0 pages last → (key : ℕ)
         → All (IsLiveKey key) (states_in pages last) → ComesOnce (keys_in pages) key }

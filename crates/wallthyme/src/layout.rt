@@ -1,4 +1,4 @@
-//! The structs of `c/wallthyme.h`, field for field, and what they are to a desk.
+//! The structs of `c/wallthyme.h`, field for field, and what they mean to a desk.
 
 ghost use Rattle.std.specs.Prelude.{◌≡◌, ◌≢◌, None, true, false, IfErr, IfOk, OnOk, IfSome};
 ghost use Rattle.wallthyme.specs.Candidates.{usage_of as usage_with};
@@ -12,37 +12,37 @@ use gpu_desk::{
 };
 use gpu_report::{KindReport, Statistics};
 
-/// The property bits that have a name.
+/// The named property bits.
 const NAMED_PROPERTIES: u32 = 0x3f;
 
-/// A [`Question::kind`]: to make an object.
+/// A [`Question::kind`]: allocate an object.
 pub(crate) const ALLOCATE: u32 = 1;
 
-/// A [`Question::kind`]: to map a range of the object that was made last.
+/// A [`Question::kind`]: map a range of the object that was made last.
 pub(crate) const MAP_MADE: u32 = 2;
 
-/// A [`Question::kind`]: to map a range of another object.
+/// A [`Question::kind`]: map a range of another object.
 pub(crate) const MAP: u32 = 3;
 
-/// A [`Question::answer`]: it was done.
+/// A [`Question::answer`]: done.
 pub(crate) const GRANTED: u32 = 0;
 
 /// A [`Question::answer`]: the device's memory is exhausted.
 pub(crate) const NO_DEVICE_MEMORY: u32 = 1;
 
-/// A [`Question::answer`]: the host's memory is exhausted.
+/// A [`Question::answer`]: host memory is exhausted.
 pub(crate) const NO_HOST_MEMORY: u32 = 2;
 
 /// A [`Question::answer`]: the mapping failed for a reason of the device's own.
 pub(crate) const DEVICE_MAP_FAILED: u32 = 3;
 
-/// What stands in [`Question::answer`] before C writes it. Handed back so, the question is refused.
+/// The value of [`Question::answer`] until C writes it. A question that comes back with it is refused.
 const UNANSWERED: u32 = u32::MAX;
 
 /// A [`Request::dedicated`]: the block may share its object.
 pub(crate) const SHARED: u32 = 0;
 
-/// A [`Request::dedicated`]: the block would gain by an object of its own.
+/// A [`Request::dedicated`]: the block would gain from an object of its own.
 pub(crate) const PREFERRED: u32 = 1;
 
 /// A [`Request::dedicated`]: the block must have an object of its own.
@@ -54,11 +54,11 @@ pub(crate) const BUDDY: u64 = 0;
 /// A [`Config::sharing`]: requests share fit chunks.
 pub(crate) const FIT: u64 = 1;
 
-/// A bit of [`Question::flags`] of an object to make: it will hold the request's block alone. It stands above the bits of
-/// the desk's flags.
+/// A bit of [`Question::flags`] of an object to allocate: it will hold only the request's block. It stands above the
+/// bits of the desk's flags.
 pub(crate) const ALLOCATE_OWN: u32 = 0x100;
 
-/// A bit of [`Request::flags`], and the one of [`Block::flags`]: the block is for an optimal resource.
+/// A bit of [`Request::flags`], and the only one of [`Block::flags`]: the block is for an optimal resource.
 pub(crate) const OPTIMAL: u32 = 1;
 
 /// A bit of [`Request::flags`]: the device is asked for nothing.
@@ -236,7 +236,7 @@ pub(crate) fn sharing_of(number: u64) -> Option<Sharing>
     }
 }
 
-/// The usage of these bits, if each of them has a name.
+/// The usage of these bits, if each of them is named.
 pub(crate) fn usage_of(bits: u32) -> Option<UsageFlags>
     ensures usage { IfSome result (λ usage. usage ≡ usage_with bits) }
     ensures some { result ≢ None → IsUsage bits }
@@ -252,8 +252,7 @@ impl Request {
     ghost use Rattle.wallthyme.specs.Layout.{is_held_only, request_of, wish_of};
     ghost use Rattle.wallthyme.specs.Malformed.{HasNames, IsUnnamed};
 
-    /// What is asked of the desk, with the wish, or the status of bits and hints that it has no word for: of the first of
-    /// usage, hint and flags that has one.
+    /// The desk's request and wish, or the status of the first invalid field: of usage, hint and flags, in this order.
     pub(crate) fn to_parts(self) -> Result<(gpu_desk::Request, Wish), u32>
         ensures request { IfOk result (λ parts. parts.0 ≡ request_of self) }
         ensures wish { IfOk result (λ parts. parts.1 ≡ wish_of self) }
@@ -289,7 +288,7 @@ impl Request {
         Ok((request, wish))
     }
 
-    /// Whether it may be served from what is held alone.
+    /// Whether it may be served only from what is held.
     pub(crate) fn is_held_only(&self) -> bool
         ensures { result ≡ is_held_only self.now }
     {
@@ -302,7 +301,7 @@ impl Question {
     ghost use Rattle.wallthyme.specs.Layout.{answered_of, desk_flags_of, is_own, question_of};
     ghost use Rattle.wallthyme.specs.Malformed.{IsAsked, is_answered, is_question};
 
-    /// A question as C is told it, with whether the object to make will hold the request's block alone.
+    /// A question as C sees it; `own` says whether the object to allocate will hold only the request's block.
     pub(crate) fn asked(question: gpu_desk::Question, own: bool) -> Question
         ensures question { question_of result ≡ question }
         ensures asked { IsAsked result }
@@ -339,7 +338,7 @@ impl Question {
         }
     }
 
-    /// The question and its answer, if it is one and has one.
+    /// The question and its answer, if both are valid.
     pub(crate) fn to_answered(self) -> Option<Answered>
         ensures answered { IfSome result (λ answered. answered ≡ answered_of self) }
         ensures some { result ≢ None → is_answered self ≡ true }
@@ -380,7 +379,7 @@ impl Question {
         }
     }
 
-    /// The desk's flags of an object to make, if no bit is set but theirs and [`ALLOCATE_OWN`].
+    /// The desk's flags of an object to allocate, if no other bit is set than theirs and [`ALLOCATE_OWN`].
     fn desk_flags(self) -> Option<u8>
         ensures flags { IfSome result (λ flags. flags ≡ desk_flags_of self) }
         ensures some { result ≢ None → nat_lt self.flags 512 ≡ true }

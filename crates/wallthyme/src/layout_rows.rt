@@ -1,4 +1,4 @@
-//! Sizes, offsets and constants as the library has them, for the test that compares the header's with them.
+//! Sizes, offsets and constants as the library has them, for the test that compares the header with them.
 
 use crate::handle::Handle;
 use crate::layout::{
@@ -11,13 +11,13 @@ use crate::status;
 use gpu_alloc_types::AllocationFlags;
 use gpu_desk::{MemoryPropertyFlags, UsageFlags};
 
-/// The most questions that one call asks: an object of each of 32 memory types, and its mapping.
+/// The most questions that one call asks: two for each of 32 memory types, for an object and for its mapping.
 const MAX_QUESTIONS: u32 = 64;
 
-/// What is answered to a number that is no row's.
+/// The answer for a number that is not a row's.
 const END: u32 = u32::MAX;
 
-/// The numbers that are given out, in the order of `c/layout.h`.
+/// The numbers of the header, in the order of `c/layout.h`.
 static NUMBERS: [u32; 40] = [
     VERSION,
     MAX_QUESTIONS,
@@ -61,8 +61,8 @@ static NUMBERS: [u32; 40] = [
     REQUIRED,
 ];
 
-/// The size of each struct, and the offsets of its fields. There is no `offset_of` here: an offset is the sum of the sizes
-/// before it, since fields lie in their order with no gap but the one in `Handle`, as C lays them out.
+/// The size of each struct, and the offsets of its fields. There is no `offset_of` here: an offset is the sum of the
+/// sizes before it. Fields lie in order without a gap, except the one in `Handle`, as C lays them out.
 #[rattlefmt::skip]
 static PLACES: [u32; 53] = [
     size_of::<Handle>() as u32, 0, 8,
@@ -78,7 +78,7 @@ static PLACES: [u32; 53] = [
 ];
 
 /// What came later: statuses, flags, the ways to share objects, the offsets of the last fields of `Limits`, `Config`,
-/// `Request`, `Block` and `HeapCounts`, and the size of each struct of statistics, with the offsets of its fields.
+/// `Request`, `Block` and `HeapCounts`. Then the size of each struct of statistics, with the offsets of its fields.
 static LATER: [u32; 30] = [
     status::BAD_FLAGS,
     ALLOCATE_OWN,
@@ -112,7 +112,7 @@ static LATER: [u32; 30] = [
     224,
 ];
 
-/// The bits of flags, which stand between the numbers and the places.
+/// The bits of flags. They stand between the numbers and the places.
 fn flags() -> [u8; 13] {
     [
         AllocationFlags::DEVICE_ADDRESS.bits(),

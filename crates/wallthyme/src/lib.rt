@@ -1,4 +1,4 @@
-//! The proved GPU memory allocator for C. `c/wallthyme.h` tells what each call is for.
+//! The proved GPU memory allocator for C. `c/wallthyme.h` says what each call does.
 #![tactic(auto)]
 
 mod answers;

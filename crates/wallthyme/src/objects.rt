@@ -1,4 +1,4 @@
-//! The calls on what is held: objects that go, counts, limits, free ranges.
+//! The calls on what is held: released objects, counts, limits, free ranges.
 
 ghost use Rattle.std.specs.Prelude.{◌≡◌, ◌≢◌, ◌↔◌, ◌⊎◌, ◌<◌, ◌≤◌, ◌+◌, ◌^◌, [], IsNone, List, drop, length, take};
 ghost use Rattle.std.specs.FinMap as map;
@@ -56,7 +56,7 @@ pub extern "C" fn wt_gone(
     OK
 }
 
-/// Reads names of objects that go, as many as there are and as fit in. Answers how many.
+/// Reads names of released objects, as many as there are and as fit. Returns how many.
 fn read_gone(desk: &mut Desk, names: &mut [u64]) -> usize
     ensures fits { result ≤ length names.new }
     ensures read { Reads desk.old (take result names.new) desk.new }
@@ -202,7 +202,7 @@ pub extern "C" fn wt_free_ranges(
     }
 }
 
-/// Those from the one of number `first` on.
+/// The free ranges from index `first` on.
 fn rest_from(first: usize, found: &[FreeRange]) -> &[FreeRange]
     ensures { result.now ≡ drop first found.now }
 {
@@ -212,7 +212,7 @@ fn rest_from(first: usize, found: &[FreeRange]) -> &[FreeRange]
     }
 }
 
-/// Tells free ranges, as many as fit in.
+/// Writes free ranges to C's array, as many as fit.
 fn tell(found: &[FreeRange], ranges: &mut [layout::Range])
     ensures { AreTold found.now ranges.new }
 {

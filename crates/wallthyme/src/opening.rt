@@ -49,6 +49,7 @@ pub extern "C" fn wt_open(
     ensures status { (result ≡ OK) ⊎ ((result ≡ ALREADY_OPEN) ⊎ ((result ≡ BAD_PROPERTIES) ⊎ (result ≡ OUT_OF_HOST_MEMORY))) }
     ensures bad { result ≡ BAD_PROPERTIES → IsUsable (properties_of types.now heap_sizes.now limits.now)
         → IsGranularity (page_of limits.now.buffer_image_granularity) → IsSharing config.now.sharing → ⊥ }
+    ensures host { result ≡ OUT_OF_HOST_MEMORY → IsSharing config.now.sharing }
     ensures refused { result ≢ OK → desk_of handle.new ≡ desk_of handle.old }
 {
     if handle.is_open() {
@@ -78,6 +79,7 @@ fn opened(
     ensures bad { result ≡ Err OpenError.BadProperties
         → IsUsable (properties_of types.now heap_sizes.now limits.now)
         → IsGranularity (page_of limits.now.buffer_image_granularity) → IsSharing config.now.sharing → ⊥ }
+    ensures host { result ≡ Err OpenError.OutOfHostMemory → IsSharing config.now.sharing }
 {
     let Some(sharing) = sharing_of(config.sharing) else {
         return Err(OpenError::BadProperties);

@@ -1,4 +1,4 @@
-//! The calls that map blocks, and tell what to flush.
+//! The calls that map blocks, and that say what to flush.
 
 ghost use Rattle.std.specs.Prelude.{◌≡◌, ◌≢◌, ◌↔◌, ◌⊎◌, IsNone, None, Some, length, map};
 ghost use Rattle.gpu_desk.specs.Calls.{IsAsBefore, Keeps, MapDenied, Maps, RangeDenied, RangeTold, Unmaps};
@@ -15,7 +15,7 @@ use crate::status::{ASK, BAD_ANSWER, NOT_OPEN, OK, OUT_OF_HOST_MEMORY, UNKNOWN_K
 use gpu_desk::{Answered, Desk};
 use std::alloc::Global;
 
-/// No object: objects have names from 1 on.
+/// No object: the names of objects begin at 1.
 const NO_OBJECT: u64 = 0;
 
 #[unsafe(no_mangle)]
@@ -65,7 +65,7 @@ pub extern "C" fn wt_map(
 struct BlockPart {
     key: u64,
 
-    /// Where they start, from the block's start.
+    /// Where they start, in bytes from the block's start.
     offset: u64,
     size: u64,
 }

@@ -69,8 +69,8 @@ pub extern "C" fn wt_report(
     }
 }
 
-/// Writes a report of a desk, as much of it as there is room for. Answers how long all of it is, or `None` for want of
-/// memory.
+/// Writes a report of a desk, as much of it as there is room for. Returns the length of the whole report, or `None` for
+/// want of memory.
 fn written(alloc: Global, desk: &Desk, text: &mut [u8]) -> Option<usize>
     ensures told { IfSome result (Reports desk.now text.old text.new) }
     ensures unchanged { result ≡ None → text.new ≡ text.old }

@@ -1,4 +1,4 @@
-//! A desk on the heap as a struct that crosses to C.
+//! A desk on the heap, as a struct that crosses to C.
 
 ghost use Rattle.std.specs.Prelude.{◌≡◌, Option, Some, None, IsSome};
 ghost use Rattle.gpu_desk.specs.Desk.{DeskState};
@@ -11,9 +11,9 @@ use parts::Parts;
 use std::alloc::Global;
 use std::marker::Model;
 
-/// A desk on the heap, or none: a `Box` of it taken apart, since a `Box` doesn't cross to C.
+/// A desk on the heap, or no desk: a `Box` of it taken apart, since a `Box` doesn't cross to C.
 ///
-/// C sees one pointer, and to it that is a pointer to anything. The allocator has no bytes.
+/// C sees one opaque pointer. The allocator has no bytes.
 #[repr(C)]
 #[derive(Drop)]
 pub struct Seal {
@@ -27,7 +27,7 @@ impl Model for Seal {
 }
 
 impl Seal {
-    /// A seal of none, with any pointer.
+    /// A seal without a desk, with any pointer.
     fn empty_at(ptr: *mut u8, alloc: Global) -> Seal
         ensures { result.desk ≡ None }
     {
@@ -55,7 +55,7 @@ impl Seal {
         }
     }
 
-    /// A seal of none.
+    /// A seal without a desk.
     pub(crate) fn empty(alloc: Global) -> Seal
         ensures { result.desk ≡ None }
     {
@@ -69,7 +69,7 @@ impl Seal {
         Seal::of_parts(Parts::of(desk))
     }
 
-    /// The desk that is sealed.
+    /// The sealed desk.
     pub(crate) fn into_box(self) -> Box<KeptDesk>
         requires { IsSome self.desk }
         ensures { self.desk ≡ Some result.value }
@@ -78,7 +78,8 @@ impl Seal {
     }
 }
 
-/// A pointer for a seal of none. (It stands apart, since the callers of what makes a pointer would need walks.)
+/// A pointer for a seal without a desk. (It stands apart, since otherwise the callers of what makes a pointer would
+/// need walks.)
 fn nowhere() -> *mut u8 {
     std::ptr::null_mut()
 }

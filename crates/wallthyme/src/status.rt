@@ -1,4 +1,4 @@
-//! What a call answers: the numbers of `c/wallthyme.h`, which says there what each is for.
+//! What a call returns: the numbers of `c/wallthyme.h`, which explains each.
 
 ghost use Rattle.std.specs.Prelude.{◌≡◌, ◌≢◌};
 ghost use Rattle.wallthyme.specs.Status.{status_of, status_of_fault, status_of_map_refusal, status_of_opening, status_of_refusal};
@@ -65,7 +65,7 @@ pub(crate) const BAD_FLAGS: u32 = 28;
 
 pub(crate) const WOULD_ASK: u32 = 29;
 
-/// The status of what a desk denies.
+/// The status of a desk's denial.
 pub(crate) fn denied(denial: Denial) -> u32
     ensures status { result ≡ status_of denial }
     ensures failed { result ≢ OK }
@@ -110,8 +110,8 @@ fn map_refused(refusal: MapError) -> u32
     }
 }
 
-/// The status of a fault. Keys are the desk's to choose and bytes nothing to it, so that `NameInUse` and `NotMapped`
-/// never come: they count as `UnknownName`.
+/// The status of a fault. The desk chooses the keys and moves no bytes, so `NameInUse` and `NotMapped` never come: they
+/// count as `UnknownName`.
 fn misused(fault: Fault) -> u32
     ensures status { result ≡ status_of_fault fault }
     ensures failed { result ≢ OK }
@@ -132,7 +132,7 @@ fn misused(fault: Fault) -> u32
     }
 }
 
-/// The status of an allocator that can't be opened.
+/// The status for an allocator that can't be opened.
 pub(crate) fn not_opened(error: OpenError) -> u32
     ensures status { result ≡ status_of_opening error }
     ensures failed { result ≢ OK }

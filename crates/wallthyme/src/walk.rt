@@ -35,7 +35,7 @@ pub extern "C" fn wt_blocks(
     OK
 }
 
-/// Tells the live blocks behind the place of a key, as many as there are and as fit in. Answers how many.
+/// Writes the live blocks after the place of a key, as many as there are and as fit. Returns how many.
 fn walk_on(desk: &Desk, after: u64, blocks: &mut [layout::Block]) -> usize
     ensures fits { result ≤ length blocks.new }
     ensures next { AreNext desk.now after (take result blocks.new) }

@@ -10,7 +10,7 @@ use crate::{AllocationError, Config, Dedicated, GpuAllocator, MemoryBlock, Reque
 use std::mem::forget;
 
 /// A buffer and its memory, to be destroyed by [`Allocator::destroy_buffer`]. One that is dropped is reported on
-/// standard error, as its block is; buffer and memory stay.
+/// standard error, like its block; buffer and memory stay.
 #[derive(Debug)]
 #[must_use]
 pub struct Buffer {
@@ -21,7 +21,7 @@ pub struct Buffer {
 }
 
 /// An image and its memory, to be destroyed by [`Allocator::destroy_image`]. One that is dropped is reported on
-/// standard error, as its block is; image and memory stay.
+/// standard error, like its block; image and memory stay.
 #[derive(Debug)]
 #[must_use]
 pub struct Image {
@@ -82,7 +82,7 @@ impl Allocator {
         Allocator::with_sharing(device, config, Sharing::Buddy)
     }
 
-    /// Makes an allocator with these sizes, whose requests share memory objects so.
+    /// Makes an allocator with these sizes, and this way to share memory objects.
     ///
     /// # Errors
     ///
@@ -93,7 +93,7 @@ impl Allocator {
         Ok(Allocator { device, core })
     }
 
-    /// Its device, whose clones serve other threads.
+    /// Its device. Clones of it serve other threads.
     pub fn device(&self) -> &Device {
         &self.device
     }
@@ -140,8 +140,8 @@ impl Allocator {
         Ok(Buffer { handle, block })
     }
 
-    /// Creates an image, allocates memory for it and binds it. See [`create_buffer`](Allocator::create_buffer) for how
-    /// the driver's errors go on.
+    /// Creates an image, allocates memory for it and binds it. The driver's errors are handled as in
+    /// [`create_buffer`](Allocator::create_buffer).
     ///
     /// # Errors
     ///
@@ -182,7 +182,7 @@ impl Allocator {
     ///
     /// # Panics
     ///
-    /// Where the block is another allocator's. Nothing is changed, but the block is dropped.
+    /// Where the block is another allocator's. The block is dropped, and nothing else changes.
     ///
     /// # Safety
     ///
@@ -198,7 +198,7 @@ impl Allocator {
     ///
     /// # Panics
     ///
-    /// Where the block is another allocator's. Nothing is changed, but the block is dropped.
+    /// Where the block is another allocator's. The block is dropped, and nothing else changes.
     ///
     /// # Safety
     ///
@@ -210,7 +210,7 @@ impl Allocator {
         unsafe { self.destroy(Resource::Image(image.handle), image.block) }
     }
 
-    /// Allocates a block for a buffer that the program created, and binds it. A buffer whose address is used wants
+    /// Allocates a block for a buffer that the program created, and binds it. A buffer whose address is used needs
     /// [`UsageFlags::DEVICE_ADDRESS`].
     ///
     /// # Errors
@@ -295,7 +295,7 @@ impl Allocator {
     #[track_caller]
     unsafe fn destroy(&mut self, resource: Resource, block: MemoryBlock<Memory>) {
         self.core.assert_own(&block);
-        // SAFETY: as the caller says. What is bound to the block goes before the block's memory may.
+        // SAFETY: as the caller says. What is bound to the block is destroyed before the block's memory may be freed.
         unsafe {
             self.device.destroy(resource);
             self.core.dealloc(&self.device, block);

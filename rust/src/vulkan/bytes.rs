@@ -10,16 +10,16 @@ use std::ptr::NonNull;
 
 impl Allocator {
     /// Writes bytes into a block from `offset` on, counted in bytes from its start: maps them, copies them, flushes
-    /// them where the memory is not host-coherent, and unmaps them. No bytes ask nothing of the driver.
+    /// them where the memory is not host-coherent, and unmaps them. With no bytes the driver is not called.
     ///
     /// # Errors
     ///
     /// [`Error::Map`], [`Error::Driver`]. Nothing was written where the mapping was refused. Where the flush was, each
-    /// byte that the device sees is the old one or the new one. The block is mapped or not as before.
+    /// byte that the device sees is the old one or the new one. Whether the block is mapped is unchanged.
     ///
     /// # Panics
     ///
-    /// Where the range does not lie in the block, which may be longer than what was asked for. Nothing is written.
+    /// Where the range does not lie in the block, which may be larger than requested. Nothing is written.
     ///
     /// # Safety
     ///
@@ -34,15 +34,15 @@ impl Allocator {
     }
 
     /// Reads bytes of a block from `offset` on, counted in bytes from its start: maps them, invalidates them where the
-    /// memory is not host-coherent, copies them, and unmaps them. No bytes ask nothing of the driver.
+    /// memory is not host-coherent, copies them, and unmaps them. With no bytes the driver is not called.
     ///
     /// # Errors
     ///
-    /// [`Error::Map`], [`Error::Driver`]. `data` is then unchanged, and the block is mapped or not as before.
+    /// [`Error::Map`], [`Error::Driver`]. `data` is then unchanged, and so is whether the block is mapped.
     ///
     /// # Panics
     ///
-    /// Where the range does not lie in the block, which may be longer than what was asked for. Nothing is read.
+    /// Where the range does not lie in the block, which may be larger than requested. Nothing is read.
     ///
     /// # Safety
     ///
@@ -55,19 +55,18 @@ impl Allocator {
         unsafe { block.read_bytes(&asked, offset, data) }.map_err(|error| of_mapping(error, &asked))
     }
 
-    /// Maps a block, all of it. The address is good until [`unmap`](Allocator::unmap), or until the block is freed.
-    /// After writes through it call [`flush`](Allocator::flush), and before reads
-    /// [`invalidate`](Allocator::invalidate).
+    /// Maps a whole block. The address is valid until [`unmap`](Allocator::unmap), or until the block is freed. After
+    /// writes through it call [`flush`](Allocator::flush), and before reads [`invalidate`](Allocator::invalidate).
     ///
     /// # Errors
     ///
-    /// [`Error::Map`], [`Error::Driver`]. The block is then mapped or not as before.
+    /// [`Error::Map`], [`Error::Driver`]. Whether the block is mapped is then unchanged.
     ///
     /// # Safety
     ///
     /// * The block is of this allocator.
-    /// * Through the address no byte is reached that the device may be writing, or, to write, reading: rounded to whole
-    ///   atoms where the memory is not host-coherent.
+    /// * Through the address no byte is reached that the device may be writing, or, for a write, reading: rounded to
+    ///   whole atoms where the memory is not host-coherent.
     pub unsafe fn map(&self, block: &mut MemoryBlock<Memory>) -> Result<NonNull<[u8]>, Error> {
         let asked = DeviceFor::none(&self.device);
         let size = usize::try_from(block.size()).expect("a mapping has to fit the host's memory");
@@ -76,7 +75,7 @@ impl Allocator {
         Ok(NonNull::slice_from_raw_parts(start, size))
     }
 
-    /// Ends a block's mapping, and returns whether it had one. It flushes nothing.
+    /// Unmaps a block, and returns whether it was mapped. It flushes nothing.
     ///
     /// # Safety
     ///
@@ -86,9 +85,9 @@ impl Allocator {
         unsafe { block.unmap(&self.device) }
     }
 
-    /// Flushes ranges of mapped blocks, counted in bytes from their starts: what the host wrote reaches the device with
-    /// the next submission. They go to the driver as whole atoms (VUID-VkMappedMemoryRange-offset-00687, -size-01390),
-    /// at most 16 in one call; none does where the memory is host-coherent.
+    /// Flushes ranges of mapped blocks, counted in bytes from their starts: the host's writes reach the device with the
+    /// next submission. The driver gets whole atoms (VUID-VkMappedMemoryRange-offset-00687, -size-01390), at most 16
+    /// ranges in one call, and none where the memory is host-coherent.
     ///
     /// # Errors
     ///
@@ -107,9 +106,9 @@ impl Allocator {
         unsafe { self.device.flush_all(&whole_atoms(ranges)?) }
     }
 
-    /// Invalidates ranges of mapped blocks, counted in bytes from their starts: what the device wrote, and a barrier
-    /// and a fence made available to the host, the host reads. At most 16 go to one call of the driver; none does where
-    /// the memory is host-coherent.
+    /// Invalidates ranges of mapped blocks, counted in bytes from their starts. The host then reads what the device
+    /// wrote and a barrier and a fence made available to it. The driver gets at most 16 ranges in one call, and none
+    /// where the memory is host-coherent.
     ///
     /// # Errors
     ///
@@ -129,7 +128,7 @@ impl Allocator {
     }
 }
 
-/// Why a mapping, a flush or an invalidate was refused: what the driver returned, where it did.
+/// Why a mapping, a flush or an invalidate was refused: the driver's result, if it returned one.
 fn of_mapping(error: MapError, asked: &DeviceFor<'_>) -> Error {
     match error {
         MapError::NonHostVisible | MapError::AlreadyMapped => Error::Map(error),
@@ -137,7 +136,7 @@ fn of_mapping(error: MapError, asked: &DeviceFor<'_>) -> Error {
     }
 }
 
-/// The ranges of memory objects that cover these of blocks, but for those that need no flush.
+/// The ranges of memory objects that cover these of blocks, without those that need no flush.
 #[track_caller]
 fn whole_atoms<'a>(
     ranges: &[(&'a MemoryBlock<Memory>, Range<u64>)],

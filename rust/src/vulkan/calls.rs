@@ -1,4 +1,4 @@
-//! The calls of Vulkan, each with what it takes and with its error.
+//! The calls of Vulkan, each with its arguments and its error.
 
 use super::device::{Device, Requirements};
 use super::error::{Error, VkResult};
@@ -28,7 +28,7 @@ fn done(call: &'static str, result: VkResult) -> Result<(), Error> {
 }
 
 impl Device {
-    /// Makes a memory object. What belongs to one resource is chained where the object will hold its block alone.
+    /// Makes a memory object. What belongs to one resource is chained where the object will hold only its block.
     ///
     /// # Safety
     ///
@@ -113,7 +113,7 @@ impl Device {
         done("vkInvalidateMappedMemoryRanges", unsafe { self.over_ranges(self.call.invalidate_ranges, ranges) })
     }
 
-    /// No ranges make no call: Vulkan wants at least one.
+    /// With no ranges there is no call: Vulkan wants at least one.
     unsafe fn over_ranges(&self, call: OverRanges, ranges: &[MappedMemoryRange<'_, Memory>]) -> VkResult {
         let mut passed = [raw::MappedMemoryRange::default(); RANGES_AT_ONCE];
         for some in ranges.chunks(RANGES_AT_ONCE) {
@@ -187,7 +187,7 @@ impl Device {
 
     /// # Safety
     ///
-    /// The resource is a live one of this device, and no disjoint image.
+    /// The resource is a live one of this device, and not a disjoint image.
     pub(crate) unsafe fn requirements(&self, resource: Resource, optimal: bool) -> Requirements {
         let mut own = raw::MemoryDedicatedRequirements::default();
         let mut needs = raw::MemoryRequirements2 { p_next: from_mut(&mut own).cast(), ..Default::default() };

@@ -14,12 +14,12 @@ use std::ptr::{from_mut, from_ref, null};
 /// A device of Vulkan, as a [`MemoryDevice`](crate::MemoryDevice). A clone is the same device.
 ///
 /// It answers [`OutOfDeviceMemory`](crate::OutOfMemory::OutOfDeviceMemory) where the driver returned
-/// `VK_ERROR_OUT_OF_DEVICE_MEMORY` or `VK_ERROR_TOO_MANY_OBJECTS`, so that an allocation goes on with its next memory
-/// type, and [`OutOfHostMemory`](crate::OutOfMemory::OutOfHostMemory) for each other error, which ends it. A
-/// [`DeviceFor`] keeps the very result.
+/// `VK_ERROR_OUT_OF_DEVICE_MEMORY` or `VK_ERROR_TOO_MANY_OBJECTS`: an allocation goes on with its next memory type. It
+/// answers [`OutOfHostMemory`](crate::OutOfMemory::OutOfHostMemory) for any other error, which ends the allocation. A
+/// [`DeviceFor`] keeps the driver's own result.
 ///
-/// It is `Send` and `Sync`: its handles are numbers, Vulkan lets any thread use a `VkDevice`, and where a call wants to
-/// be the only one on an object (the specification's "externally synchronized"), a `&mut` or a value stands for that.
+/// It is `Send` and `Sync`. Its handles are numbers, and Vulkan lets any thread use a `VkDevice`. Where a call must be
+/// the only one on an object (the specification's "externally synchronized"), a `&mut` or a value ensures it.
 #[derive(Clone)]
 pub struct Device {
     pub(crate) call: Functions,
@@ -34,10 +34,10 @@ pub struct Device {
     other_objects: u32,
 }
 
-// SAFETY: Vulkan lets any thread use these handles: no call that is made here asks that one thread at a time uses the
-// device ("externally synchronized" is what a call does to a memory object, a buffer or an image). Handles are numbers,
-// and functions have no thread. That the callbacks and the value they get may be used from any thread is for the caller
-// of `load`.
+// SAFETY: Vulkan lets any thread use these handles: no call that is made here requires that one thread at a time uses
+// the device ("externally synchronized" is what a call does to a memory object, a buffer or an image). Handles are
+// numbers, and functions belong to no thread. The caller of `load` promises that the callbacks and their value may be
+// used from any thread.
 unsafe impl Send for Device {}
 
 // SAFETY: as above; nothing of it changes after `load`.
@@ -52,8 +52,8 @@ pub struct Requirements {
     pub alignment: u64,
     /// Bit i permits the memory type of index i.
     pub memory_types: u32,
-    /// Whether the driver wants a memory object of its own for it (`VkMemoryDedicatedRequirements`). `None` where it
-    /// could not be asked ([`Enabled::DEDICATED_ALLOCATION`]).
+    /// Whether the driver wants a memory object of its own for it (`VkMemoryDedicatedRequirements`). `None` where the
+    /// driver cannot be asked ([`Enabled::DEDICATED_ALLOCATION`]).
     pub dedicated: Option<Dedicated>,
     /// Whether it is an image whose tiling is not linear, and so wants an optimal block
     /// ([`GpuAllocator::alloc_optimal`]).
@@ -70,11 +70,11 @@ impl Device {
     ///
     /// # Safety
     ///
-    /// * The handles are live and belong together. They outlive each call of this value and its clones, the drop of an
-    ///   [`Allocator`](super::Allocator) over it too.
+    /// * The handles are live and belong together. They outlive each call of this value and its clones, including the
+    ///   drop of an [`Allocator`](super::Allocator) over it.
     /// * `get_instance_proc_addr` is `vkGetInstanceProcAddr`, or does what it does, for that instance.
-    /// * What `api_version`, `enabled` and `other_objects` say is so.
-    /// * The callbacks are as Vulkan asks, and may be called from each thread that uses this value.
+    /// * What `api_version`, `enabled` and `other_objects` say is true.
+    /// * The callbacks are valid in Vulkan, and may be called from each thread that uses this value.
     pub unsafe fn load(info: &DeviceInfo) -> Result<Device, Error> {
         for (is_null, what) in [
             (info.instance.0 == 0, "instance"),
@@ -112,8 +112,8 @@ impl Device {
         })
     }
 
-    /// What the physical device offers an allocator: each heap and each memory type, at its index. Of a type that is
-    /// not of [`known_types`](Device::known_types) it lists the properties that have a name; leave such a type out of
+    /// What the physical device offers an allocator: each heap and each memory type, at its index. For a type outside
+    /// [`known_types`](Device::known_types) it lists the named properties; leave such a type out of
     /// [`Request::memory_types`](crate::Request::memory_types).
     ///
     /// Where [`Enabled::PROPERTIES2`] is missing, `max_memory_allocation_size` is 2^64 - 1, since the device does not
@@ -133,8 +133,8 @@ impl Device {
         }
     }
 
-    /// Which memory types have no property beside those of [`MemoryPropertyFlags`]: bit i for the type of index i.
-    /// Another type may want a feature (VUID-vkAllocateMemory-deviceCoherentMemory-02790). So
+    /// The memory types that have no property outside [`MemoryPropertyFlags`]: bit i for the type of index i. Another
+    /// type may need a feature (VUID-vkAllocateMemory-deviceCoherentMemory-02790). So
     /// [`allocate_memory`](crate::MemoryDevice::allocate_memory) refuses it, with
     /// [`OutOfDeviceMemory`](crate::OutOfMemory::OutOfDeviceMemory).
     pub fn known_types(&self) -> u32 {
@@ -147,13 +147,13 @@ impl Device {
         self.limits.buffer_image_granularity
     }
 
-    /// Sizes for an allocator of this device, as `wtv_default_config` has them. With H the size of the largest
-    /// device-local heap (of the largest heap, where there is no such), and U = H / 1,024, rounded down to a power of
-    /// two, at least 64 KiB and at most 8 MiB: objects of their own from U / 8 on where preferred, and from 16 U on for
-    /// transient requests; free lists' chunks from U to 16 U. With [`Sharing::Fit`](crate::Sharing::Fit) fit chunks from U
-    /// to 4 U, and objects of their own over U; with [`Sharing::Buddy`](crate::Sharing::Buddy) buddy chunks from U on, in
-    /// blocks of at least 1 KiB, and objects of their own from 4 U on. From 8 GiB on that is
-    /// [`Config::i_am_prototyping`]. [`Allocator::new`](super::Allocator::new) takes fit chunks with it, and
+    /// Sizes for an allocator of this device, as in `wtv_default_config`. H is the size of the largest device-local
+    /// heap (of the largest heap, where none is device-local). U is H / 1,024, rounded down to a power of two, at least
+    /// 64 KiB and at most 8 MiB. Objects of their own begin at U / 8 where preferred, and at 16 U for transient
+    /// requests; free lists' chunks grow from U to 16 U. With [`Sharing::Fit`](crate::Sharing::Fit) there are fit
+    /// chunks from U to 4 U, and objects of their own over U. With [`Sharing::Buddy`](crate::Sharing::Buddy) there are
+    /// buddy chunks from U on, with blocks of at least 1 KiB, and objects of their own from 4 U on. From 8 GiB on this
+    /// is [`Config::i_am_prototyping`]. [`Allocator::new`](super::Allocator::new) takes fit chunks with it, and
     /// [`Allocator::with_config`](super::Allocator::with_config) buddy chunks.
     pub fn default_config(&self) -> Config {
         let local = self.memory_heaps().iter().filter(|heap| heap.flags & raw::HEAP_DEVICE_LOCAL != 0);
@@ -172,20 +172,20 @@ impl Device {
         }
     }
 
-    /// What was enabled beside the version.
+    /// What was enabled besides the version.
     pub fn enabled(&self) -> Enabled {
         self.enabled
     }
 
-    /// Reads the budgets of `VK_EXT_memory_budget`, and limits each heap of the allocator by its own: to `heapBudget`
-    /// less what the process holds beside the allocator (`heapUsage` less what is held, at least 0), at least 0. Call
-    /// it once a frame or so. A limit below what is held refuses new objects and frees nothing
-    /// ([`GpuAllocator::set_heap_limit`]).
+    /// Reads the budgets of `VK_EXT_memory_budget`, and limits each heap of the allocator by its own. The limit is
+    /// `heapBudget` less what the process holds outside the allocator (`heapUsage` less what the allocator holds, at
+    /// least 0), at least 0. Call it about once a frame. A limit below what is held refuses new objects and frees
+    /// nothing ([`GpuAllocator::set_heap_limit`]).
     ///
     /// # Errors
     ///
-    /// [`Error::NoBudget`], without [`Enabled::MEMORY_BUDGET`], or where the driver fills in no budget, as one without
-    /// the extension. Each limit is then as before.
+    /// [`Error::NoBudget`], without [`Enabled::MEMORY_BUDGET`], or where the driver fills in no budget, for instance
+    /// because it lacks the extension. Each limit is then unchanged.
     ///
     /// # Panics
     ///
@@ -209,7 +209,7 @@ impl Device {
         Ok(())
     }
 
-    /// This device, as it is asked for memory for a buffer.
+    /// This device, for an allocation for a buffer.
     ///
     /// # Safety
     ///
@@ -218,7 +218,7 @@ impl Device {
         DeviceFor::new(self, Resource::Buffer(buffer))
     }
 
-    /// This device, as it is asked for memory for an image.
+    /// This device, for an allocation for an image.
     ///
     /// # Safety
     ///
@@ -227,7 +227,7 @@ impl Device {
         DeviceFor::new(self, Resource::Image(image))
     }
 
-    /// What a buffer asks of its memory.
+    /// A buffer's requirements for its memory.
     ///
     /// # Safety
     ///
@@ -237,7 +237,7 @@ impl Device {
         unsafe { self.requirements(Resource::Buffer(buffer), false) }
     }
 
-    /// What an image of this tiling asks of its memory.
+    /// The requirements of an image with this tiling for its memory.
     ///
     /// # Safety
     ///
@@ -251,7 +251,7 @@ impl Device {
     ///
     /// # Errors
     ///
-    /// [`Error::Driver`]. The block is as before.
+    /// [`Error::Driver`]. The block is unchanged.
     ///
     /// # Safety
     ///
@@ -271,13 +271,13 @@ impl Device {
     ///
     /// # Errors
     ///
-    /// [`Error::Driver`]. The block is as before.
+    /// [`Error::Driver`]. The block is unchanged.
     ///
     /// # Safety
     ///
     /// * The image is a live one of this device, has no memory, and no other thread uses it.
-    /// * The block is of this device, and serves the image's requirements from `offset` on. It is optimal where the
-    ///   image's tiling is not linear, and else not.
+    /// * The block is of this device, and serves the image's requirements from `offset` on. It is optimal exactly where
+    ///   the image's tiling is not linear.
     pub unsafe fn bind_image(&self, image: raw::Image, block: &MemoryBlock<Memory>, offset: u64) -> Result<(), Error> {
         // SAFETY: as the caller says.
         unsafe { self.bind(Resource::Image(image), block, offset) }
@@ -285,7 +285,7 @@ impl Device {
 }
 
 impl Device {
-    /// Null where there are none. The address is good while this value stays in its place, and so for a call.
+    /// Null where there are none. The address is valid while this value stays in its place, and so for a call.
     pub(crate) fn callbacks(&self) -> *const AllocationCallbacks {
         self.callbacks.as_ref().map_or(null(), from_ref)
     }

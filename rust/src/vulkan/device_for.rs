@@ -1,4 +1,4 @@
-//! A device as it is asked for a resource, and as a `MemoryDevice`.
+//! A device with the resource that it is asked for, and as a `MemoryDevice`.
 
 use super::calls::Resource;
 use super::device::Device;
@@ -9,10 +9,10 @@ use std::cell::Cell;
 use std::ffi::c_void;
 use std::ptr::{null, NonNull};
 
-/// A [`Device`] as it is asked for one buffer or image, or for a block of none. It chains to a memory object what
-/// belongs to that resource, exactly where the object will hold its block alone
-/// ([`OWN`](AllocationFlags::OWN)): such an object has the size of the resource's requirements
-/// (VUID-VkMemoryDedicatedAllocateInfo-image-02964, -buffer-02965). And it keeps what the driver returned last.
+/// A [`Device`] with one buffer or image, or with a block that is for none. It chains to a memory object what belongs
+/// to that resource, exactly where the object will hold only its block ([`OWN`](AllocationFlags::OWN)). Such an object
+/// has the size of the resource's requirements (VUID-VkMemoryDedicatedAllocateInfo-image-02964, -buffer-02965). It also
+/// keeps what the driver returned last.
 ///
 /// It is the same device to an allocator: a block that was allocated by one may be used by the other.
 #[derive(Debug)]
@@ -28,7 +28,7 @@ impl<'a> DeviceFor<'a> {
         DeviceFor { resource: Some(resource), ..DeviceFor::none(device) }
     }
 
-    /// For a block that no resource is known of.
+    /// For a block whose resource is not known.
     pub(crate) fn none(device: &'a Device) -> Self {
         DeviceFor { device, resource: None, next: null(), failed: Cell::new(None) }
     }
@@ -37,7 +37,7 @@ impl<'a> DeviceFor<'a> {
     ///
     /// # Errors
     ///
-    /// [`Error::Chained`]: one of them is chained by itself.
+    /// [`Error::Chained`]: this side already chains one of them.
     ///
     /// # Safety
     ///
@@ -56,13 +56,12 @@ impl<'a> DeviceFor<'a> {
         Ok(DeviceFor { next, ..self })
     }
 
-    /// What the driver returned to the last call that it may refuse, where that was an error:
-    /// [`Error::Driver`].
+    /// The driver's latest result of a call that it may refuse, where that was an error: [`Error::Driver`].
     pub fn failure(&self) -> Option<Error> {
         self.failed.get()
     }
 
-    /// Keeps an answer's error, and gives its result.
+    /// Keeps an answer's error, and returns its result.
     fn keep<T>(&self, answer: Result<T, Error>) -> Result<T, VkResult> {
         self.failed.set(answer.as_ref().err().copied());
         answer.map_err(Error::result)
@@ -76,7 +75,7 @@ struct Link {
     p_next: *const Link,
 }
 
-/// `VK_ERROR_TOO_MANY_OBJECTS` too lets an allocation go on with its next memory type.
+/// `VK_ERROR_TOO_MANY_OBJECTS` also lets an allocation go on with its next memory type.
 fn out_of_memory(result: VkResult) -> OutOfMemory {
     match result {
         VkResult::ERROR_OUT_OF_DEVICE_MEMORY | VkResult::ERROR_TOO_MANY_OBJECTS => OutOfMemory::OutOfDeviceMemory,
@@ -94,8 +93,8 @@ fn map_error(result: VkResult) -> DeviceMapError {
     }
 }
 
-// What these functions ask of their callers is what those of the device ask. That the resource is live and the chain is
-// one that Vulkan allows is for who made the value.
+// These functions require of their callers what those of the device require. Whoever made the value promised that the
+// resource is live and the chain is one that Vulkan allows.
 impl MemoryDevice<Memory> for DeviceFor<'_> {
     unsafe fn allocate_memory(&self, size: u64, of: u32, flags: AllocationFlags) -> Result<Memory, OutOfMemory> {
         // SAFETY: as the caller says.
@@ -129,7 +128,7 @@ impl MemoryDevice<Memory> for DeviceFor<'_> {
     }
 }
 
-// What these functions ask of their callers is what those above ask.
+// These functions require of their callers what those above require.
 impl MemoryDevice<Memory> for Device {
     unsafe fn allocate_memory(&self, size: u64, of: u32, flags: AllocationFlags) -> Result<Memory, OutOfMemory> {
         // SAFETY: as the caller says.

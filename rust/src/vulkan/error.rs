@@ -1,4 +1,4 @@
-//! What is refused over Vulkan, and why.
+//! Errors over Vulkan: what is refused, and why.
 
 use crate::error::{AllocationError, MapError, NewError};
 use std::fmt::{Debug, Display, Formatter};
@@ -60,16 +60,16 @@ impl Debug for VkResult {
 pub enum Error {
     /// The driver refused.
     Driver {
-        /// The function that it refused, as `vkAllocateMemory`.
+        /// The function that it refused, such as `vkAllocateMemory`.
         call: &'static str,
         /// What it returned.
         result: VkResult,
     },
 
-    /// The allocator refused a block, and not for what the driver returned.
+    /// The allocator refused a block, for a reason other than the driver's result.
     Allocation(AllocationError),
 
-    /// The block was not mapped, and not for what the driver returned.
+    /// The block was not mapped, for a reason other than the driver's result.
     Map(MapError),
 
     /// The allocator could not be made.
@@ -78,19 +78,19 @@ pub enum Error {
     /// This function could not be loaded, or this handle is null.
     Missing(&'static str),
 
-    /// [`DeviceInfo::api_version`](super::DeviceInfo::api_version) is no version of Vulkan.
+    /// [`DeviceInfo::api_version`](super::DeviceInfo::api_version) is not a version of Vulkan.
     Version,
 
-    /// The buffer is sparse: memory is bound to parts of it, which is the program's to do.
+    /// The buffer is sparse: the program itself must bind memory to its parts.
     SparseBuffer,
 
-    /// The image is sparse: memory is bound to parts of it, which is the program's to do.
+    /// The image is sparse: the program itself must bind memory to its parts.
     SparseImage,
 
-    /// The image is disjoint: each of its planes wants memory of its own, which is the program's to bind.
+    /// The image is disjoint: each of its planes needs memory of its own, which the program itself must bind.
     DisjointImage,
 
-    /// [`MemoryRequest::next`](super::MemoryRequest::next) has this struct, which is chained by itself.
+    /// [`MemoryRequest::next`](super::MemoryRequest::next) has this struct, which this side chains by itself.
     Chained(&'static str),
 
     /// A device address is asked for without [`Enabled::DEVICE_ADDRESS`](super::Enabled::DEVICE_ADDRESS)
@@ -105,7 +105,7 @@ pub enum Error {
 }
 
 impl Error {
-    /// The result that says the same in Vulkan: the driver's own where it refused, and else the one that
+    /// The result that means the same in Vulkan: the driver's own where it refused, and otherwise the one that
     /// `wallthyme_vulkan.h` returns.
     pub fn result(self) -> VkResult {
         match self {

@@ -1,4 +1,4 @@
-//! The functions of Vulkan that this module calls, and how they are loaded.
+//! The Vulkan functions that this module calls, and how they are loaded.
 
 use super::error::{Error, VkResult};
 use super::raw::*;
@@ -34,9 +34,9 @@ pub(crate) struct Functions {
     pub(crate) get_image_requirements: Requirements<Image>,
     pub(crate) bind_buffer: Bind<Buffer>,
     pub(crate) bind_image: Bind<Image>,
-    /// Where [`Enabled::PROPERTIES2`] is.
+    /// Present with [`Enabled::PROPERTIES2`].
     pub(crate) properties2: Option<OfProperties2>,
-    /// Where [`Enabled::DEDICATED_ALLOCATION`] is.
+    /// Present with [`Enabled::DEDICATED_ALLOCATION`].
     pub(crate) requirements2: Option<OfRequirements2>,
 }
 
@@ -112,7 +112,7 @@ impl Functions {
     }
 }
 
-/// Functions of an instance, and of a device without the loader's way between.
+/// Functions of an instance, and of a device without a dispatch through the loader.
 struct Loader {
     get: GetInstanceProcAddr,
     get_of_device: GetDeviceProcAddr,

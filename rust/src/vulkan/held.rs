@@ -1,4 +1,4 @@
-//! What an allocator holds: blocks that go, imports, limits, and a report.
+//! What an allocator holds: freeing blocks, imports, limits, and a report.
 
 use super::allocator::Allocator;
 use super::error::Error;
@@ -6,13 +6,13 @@ use super::raw::Memory;
 use crate::{AllocationError, MemoryBlock};
 
 impl Allocator {
-    /// Frees a block, mapped or not. Its memory object is freed with it where no other block needs it; of each memory type
-    /// one free chunk of transient blocks, and one free fit chunk ([`Sharing::Fit`](crate::Sharing::Fit)), stay until
-    /// [`cleanup`](Allocator::cleanup), or until the allocator is dropped.
+    /// Frees a block, mapped or not. Its memory object is freed with it where no other block needs it. Of each memory
+    /// type one unused chunk of transient blocks, and one unused fit chunk ([`Sharing::Fit`](crate::Sharing::Fit)),
+    /// stay until [`cleanup`](Allocator::cleanup), or until the allocator is dropped.
     ///
     /// # Panics
     ///
-    /// Where the block is another allocator's. Nothing is changed, but the block is dropped.
+    /// Where the block is another allocator's. The block is dropped, and nothing else changes.
     ///
     /// # Safety
     ///
@@ -24,7 +24,7 @@ impl Allocator {
         unsafe { self.core.dealloc(&self.device, block) }
     }
 
-    /// Takes `size` bytes of a memory object of the program's from `offset` on as a block. The object is the
+    /// Imports `size` bytes of the program's own memory object from `offset` on as a block. The object is the
     /// allocator's from then on, counts as one that it holds, and is freed with its block.
     ///
     /// # Errors
@@ -34,14 +34,14 @@ impl Allocator {
     ///
     /// # Panics
     ///
-    /// Where there is no such memory type, `size` is 0, `offset + size` passes 64 bits, or the host has too little
-    /// memory. The allocator is then as before, and the object stays the program's.
+    /// Where there is no such memory type, `size` is 0, `offset + size` exceeds 64 bits, or the host has too little
+    /// memory. The allocator is then unchanged, and the object stays the program's.
     ///
     /// # Safety
     ///
     /// * The object is of this device and of that memory type, not mapped, and nobody else frees it.
     /// * `offset .. offset + size` lies in it. Where the memory is host-visible and not host-coherent, it ends at a
-    ///   multiple of `nonCoherentAtomSize`, or where the object ends.
+    ///   multiple of `nonCoherentAtomSize`, or at the object's end.
     #[track_caller]
     pub unsafe fn import(
         &mut self,
@@ -66,12 +66,12 @@ impl Allocator {
         unsafe { self.core.cleanup(&self.device) }
     }
 
-    /// How many memory objects may be held beside those that are.
+    /// How many more memory objects may be held.
     pub fn remaining_allocations(&self) -> u32 {
         self.core.remaining_allocations()
     }
 
-    /// How many bytes of a heap may be held for what is asked: the lesser of its size and the limit that was set last.
+    /// The limit of a heap in bytes: the lesser of its size and the limit that was set last.
     ///
     /// # Panics
     ///
@@ -81,7 +81,7 @@ impl Allocator {
         self.core.heap_limit(heap)
     }
 
-    /// Lets at most `limit` bytes of a heap be held for what is asked, from now on. See
+    /// Sets a heap's limit in bytes, from now on. See
     /// [`GpuAllocator::set_heap_limit`](crate::GpuAllocator::set_heap_limit).
     ///
     /// # Panics
@@ -92,13 +92,13 @@ impl Allocator {
         self.core.set_heap_limit(heap, limit);
     }
 
-    /// Limits each heap by its budget. Call it once a frame or so. See
+    /// Limits each heap by its budget. Call it about once a frame. See
     /// [`Device::update_budget`](super::Device::update_budget).
     ///
     /// # Errors
     ///
-    /// [`Error::NoBudget`], without [`Enabled::MEMORY_BUDGET`](super::Enabled::MEMORY_BUDGET). Each limit is then as
-    /// before.
+    /// [`Error::NoBudget`], without [`Enabled::MEMORY_BUDGET`](super::Enabled::MEMORY_BUDGET). Each limit is then
+    /// unchanged.
     pub fn update_budget(&mut self) -> Result<(), Error> {
         self.device.update_budget(&mut self.core)
     }

@@ -1,4 +1,4 @@
-//! What a program hands in: its device, and what memory a resource is to get.
+//! What a program passes in: its device, and what memory a resource gets.
 
 use super::raw::{AllocationCallbacks, Device, GetInstanceProcAddr, Instance, PhysicalDevice, API_VERSION_1_1};
 use crate::flags::flags;
@@ -7,7 +7,7 @@ use std::ffi::c_void;
 use std::ptr::null;
 
 flags! {
-    /// What a program enabled of its instance and device. Version 1.1 has the first two without a flag.
+    /// What a program has enabled of its instance and device. Version 1.1 includes the first two.
     pub struct Enabled {
         /// `VK_KHR_get_physical_device_properties2` of the instance, and `VK_KHR_maintenance3`.
         const PROPERTIES2 = 0x01;
@@ -23,7 +23,7 @@ flags! {
     }
 }
 
-/// A device of a program's, as it opened it. Zeros are defaults, but for the three handles and the function.
+/// A program's device, as it opened it. Zeros are defaults, except for the three handles and the function.
 #[derive(Clone, Copy, Debug)]
 pub struct DeviceInfo {
     /// The instance.
@@ -38,18 +38,18 @@ pub struct DeviceInfo {
     /// Loads the functions: `vkGetInstanceProcAddr`.
     pub get_instance_proc_addr: Option<GetInstanceProcAddr>,
 
-    /// The lesser of the version that the instance was created for and the one that the device offers, as
+    /// The lesser of the version that the instance was created for and the one that the device offers, for instance
     /// `VK_API_VERSION_1_1` (`1 << 22 | 1 << 12`). 0 means 1.0.
     pub api_version: u32,
 
-    /// What was enabled beside that version.
+    /// What was enabled besides that version.
     pub enabled: Enabled,
 
-    /// Go to each call of Vulkan that takes them.
+    /// Passed to each Vulkan call that takes them.
     pub callbacks: Option<AllocationCallbacks>,
 
-    /// How many memory objects the program makes itself, at most, beside the allocator's, those of another allocator
-    /// too: all count for the device (VUID-vkAllocateMemory-maxMemoryAllocationCount-04101).
+    /// How many memory objects the program makes itself, at most, outside this allocator, including those of another
+    /// allocator: all count for the device (VUID-vkAllocateMemory-maxMemoryAllocationCount-04101).
     pub other_objects: u32,
 }
 
@@ -69,7 +69,7 @@ impl Default for DeviceInfo {
 }
 
 impl DeviceInfo {
-    /// Whether the version is one. The upper three bits are a version's variant, which Vulkan has as 0.
+    /// Whether the version is valid. Its upper three bits are a variant, which in Vulkan is 0.
     pub(crate) fn has_version(&self) -> bool {
         self.api_version == 0 || (self.api_version >> 29 == 0 && self.api_version >= 1 << 22)
     }
@@ -87,21 +87,20 @@ impl DeviceInfo {
 /// What memory a resource gets. Zeros are defaults. A [`UsageFlags`] becomes one by itself.
 #[derive(Clone, Copy, Debug)]
 pub struct MemoryRequest {
-    /// What it is used for. No flag means [`UsageFlags::FAST_DEVICE_ACCESS`]. A buffer whose own usage has the shader's
-    /// device address gets [`UsageFlags::DEVICE_ADDRESS`] by itself.
+    /// What it is used for. The empty set means [`UsageFlags::FAST_DEVICE_ACCESS`]. A buffer whose own usage has the
+    /// shader device address gets [`UsageFlags::DEVICE_ADDRESS`] by itself.
     pub usage: UsageFlags,
 
-    /// The permitted memory types: bit i for the type of index i. 0 permits all. Those of the resource's requirements
-    /// that [`Device::known_types`](super::Device::known_types) has remain of it.
+    /// The permitted memory types: bit i for the type of index i. 0 permits all. Types that the resource's requirements
+    /// exclude, or that are outside [`Device::known_types`](super::Device::known_types), are left out.
     pub memory_types: u32,
 
-    /// Whether it has to be a memory object of its own. Raised to what the driver asks for.
+    /// Whether it must be a memory object of its own. Raised to what the driver asks for.
     pub dedicated: Option<Dedicated>,
 
-    /// Structs that are chained to `VkMemoryAllocateInfo` exactly where the memory object will hold this block alone: a
-    /// priority, an export. Or null. One that has to be chained wants [`Dedicated::Required`].
-    /// `VkMemoryDedicatedAllocateInfo` and `VkMemoryAllocateFlagsInfo` are refused here: they are chained by
-    /// themselves.
+    /// Structs that are chained to `VkMemoryAllocateInfo` exactly where the memory object will hold only this block: a
+    /// priority, an export. Or null. A struct that must be chained needs [`Dedicated::Required`].
+    /// `VkMemoryDedicatedAllocateInfo` and `VkMemoryAllocateFlagsInfo` are refused here: this side chains them.
     pub next: *const c_void,
 }
 

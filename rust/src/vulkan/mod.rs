@@ -1,29 +1,29 @@
 //! Over Vulkan: a [`MemoryDevice`](crate::MemoryDevice) that calls it, and an allocator that creates, binds and
 //! destroys buffers and images with their memory.
 //!
-//! It needs no binding and works beside each: handles are numbers here, and the functions are loaded by the
-//! `vkGetInstanceProcAddr` that the program hands in. A device of plain Vulkan 1.0 serves. It uses what the program
-//! *enabled* and says so in [`DeviceInfo`], and nothing else. This module is tested, not proved.
+//! It needs no binding and works with any: handles are numbers here, and the functions are loaded by the
+//! `vkGetInstanceProcAddr` that the program passes in. A device of plain Vulkan 1.0 serves. It uses only what the
+//! program *enabled* and names in [`DeviceInfo`]. This module is tested, not proved.
 //!
 //! - [`Allocator`] is the short way: one call for a buffer or an image and its memory.
-//! - [`Device`] beside a [`GpuAllocator`](crate::GpuAllocator) is the long one, where a program puts them together
+//! - [`Device`] with a [`GpuAllocator`](crate::GpuAllocator) is the long one, where a program puts them together
 //!   itself.
 //!
 //! # Threads
 //!
-//! Vulkan lets each thread use a `VkDevice`, but asks that one thread at a time uses a memory object, a buffer or an
+//! Vulkan lets each thread use a `VkDevice`. But only one thread at a time may use a memory object, a buffer or an
 //! image where a call binds, maps or destroys it ("externally synchronized", chapter Threading Behavior). Here a `&mut`
-//! or a value stands for such a use: `&mut Allocator` where blocks come and go, and `&mut MemoryBlock` where its bytes
-//! are used. So [`Device`] and [`Allocator`] are `Send` and `Sync`. A program of several threads keeps its allocator in
-//! a `Mutex`, and reads and writes blocks outside of it, by a clone of the device.
+//! or a value ensures that: `&mut Allocator` where blocks come and go, and `&mut MemoryBlock` where its bytes are used.
+//! So [`Device`] and [`Allocator`] are `Send` and `Sync`. A program of several threads keeps its allocator in a
+//! `Mutex`, and reads and writes blocks outside of it, by a clone of the device.
 //!
 //! # What the host writes and reads
 //!
-//! What the host wrote reaches the device once it is flushed, where the memory is not host-coherent, and commands are
-//! submitted after that. What the device wrote reaches the host after a barrier to `VK_PIPELINE_STAGE_HOST_BIT` with
+//! The host's writes reach the device once they are flushed, where the memory is not host-coherent, and commands are
+//! submitted after that. The device's writes reach the host after a barrier to `VK_PIPELINE_STAGE_HOST_BIT` with
 //! `VK_ACCESS_HOST_READ_BIT`, a fence, and an invalidate where the memory is not host-coherent. [`Allocator::write`]
 //! and [`Allocator::read`] flush and invalidate by themselves. They take whole atoms (`nonCoherentAtomSize`): where the
-//! device wrote beside the host's bytes in one block, invalidate before the host writes.
+//! device wrote next to the host's bytes in one block, invalidate before the host writes.
 
 mod allocator;
 mod bytes;

@@ -43,8 +43,8 @@ handles! {
     struct Image(u64);
 }
 
-/// Declares structs of Vulkan, each behind its name there. A number in brackets is `sType`; `pNext` follows it. In C
-/// the fields have the same names, in camel case. Those that begin by an underscore stand for what nobody reads.
+/// Declares structs of Vulkan, each after its name there. A number in brackets is `sType`; `pNext` follows it. In C the
+/// fields have the same names, in camel case. Those that begin with an underscore stand for what nobody reads.
 macro_rules! structs {
     ($( $(#[$attribute:meta])* $visible:vis struct $Name:ident = $c_name:ident $([$s_type:literal])? {
         $( $(#[$of_field:meta])* $field:ident: $Type:ty, )*

@@ -211,7 +211,7 @@ class Drawer:
         for word in self.random.choices(words, often, k=self.random.choice([5, 40, 120, 300])):
             drawn.append(self.command(word))
             if self.chance(0.05):
-                # (a question behind a command that may have been refused shows whether that changed what is told)
+                # (a question behind a command that may have been refused shows whether that changed anything)
                 drawn += ["counts", f"ranges {self.memory_type()}"]
         return drawn + ["counts"]
 

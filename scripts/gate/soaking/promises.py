@@ -138,7 +138,8 @@ class World:
         self.setup, (dedicated, preferred, transient, starting, final, minimal, initial) = setup, setup.config
         self.dedicated, self.preferred, self.transient = dedicated, min(preferred, dedicated), max(transient, dedicated)
         self.blocks, self.objects, self.chunks = {}, {}, collections.defaultdict(list)
-        self.remaining, self.asked, self.named, self.version, self.told = setup.count, collections.Counter(), 0, 0, {}
+        self.remaining, self.asked, self.named = setup.count, collections.Counter(), 0
+        self.version, self.replied = 0, {}
         self.ledgers = [0] * len(setup.heaps)
         # By memory type: what the latest request would ask of a heap that has less left.
         self.over = {}
@@ -430,14 +431,14 @@ class World:
         self.remaining = count
         self.version += 1
 
-    def is_told_again(self, question, reply):
-        """What was told since the last change is told again, word for word."""
-        version, before = self.told.get(question, (-1, ""))
+    def is_replied_again(self, question, reply):
+        """What was replied since the last change is replied again, word for word."""
+        version, before = self.replied.get(question, (-1, ""))
         hold(Promise.NOTHING, version != self.version or reply == before, f"before it was {before}")
-        self.told[question] = self.version, reply
+        self.replied[question] = self.version, reply
 
     def do_counts(self, reply):
-        self.is_told_again("counts", reply)
+        self.is_replied_again("counts", reply)
         found = re.fullmatch(r"counts remaining (\d+) held (\d+) used((?: \d+)*)", reply)
         hold(Promise.FORM, found, "counts are due")
         hold(Promise.REMAINING, int(found[1]) == self.remaining, f"{self.remaining} remain")
@@ -445,10 +446,10 @@ class World:
         hold(Promise.LEDGER, list(map(int, found[3].split())) == self.ledgers, f"they are {self.ledgers}")
 
     def do_ranges(self, reply, memory_type):
-        self.is_told_again(memory_type, reply)
+        self.is_replied_again(memory_type, reply)
         hold(Promise.FORM, re.fullmatch(r"ranges( none|( \d+:\d+-\d+)+)", reply), "free ranges are due")
-        told = [tuple(map(int, re.split("[:-]", place))) for place in reply.split()[1:] if place != "none"]
-        for name, start, end in told:
+        named = [tuple(map(int, re.split("[:-]", place))) for place in reply.split()[1:] if place != "none"]
+        for name, start, end in named:
             held = self.objects.get(name)
             is_chunk = held and held.type == memory_type and held.kind in (BUDDY, LIST)
             hold(Promise.CHUNKS, is_chunk and start < end <= held.size, f"{name}:{start}-{end}")
@@ -456,8 +457,8 @@ class World:
             hold(Promise.MAXIMAL, (start, end) in held.free(), f"{name}:{start}-{end}")
         chunks = (held for kind in (BUDDY, LIST) for held in self.chunks[memory_type, kind])
         due = sorted((held.name, *place) for held in chunks for place in held.free())
-        hold(Promise.MISSING, set(told) == set(due), f"{sorted(set(due) - set(told))}")
-        hold(Promise.ORDER, told == due, "by object and start, each once")
+        hold(Promise.MISSING, set(named) == set(due), f"{sorted(set(due) - set(named))}")
+        hold(Promise.ORDER, named == due, "by object and start, each once")
 
     # Bytes.
 

@@ -1,5 +1,5 @@
-//! What each heap and each memory type has: a ledger, a buddy allocator, a free list and an allocator of fit chunks, opened
-//! and closed.
+//! What each heap and each memory type has: a ledger, a buddy allocator, a free list and an allocator of fit chunks,
+//! opened and closed here.
 
 ghost use Rattle.std.specs.Prelude.{◌≡◌, ◌<◌, length, map as map_list, All, IfOk};
 ghost use Rattle.std.specs.FinMap as map;

@@ -1,4 +1,4 @@
-//! The memory types that would serve, for whoever makes an object itself.
+//! The memory types that would serve a request, for a caller that makes an object itself.
 
 ghost use Rattle.std.specs.Prelude.{◌≡◌, IfOk};
 ghost use Rattle.gpu_alloc_types.specs.Flags.{usage_bits};
@@ -10,11 +10,11 @@ use gpu_alloc_usage::meaning;
 use std::alloc::{AllocError, Allocator};
 
 impl<M: MemoryObject, A: Allocator> GpuAllocator<M, A> {
-    /// The indices of the memory types that serve a usage and whose bit is set in `memory_types` (bit 0 for the type with
-    /// index 0), the best first: exactly those that [`alloc`](GpuAllocator::alloc) tries for such a request, in its order.
-    /// There may be none.
+    /// The indices of the memory types that serve a usage and whose bit is set in `memory_types` (bit 0 for the type
+    /// with index 0), the best first. They are exactly those that [`alloc`](GpuAllocator::alloc) tries for such a
+    /// request, in its order. The list may be empty.
     ///
-    /// `alloc` gives the memory of the list, and the only refusal is want of it. Nothing changes.
+    /// The list takes its memory from `alloc`, and the only error is want of it. Nothing changes.
     pub fn candidates<B: Allocator>(
         &self,
         alloc: B,

@@ -1,4 +1,4 @@
-//! Which way a memory type serves a request.
+//! How a memory type serves a request.
 
 ghost use Rattle.std.specs.Prelude.{◌≡◌, ◌<◌, length};
 ghost use Rattle.gpu_alloc.specs.Allocation.{strategy, unhinted, fits_a_chunk, shares_by};
@@ -12,7 +12,7 @@ use gpu_alloc_types::{MemoryObject, UsageFlags};
 use std::alloc::Allocator;
 
 impl<M: MemoryObject, A: Allocator> GpuAllocator<M, A> {
-    /// Which way a memory type serves a request.
+    /// How a memory type serves a request.
     #[inline(always)]
     pub(super) fn strategy(
         &self,
@@ -33,7 +33,7 @@ impl<M: MemoryObject, A: Allocator> GpuAllocator<M, A> {
         }
     }
 
-    /// Which way a memory type serves a request by its size and its usage.
+    /// How a memory type serves a request by its size and its usage.
     #[inline(always)]
     fn unhinted(&self, request: Request, memory_type: u32) -> Strategy
         requires known { memory_type < length (self.now.properties).memory_types }
@@ -56,7 +56,7 @@ impl<M: MemoryObject, A: Allocator> GpuAllocator<M, A> {
         }
     }
 
-    /// Which way a memory type serves a request that is small and not transient: by a chunk of the kind that was chosen.
+    /// How a memory type serves a request that is small and not transient: by a chunk of the kind that was chosen.
     #[inline(always)]
     fn shared(&self, request: Request, memory_type: u32) -> Strategy
         requires known { memory_type < length (self.now.properties).memory_types }
@@ -69,18 +69,18 @@ impl<M: MemoryObject, A: Allocator> GpuAllocator<M, A> {
         }
     }
 
-    /// Whether a request in whole grains is no larger than a first fit chunk.
+    /// Whether a request in whole grains is no larger than the first fit chunk.
     fn fits_first(&self, request: Request, memory_type: u32) -> bool
         requires known { memory_type < length (self.now.properties).memory_types }
         ensures { result ≡ fits_first self.now request memory_type }
     {
         let part = self.heap_size(memory_type) / 32;
         let grain = self.limits.atom(memory_type).max(LEAST_GRAIN);
-        // (a first chunk is of whole grains itself)
+        // (the first fit chunk has whole grains already)
         request.size <= self.limits.config.starting_free_list_chunk.min(part) / grain * grain
     }
 
-    /// Whether a request in whole atoms fits a largest free-list chunk.
+    /// Whether a request in whole atoms fits the largest free-list chunk.
     #[inline(always)]
     fn fits_a_chunk(&self, request: Request, memory_type: u32) -> bool
         requires known { memory_type < length (self.now.properties).memory_types }

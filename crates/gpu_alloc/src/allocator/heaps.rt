@@ -1,4 +1,4 @@
-//! Heaps: what is held of them, and how much may be asked.
+//! Heaps: what is held of them, and how much more may be asked for.
 
 ghost use Rattle.std.specs.Prelude.{◌≡◌, ◌≢◌, ◌<◌, ℕ, List, length, min};
 ghost use Rattle.gpu_alloc_block.specs.State.{Block, IsOwned, heap_limit, ledger};
@@ -11,8 +11,8 @@ use gpu_alloc_types::MemoryObject;
 use std::alloc::Allocator;
 
 impl<M: MemoryObject, A: Allocator> GpuAllocator<M, A> {
-    /// A heap's ledger: how many bytes the held objects of its memory types count. Only imports bring it past the heap's
-    /// size: what is held beside them is never more than that. The heap has to be there.
+    /// A heap's ledger: how many bytes the held objects of its memory types count. Only imports bring it past the
+    /// heap's size: apart from them, no more is ever held. The heap must exist.
     pub fn heap_used(&self, heap: u32) -> u128
         requires { heap < length (self.now.properties).memory_heaps }
         ensures { result ≡ ledger self.now heap }
@@ -20,8 +20,8 @@ impl<M: MemoryObject, A: Allocator> GpuAllocator<M, A> {
         self.heaps[heap as usize].used()
     }
 
-    /// A heap's limit: how many bytes of it may be held in all before no more are asked for. It is the heap's size where
-    /// none was set, and never more. The heap has to be there.
+    /// A heap's limit: how many bytes of it may be held before no more are asked for. It is at most the heap's size,
+    /// and equals it where no limit was set. The heap must exist.
     pub fn heap_limit(&self, heap: u32) -> u64
         requires { heap < length (self.now.properties).memory_heaps }
         ensures { result ≡ heap_limit self.now heap }
@@ -29,14 +29,14 @@ impl<M: MemoryObject, A: Allocator> GpuAllocator<M, A> {
         self.heaps[heap as usize].limit()
     }
 
-    /// From now on no more is asked of a heap than is left of this limit, in bytes, whatever is held: a memory type of it
-    /// that would have to be asked for more is passed. A limit at or over the heap's size is none. The heap has to be
-    /// there.
+    /// Sets a heap's limit, in bytes. From now on the device is asked for no more of the heap than the limit leaves: a
+    /// memory type that would need more is passed over. A value at or above the heap's size removes the limit. The heap
+    /// must exist.
     ///
-    /// Nothing that is held goes, even where it is more than the limit; a place in a held object is used whatever the
-    /// limit, and imports are never refused for it. Which way a request is served and how large chunks are goes by the
-    /// heap's size as before: no smaller chunk is tried. (A driver tells by Vulkan's VK_EXT_memory_budget how much of a heap
-    /// a program should use. The original crate has no such limit.)
+    /// Nothing that is held is released, even where it exceeds the limit. A place in a held object is used whatever the
+    /// limit, and imports are never refused for it. How a request is served and how large chunks are still depends on
+    /// the heap's size: no smaller chunk is tried. (By Vulkan's VK_EXT_memory_budget a driver reports how much of a
+    /// heap a program should use. The original crate has no such limit.)
     pub fn set_heap_limit(&mut self, heap: u32, limit: u64)
         requires { heap < length (self.old.properties).memory_heaps }
         ensures set { self.new ≡ with_heap_limit self.old heap limit }
@@ -53,10 +53,10 @@ impl<M: MemoryObject, A: Allocator> GpuAllocator<M, A> {
         self.keeps_sound();
     }
 
-    /// A heap's budget: how many bytes may still be asked of it, its limit less its ledger, 0 where the ledger is at or past
-    /// it. A request that would ask for more passes the heap's memory types. (The original crate names the budget in its
-    /// README, and does not keep it. What a driver tells by Vulkan's VK_EXT_memory_budget is
-    /// [`set_heap_limit`](GpuAllocator::set_heap_limit)'s.) The heap has to be there.
+    /// A heap's budget: how many bytes may still be asked of it. It is the limit less the ledger, or 0 where the ledger
+    /// is at or above the limit. A request that needs more passes over the heap's memory types. The heap must exist.
+    /// (The original crate names the budget in its README and does not keep it. What a driver reports by Vulkan's
+    /// VK_EXT_memory_budget is for [`set_heap_limit`](GpuAllocator::set_heap_limit).)
     pub fn heap_budget(&self, heap: u32) -> u64
         requires { heap < length (self.now.properties).memory_heaps }
         ensures { result ≡ heap_budget self.now heap }

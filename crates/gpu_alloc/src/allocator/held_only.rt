@@ -26,21 +26,24 @@ use std::marker::Brand;
 use std::sync::ledger::Blank;
 
 impl<M: MemoryObject, A: Allocator> GpuAllocator<M, A> {
-    /// Allocates a block from what is held. The device is asked for nothing, and is as it was. `Ok(None)` where the
-    /// request could only be served by asking.
+    /// Allocates a block from what is held. The device is asked for nothing, and is unchanged. It returns `Ok(None)`
+    /// where the request could be served only by asking.
     ///
     /// The request is that of [`alloc`](GpuAllocator::alloc), of `alloc_with_dedicated` where there is a hint, and of
-    /// `alloc_optimal` where there is a granularity, in bytes. The memory types are looked at in rank, and the first
-    /// that has a place in a chunk of its own serves the request, as it would be served there. So a type that those
-    /// calls would ask for a chunk is passed over for a later one that has a place. A type that serves the request by
-    /// an object of its own has none: with `Required` it is `Ok(None)` wherever it is not refused. How many more
-    /// objects may be held is of no account.
+    /// `alloc_optimal` where there is a granularity, in bytes. The memory types are tried in rank. The first with a
+    /// place in one of its chunks serves the request as those calls would serve it there. So a type that they would ask
+    /// for a chunk is passed over for a later one that has a place. A type that serves the request by an object of its
+    /// own has no place: with `Required` the answer is `Ok(None)` or an error. How many more objects may be held does
+    /// not matter.
     ///
-    /// The conditions are those of the other calls. The refusals, in the order in which they are tested:
-    /// `OutOfDeviceMemory` where the size is over the limit given to `new`, or whole pages for it would have 2^64
-    /// bytes or more; `NoCompatibleMemoryTypes` where no memory type among the request's serves its usage;
-    /// `OutOfHostMemory` where the host's memory was refused for a block that has a place. After a refusal and after
-    /// `Ok(None)` the allocator is as before. (The original crate knows no such call.)
+    /// The conditions are those of the other calls. The errors, in the order in which they are tested:
+    ///
+    /// - `OutOfDeviceMemory` where the size is over the limit given to `new`, or whole pages for it would have 2^64
+    ///   bytes or more
+    /// - `NoCompatibleMemoryTypes` where no memory type among the request's serves its usage
+    /// - `OutOfHostMemory` where host memory is missing for a block that has a place.
+    ///
+    /// After an error and after `Ok(None)` the allocator is unchanged. (The original crate has no such call.)
     pub fn alloc_held<D: ObjectDevice<M>>(
         &mut self,
         device: &mut D,
@@ -52,7 +55,7 @@ impl<M: MemoryObject, A: Allocator> GpuAllocator<M, A> {
         requires granularity { IfSome granularity IsGranularity }
         requires agrees { Agrees self.old (D.properties device.old) (D.objects device.old) }
 
-        // The answer and the new state are what the decision says, and the device was asked for nothing.
+        // The answer and the new state follow the decision, and the device was asked for nothing.
         ensures decided { AllocatesHeld self.old (plan_held self.old request dedicated granularity) result self.new }
         ensures unasked { device.new ≡ device.old }
         ensures agrees { Agrees self.new (D.properties device.new) (D.objects device.new) }
@@ -110,8 +113,8 @@ impl<M: MemoryObject, A: Allocator> GpuAllocator<M, A> {
         }
     }
 
-    /// Allocates a block from what is held. Where the same request in whole pages is given, that is served. (Of the
-    /// memory type that has a place the block is asked for as any other is, so that other requests do not pay for it.)
+    /// Allocates a block from what is held, for the same request in whole pages where that is given. (The memory type
+    /// with a place then serves it like any other request, so that other requests do not pay for this call.)
     fn take_held<D: ObjectDevice<M>>(
         &mut self,
         device: &mut D,
@@ -148,7 +151,7 @@ impl<M: MemoryObject, A: Allocator> GpuAllocator<M, A> {
         }
     }
 
-    /// The first candidate in rank that has a place for what it is asked. None where none has.
+    /// The first candidate in rank that has a place for its request, or `None`.
     fn first_with_place(
         &mut self,
         request: &Request,
@@ -174,7 +177,7 @@ impl<M: MemoryObject, A: Allocator> GpuAllocator<M, A> {
         None
     }
 
-    /// Whether a memory type has a place for what it is asked, for whole pages where the same request in them is given.
+    /// Whether a memory type has a place for its request: for whole pages where the same request in them is given.
     fn has_place_asked(
         &mut self,
         request: &Request,
@@ -198,8 +201,8 @@ impl<M: MemoryObject, A: Allocator> GpuAllocator<M, A> {
         }
     }
 
-    /// Whether a memory type has a place for a request, with a hint or none. (What has none in fit chunks is remembered
-    /// there.)
+    /// Whether a memory type has a place for a request, perhaps with a hint. (Fit chunks remember a request that has no
+    /// place in them.)
     fn has_place(&mut self, request: Request, hint: Option<Dedicated>, memory_type: u32) -> bool
         requires askable { IsAskable (self.old.properties).buffer_device_address request }
         requires known { memory_type < length (self.old.properties).memory_types }
@@ -214,7 +217,8 @@ impl<M: MemoryObject, A: Allocator> GpuAllocator<M, A> {
         }
     }
 
-    /// Whether a buddy chunk of a memory type has a place: its allocator does not refuse, though nothing remains.
+    /// Whether a buddy chunk of a memory type has a place: its allocator does not refuse although no more objects may
+    /// be held.
     fn has_buddy_place(&self, request: Request, memory_type: u32) -> bool
         requires askable { IsAskable (self.now.properties).buffer_device_address request }
         requires known { memory_type < length (self.now.properties).memory_types }
@@ -232,7 +236,8 @@ impl<M: MemoryObject, A: Allocator> GpuAllocator<M, A> {
         refusal.is_none()
     }
 
-    /// Whether a free-list chunk of a memory type has a place: the free list does not refuse, though nothing remains.
+    /// Whether a free-list chunk of a memory type has a place: the free list does not refuse although no more objects
+    /// may be held.
     fn has_list_place(&self, request: Request, memory_type: u32) -> bool
         requires askable { IsAskable (self.now.properties).buffer_device_address request }
         requires known { memory_type < length (self.now.properties).memory_types }
@@ -244,7 +249,8 @@ impl<M: MemoryObject, A: Allocator> GpuAllocator<M, A> {
         list.refuses(request.size, request.align_mask, heap, 0)
             .is_none()
     }
-    /// Whether a fit chunk of a memory type has a place: its allocator does not refuse, though nothing remains.
+    /// Whether a fit chunk of a memory type has a place: its allocator does not refuse although no more objects may be
+    /// held.
     fn has_fit_place(&mut self, request: Request, memory_type: u32) -> bool
         requires askable { IsAskable (self.old.properties).buffer_device_address request }
         requires known { memory_type < length (self.old.properties).memory_types }

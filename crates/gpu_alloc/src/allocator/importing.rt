@@ -18,19 +18,19 @@ use gpu_alloc_types::{MemoryObject, MemoryPropertyFlags};
 use std::alloc::Allocator;
 
 impl<M: MemoryObject, A: Allocator> GpuAllocator<M, A> {
-    /// Takes over a memory object that another made, and gives the block of `size` bytes from `offset` on in it. The
+    /// Imports a memory object that another made, and returns the block of `size` bytes from `offset` on in it. The
     /// allocator holds the object from then on: one fewer may be held, and the ledger of its heap rises by `size`,
-    /// however large the object is. The block is not mapped. `dealloc` takes it back, and gives the object back to the
+    /// however large the object is. The block is not mapped. `dealloc` returns it and releases the object to the
     /// device.
     ///
-    /// The device is not asked. So that the allocator agrees with it afterwards, and so does the block, it has to hold
-    /// the object, of this memory type and unmapped, with the bytes inside it; where the host sees the memory type and
-    /// it is not coherent, they have to end at a multiple of `non_coherent_atom_size` or where the object ends (the
-    /// Vulkan specification's rule on `VkMappedMemoryRange`, which the block's flushes keep to).
+    /// The device is not called. For the allocator and the block to agree with it afterwards, it must hold the object,
+    /// of this memory type and unmapped, with the range inside it. Where the memory type is host-visible and not
+    /// coherent, the range must end at a multiple of `non_coherent_atom_size` or at the object's end (the Vulkan
+    /// specification's rule on `VkMappedMemoryRange`, which the block's flushes keep).
     ///
-    /// The memory type has to be one that is there, and `props` its properties. One object more may be held
-    /// (`remaining_allocations`), none of the object's name is (`holds`), `size` is at least 1, and `offset + size` is
-    /// a number of 64 bits. The only refusal is want of host memory: the object comes back, and all is as before.
+    /// The memory type must exist, and `props` must be its properties. One object more may be held
+    /// (`remaining_allocations`), no object of this name is held (`holds`), `size` is at least 1, and `offset + size`
+    /// is a 64-bit number. The only error is want of host memory: the handle comes back, and nothing has changed.
     pub fn import_memory(
         &mut self,
         memory: M,
@@ -65,7 +65,7 @@ impl<M: MemoryObject, A: Allocator> GpuAllocator<M, A> {
         answer
     }
 
-    /// Holds an object for the one block in it, or hands it back.
+    /// Holds an object for the one block in it, or hands its handle back.
     fn take_over(
         &mut self,
         memory: M,

@@ -1,4 +1,4 @@
-//! What an allocator holds and has given out, and what its device offers, for whoever tells of it.
+//! What an allocator holds and has given out, and what its device offers, for reports.
 
 ghost use Rattle.std.specs.Prelude.{◌≡◌, ◌++◌, ◌<◌, ◌^◌, ℕ, List, IfOk, OnOk, length, map as mapped, nat_eq};
 ghost use Rattle.std.specs.List.{IsDistinct};
@@ -39,7 +39,7 @@ impl<M: MemoryObject, A: Allocator> GpuAllocator<M, A> {
         self.heaps.len() as u32
     }
 
-    /// The size of a heap, in bytes. The heap has to be there.
+    /// The size of a heap, in bytes. The heap must exist.
     pub fn heap_bytes(&self, heap: u32) -> u64
         requires { heap < length (self.now.properties).memory_heaps }
         ensures { result ≡ heap_bytes self.now.properties heap }
@@ -47,7 +47,7 @@ impl<M: MemoryObject, A: Allocator> GpuAllocator<M, A> {
         self.heaps[heap as usize].size()
     }
 
-    /// What an object of this name is held as, exactly where it is held. It goes over what is held.
+    /// What an object of this name is held as, or `None` where it is not held. It searches all that is held.
     pub fn held(&self, object: u64) -> Option<HeldRow>
         ensures { option_map held_of result ≡ map.get self.now.held object }
     {
@@ -75,9 +75,9 @@ impl<M: MemoryObject, A: Allocator> GpuAllocator<M, A> {
         None
     }
 
-    /// The held objects, each once with its name, in no order that is told.
+    /// The held objects, each once with its name, in no particular order.
     ///
-    /// `alloc` gives the memory of the list, and the only refusal is want of it. Nothing changes.
+    /// The list takes its memory from `alloc`, and the only error is want of it. Nothing changes.
     pub fn objects<B: Allocator>(&self, alloc: B) -> Result<Vec<(u64, HeldRow), B>, AllocError>
         ensures exact { IfOk result (λ rows. objects_in rows.items ≡ self.now.held) }
         ensures once { IfOk result (λ rows. IsDistinct nat_eq (keys_of rows.items)) }
@@ -100,9 +100,9 @@ impl<M: MemoryObject, A: Allocator> GpuAllocator<M, A> {
         Ok(rows)
     }
 
-    /// The live spans, each once, in no order that is told.
+    /// The live spans, each once, in no particular order.
     ///
-    /// `alloc` gives the memory of the list, and the only refusal is want of it. Nothing changes.
+    /// The list takes its memory from `alloc`, and the only error is want of it. Nothing changes.
     pub fn live<B: Allocator>(&self, alloc: B) -> Result<Vec<LiveSpan, B>, AllocError>
         ensures exact { IfOk result (λ rows. set.from_list (mapped span_in rows.items) ≡ self.now.live) }
         ensures once { IfOk result (λ rows. AreOnce (mapped span_in rows.items)) }
@@ -124,7 +124,7 @@ impl<M: MemoryObject, A: Allocator> GpuAllocator<M, A> {
     }
 }
 
-/// What a chunk of a memory type's buddy allocator is.
+/// A chunk of a memory type's buddy allocator as a row.
 fn buddy_row_of<M: MemoryObject>(chunk: &Chunk<M>, memory_type: u32) -> HeldRow
     requires { (chunk.now).order < 64 }
     ensures { result ≡ record { memory_type = memory_type; counted = 2 ^ (chunk.now).order; kind = Kind.BuddyChunk } }
@@ -136,8 +136,8 @@ fn buddy_row_of<M: MemoryObject>(chunk: &Chunk<M>, memory_type: u32) -> HeldRow
     }
 }
 
-/// What an object of this name is, exactly where it is a chunk of a memory type's buddy allocator. It looks at all of
-/// them.
+/// The row of an object of this name, or `None` where it is not a chunk of a memory type's buddy allocator. It searches
+/// all of them.
 fn buddy_chunk_of<M: MemoryObject, A: Allocator>(
     buddy: &BuddyAllocator<M, A>,
     memory_type: u32,
@@ -155,10 +155,10 @@ fn buddy_chunk_of<M: MemoryObject, A: Allocator>(
     None
 }
 
-/// Adds to a list what each chunk of a memory type's buddy allocator is, each once with its name, in no order that is
-/// told.
+/// Adds the row of each chunk of a memory type's buddy allocator to a list, each once with its name, in no particular
+/// order.
 ///
-/// The only refusal is want of memory. Nothing else changes.
+/// The only error is want of memory. Nothing else changes.
 fn list_buddy_chunks<M: MemoryObject, A: Allocator, B: Allocator>(
     buddy: &BuddyAllocator<M, A>,
     memory_type: u32,
@@ -175,7 +175,7 @@ fn list_buddy_chunks<M: MemoryObject, A: Allocator, B: Allocator>(
     Ok(())
 }
 
-/// What a chunk of a memory type's free list is.
+/// A chunk of a memory type's free list as a row.
 fn row_of<M: MemoryObject>(chunk: &NumberedChunk<M>, memory_type: u32) -> HeldRow
     ensures { result ≡ record {
       memory_type = memory_type;
@@ -190,7 +190,8 @@ fn row_of<M: MemoryObject>(chunk: &NumberedChunk<M>, memory_type: u32) -> HeldRo
     }
 }
 
-/// What an object of this name is, exactly where it is a chunk of a memory type's free list. It looks at all of them.
+/// The row of an object of this name, or `None` where it is not a chunk of a memory type's free list. It searches all
+/// of them.
 fn chunk_of<M: MemoryObject, A: Allocator>(
     list: &FreeListAllocator<M, A>,
     memory_type: u32,
@@ -208,9 +209,9 @@ fn chunk_of<M: MemoryObject, A: Allocator>(
     None
 }
 
-/// Adds to a list what each chunk of a memory type's free list is, each once with its name, in no order that is told.
+/// Adds the row of each chunk of a memory type's free list to a list, each once with its name, in no particular order.
 ///
-/// The only refusal is want of memory. Nothing else changes.
+/// The only error is want of memory. Nothing else changes.
 fn list_chunks<M: MemoryObject, A: Allocator, B: Allocator>(
     list: &FreeListAllocator<M, A>,
     memory_type: u32,
@@ -227,9 +228,9 @@ fn list_chunks<M: MemoryObject, A: Allocator, B: Allocator>(
     Ok(())
 }
 
-/// Adds to a list the span of each live block of a free list, each once, in no order that is told.
+/// Adds the span of each live block of a free list to a list, each once, in no particular order.
 ///
-/// The only refusal is want of memory. Nothing else changes.
+/// The only error is want of memory. Nothing else changes.
 fn list_slots<M: MemoryObject, A: Allocator, B: Allocator>(
     list: &FreeListAllocator<M, A>,
     rows: &mut Vec<LiveSpan, B>,
@@ -250,7 +251,7 @@ fn list_slots<M: MemoryObject, A: Allocator, B: Allocator>(
     Ok(())
 }
 
-/// What a fit chunk of a memory type is.
+/// A fit chunk of a memory type as a row.
 fn fit_row_of<M: MemoryObject>(chunk: &FitChunk<M>, memory_type: u32) -> HeldRow
     ensures { result ≡ record { memory_type = memory_type; counted = (chunk.now).size; kind = Kind.FitChunk } }
 {
@@ -261,7 +262,7 @@ fn fit_row_of<M: MemoryObject>(chunk: &FitChunk<M>, memory_type: u32) -> HeldRow
     }
 }
 
-/// What an object of this name is, exactly where it is a fit chunk of a memory type. It looks at all of them.
+/// The row of an object of this name, or `None` where it is not a fit chunk of a memory type. It searches all of them.
 fn fit_chunk_of<M: MemoryObject, A: Allocator>(
     fit: &FitAllocator<M, A>,
     memory_type: u32,
@@ -279,9 +280,9 @@ fn fit_chunk_of<M: MemoryObject, A: Allocator>(
     None
 }
 
-/// Adds to a list what each fit chunk of a memory type is, each once with its name, in no order that is told.
+/// Adds the row of each fit chunk of a memory type to a list, each once with its name, in no particular order.
 ///
-/// The only refusal is want of memory. Nothing else changes.
+/// The only error is want of memory. Nothing else changes.
 fn list_fit_chunks<M: MemoryObject, A: Allocator, B: Allocator>(
     fit: &FitAllocator<M, A>,
     memory_type: u32,

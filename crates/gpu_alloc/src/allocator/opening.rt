@@ -19,12 +19,12 @@ use gpu_alloc_types::{DeviceProperties, MemoryObject};
 use std::alloc::{AllocError, Allocator};
 
 impl<M: MemoryObject, A: Allocator + Copy> GpuAllocator<M, A> {
-    /// An allocator that holds nothing, for a device with these properties, which have to be its own. The device is not
-    /// asked. It may hold `max_memory_allocation_count` objects, and `config` decides which requests share one.
+    /// An allocator that holds nothing, for the device with these properties. The device is not called. It may hold
+    /// `max_memory_allocation_count` objects, and `config` decides which requests share one.
     ///
-    /// `alloc` gives the memory of its tables. The properties have to be usable (`DeviceProperties::is_usable`). The
-    /// only refusal is `OutOfHostMemory`. Requests share buddy chunks: [`with_sharing`](GpuAllocator::with_sharing)
-    /// takes another choice.
+    /// Its tables take their memory from `alloc`. The properties must be usable (`DeviceProperties::is_usable`). The
+    /// only error is `OutOfHostMemory`. Requests share buddy chunks: for another choice see
+    /// [`with_sharing`](GpuAllocator::with_sharing).
     pub fn new(
         alloc: A,
         config: Config,
@@ -39,8 +39,8 @@ impl<M: MemoryObject, A: Allocator + Copy> GpuAllocator<M, A> {
         GpuAllocator::with_sharing(alloc, config, props, Sharing::Buddy)
     }
 
-    /// As [`new`](GpuAllocator::new), with the choice how requests that are not `TRANSIENT` share objects: in buddy chunks,
-    /// as in the original crate, or in fit chunks. It stays as it is ([`sharing`](GpuAllocator::sharing)).
+    /// As [`new`](GpuAllocator::new), with a choice how requests that are not `TRANSIENT` share objects: in buddy
+    /// chunks, as in the original crate, or in fit chunks. The choice is fixed ([`sharing`](GpuAllocator::sharing)).
     pub fn with_sharing(
         alloc: A,
         config: Config,

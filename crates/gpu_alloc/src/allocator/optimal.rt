@@ -1,4 +1,4 @@
-//! Images that are not linear, apart from all else in a shared object by whole pages of a granularity.
+//! Images that are not linear, which whole pages of a granularity keep apart from all else in a shared object.
 
 ghost use Rattle.std.specs.Prelude.{◌≡◌, ◌<◌, ◌↔◌, List, length, true, false, Some, None, IfOk, IfSome, OnErr, IsTrue};
 ghost use Rattle.gpu_alloc_types.specs.Device.{Event, Chain};
@@ -21,18 +21,17 @@ use std::alloc::Allocator;
 
 impl<M: MemoryObject, A: Allocator> GpuAllocator<M, A> {
     /// Allocates a block as [`alloc`](GpuAllocator::alloc) does, or with a hint as `alloc_with_dedicated`, for an image
-    /// that is not linear, which may share no page of `granularity` bytes with a buffer or a linear image (Vulkan's
-    /// `bufferImageGranularity`).
+    /// that is not linear. Such an image may share no page of `granularity` bytes with a buffer or a linear image
+    /// (Vulkan's `bufferImageGranularity`).
     ///
-    /// In a shared object the block begins at a page, and its whole pages hold the request's size: it is served as a
-    /// request of that size rounded up to pages and aligned to one at least, and which way it is served goes by that. So
-    /// no page that has one of the block's first `size` bytes has a byte of another block. An object of its own has
-    /// exactly the request's size.
+    /// In a shared object the block begins at a page, and its whole pages hold the request's size. It is served as a
+    /// request of that size rounded up to pages and aligned to one at least. So no page with one of the block's first
+    /// `size` bytes has a byte of another block. An object of its own has exactly the request's size.
     ///
-    /// The granularity has to be a power of two of at most 2^32; with 1 all is as `alloc` has it. The other conditions
-    /// and the refusals are those of `alloc`: limit of size and test of the heap go by the size as asked, and
-    /// `OutOfDeviceMemory` is also where whole pages for it would have 2^64 bytes or more. (The original crate knows no
-    /// granularity.)
+    /// The granularity must be a power of two of at most 2^32; with 1 this is `alloc`. The other conditions and the
+    /// errors are those of `alloc`. The limit of size and the test of the heap use the size as asked.
+    /// `OutOfDeviceMemory` is also the error where whole pages for it would have 2^64 bytes or more. (The original
+    /// crate has no granularity.)
     pub fn alloc_optimal<D: ObjectDevice<M>>(
         &mut self,
         device: &mut D,
@@ -44,7 +43,7 @@ impl<M: MemoryObject, A: Allocator> GpuAllocator<M, A> {
         requires granularity { IsGranularity granularity }
         requires agrees { Agrees self.old (D.properties device.old) (D.objects device.old) }
 
-        // What was asked of the device, the answer and the new state are what the decision says.
+        // The calls of the device, the answer and the new state follow the decision.
         ensures decided { (es : List Event) × Chain D.step device.old es device.new
             × AllocatesOptimal self.old request dedicated granularity es result self.new }
         ensures objects { ObjectsAfter self.old result self.new (D.objects device.old) (D.objects device.new) }
@@ -96,8 +95,9 @@ impl<M: MemoryObject, A: Allocator> GpuAllocator<M, A> {
         }
     }
 
-    /// Whether a memory type serves a request, with a hint or none, by an object of the block's own: by the request, what the
-    /// allocator was opened with and the memory type alone, whatever is held. The memory type has to be there.
+    /// Whether a memory type serves a request, perhaps with a hint, by an object of the block's own. This depends on
+    /// the request, the memory type and what the allocator was opened with, whatever is held. The memory type must
+    /// exist.
     #[inline(always)]
     pub fn serves_alone(
         &self,
@@ -114,7 +114,7 @@ impl<M: MemoryObject, A: Allocator> GpuAllocator<M, A> {
         }
     }
 
-    /// Tries one memory type, for whole pages where the same request in them is given: none where it is passed.
+    /// Tries one memory type, for whole pages where the same request in them is given: `None` where it is passed over.
     #[inline(always)]
     pub(super) fn try_asked<D: ObjectDevice<M>>(
         &mut self,
@@ -162,7 +162,7 @@ impl<M: MemoryObject, A: Allocator> GpuAllocator<M, A> {
         self.try_type(device, request, hint, memory_type)
     }
 
-    /// What a memory type is asked for whole pages. (It stands apart, so that other requests do not pay for it.)
+    /// What a memory type is asked for in whole pages. (It stands apart so that other requests do not pay for it.)
     #[cold]
     #[inline(never)]
     pub(super) fn ask_in_pages(

@@ -12,13 +12,17 @@ use gpu_alloc_types::MemoryObject;
 use std::alloc::Allocator;
 
 impl<M: MemoryObject, A: Allocator> GpuAllocator<M, A> {
-    /// Whether a block is live here: its object, span, memory type and kind are. Which allocator made it is not asked.
+    /// Whether a block is live here: its object, span, memory type and kind are. It does not ask which allocator made
+    /// it.
     ///
-    /// Its contract also tells what holds of every allocator between calls (`sound`): live spans are not empty and
-    /// share no byte, each lies in its object as the object's kind says, and in a buddy chunk has a power of two of bytes
-    /// and begins at a multiple of its size; an object of one block has no other, no object but a chunk of a free list or a
-    /// fit chunk is held without one, of a memory type at most one fit chunk is, the chunks of a free list have numbers of
-    /// their own, shared chunks are of the kind that was chosen, and of no heap is more held beside imports than it has.
+    /// Its contract also says what holds of every allocator between calls (`sound`):
+    ///
+    /// - Live spans are not empty and share no byte. Each lies in its object as the object's kind says. In a buddy
+    ///   chunk it has a power of two of bytes and begins at a multiple of its size.
+    /// - An object of one block has no other. Only chunks of a free list and fit chunks are held without a live block,
+    ///   and at most one fit chunk of a memory type is.
+    /// - Chunks of a free list have numbers of their own. Shared chunks are of the kind that was chosen.
+    /// - Apart from imports, no more of a heap is held than it has.
     pub fn owns(&self, block: &MemoryBlock<M>) -> bool
         ensures owned { IsTrue result ↔ IsOwned self.now block.now }
         ensures sound { Sound.IsSound self.now }
@@ -62,7 +66,7 @@ impl<M: MemoryObject, A: Allocator> GpuAllocator<M, A> {
         }
     }
 
-    /// Whether a block of a free list's chunk of this number is live here.
+    /// Whether a block of a free list's chunk with this number is live here.
     fn has_in_list(&self, block: &MemoryBlock<M>, number: u64) -> bool
         requires { (block.now).kind ≡ Kind.FreeListChunk number }
         ensures { IsTrue result ↔ IsOwned self.now block.now }

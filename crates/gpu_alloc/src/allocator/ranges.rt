@@ -12,15 +12,15 @@ use gpu_alloc_types::{FreeRange, MemoryObject};
 use std::alloc::{AllocError, Allocator};
 
 impl<M: MemoryObject, A: Allocator + Copy> GpuAllocator<M, A> {
-    /// The free ranges of a memory type's shared chunks, by the name of their object, then by start. Each is in bytes
-    /// of its object.
+    /// The free ranges of a memory type's shared chunks, sorted by the name of their object, then by start. Each is in
+    /// bytes of its object.
     ///
-    /// Of a buddy chunk these are the free pieces: the longest ranges of a power of two of bytes, at a multiple of
-    /// their length, that lie in no live block. Of a free list's chunk and of a fit chunk they are the free runs: the
-    /// longest ranges that lie in none. An object of one block has none.
+    /// In a buddy chunk these are the free pieces: the longest ranges of a power of two of bytes, at a multiple of
+    /// their length, that lie in no live block. In a chunk of a free list and in a fit chunk they are the free runs:
+    /// the longest ranges that lie in no live block. An object of one block has none.
     ///
-    /// The memory type has to be there. The only refusal is `OutOfHostMemory`, since the answer and the list of each
-    /// part take host memory. Nothing changes.
+    /// The memory type must exist. The only error is `OutOfHostMemory`: the answer and the list of each part take host
+    /// memory. Nothing changes.
     pub fn free_ranges(&self, memory_type: u32) -> Result<Vec<FreeRange, A>, AllocationError>
         requires { memory_type < length (self.now.properties).memory_types }
         ensures exact { IfOk result

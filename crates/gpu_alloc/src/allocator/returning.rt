@@ -1,4 +1,4 @@
-//! How a block goes back, by what its object is held for.
+//! How a block is returned, by what its object is held for.
 
 ghost use Rattle.std.specs.Prelude.{◌≡◌, ℕ, ◌<◌, List, length, false};
 ghost use Rattle.gpu_alloc_types.specs.Device.{Event, Chain};
@@ -20,7 +20,7 @@ use std::marker::Brand;
 use std::sync::ledger::Blank;
 
 impl<M: MemoryObject, A: Allocator> GpuAllocator<M, A> {
-    /// Takes a block back, by what its object is held for.
+    /// Returns a block, by what its object is held for.
     pub(super) fn take_back<D: ObjectDevice<M>>(&mut self, device: &mut D, block: MemoryBlock<M>)
         requires owned { IsOwned self.old block }
         requires agrees { Agrees self.old (D.properties device.old) (D.objects device.old) }
@@ -37,7 +37,7 @@ impl<M: MemoryObject, A: Allocator> GpuAllocator<M, A> {
         }
     }
 
-    /// Takes back the one block of an object.
+    /// Returns the one block of an object, and releases the object.
     fn dealloc_object<D: ObjectDevice<M>>(&mut self, device: &mut D, block: MemoryBlock<M>)
         requires own { is_shared block.kind ≡ false }
         requires owned { IsOwned self.old block }
@@ -60,7 +60,7 @@ impl<M: MemoryObject, A: Allocator> GpuAllocator<M, A> {
         self.keeps_sound();
     }
 
-    /// Takes back a block of a buddy chunk.
+    /// Returns a block of a buddy chunk.
     fn dealloc_in_chunk<D: ObjectDevice<M>>(&mut self, device: &mut D, block: MemoryBlock<M>)
         requires shared { block.kind ≡ Kind.BuddyChunk }
         requires owned { IsOwned self.old block }
@@ -87,7 +87,7 @@ impl<M: MemoryObject, A: Allocator> GpuAllocator<M, A> {
         );
     }
 
-    /// Takes back a block of a free list's chunk of this number.
+    /// Returns a block of a free list's chunk with this number.
     fn dealloc_in_list<D: ObjectDevice<M>>(
         &mut self,
         device: &mut D,
@@ -120,7 +120,7 @@ impl<M: MemoryObject, A: Allocator> GpuAllocator<M, A> {
         );
     }
 
-    /// Takes back a block of a fit chunk.
+    /// Returns a block of a fit chunk.
     fn dealloc_in_fit<D: ObjectDevice<M>>(&mut self, device: &mut D, block: MemoryBlock<M>)
         requires shared { block.kind ≡ Kind.FitChunk }
         requires owned { IsOwned self.old block }
@@ -149,8 +149,8 @@ impl<M: MemoryObject, A: Allocator> GpuAllocator<M, A> {
         );
     }
 
-    /// Gives a memory type's chunks in which no block is live back to the device: those of its free list, the oldest
-    /// first, and then its fit chunk.
+    /// Releases a memory type's chunks without a live block: those of its free list, the oldest first, and then its fit
+    /// chunk.
     pub(super) fn clean_type<D: ObjectDevice<M>>(&mut self, device: &mut D, memory_type: u32)
         requires known { memory_type < length (self.old.properties).memory_types }
         requires agrees { Agrees self.old (D.properties device.old) (D.objects device.old) }
@@ -163,7 +163,7 @@ impl<M: MemoryObject, A: Allocator> GpuAllocator<M, A> {
         self.clean_fit(device, memory_type);
     }
 
-    /// Gives a memory type's fit chunk in which no block is live back to the device, if there is one.
+    /// Releases a memory type's fit chunk without a live block, if there is one.
     fn clean_fit<D: ObjectDevice<M>>(&mut self, device: &mut D, memory_type: u32)
         requires known { memory_type < length (self.old.properties).memory_types }
         requires agrees { Agrees self.old (D.properties device.old) (D.objects device.old) }
@@ -180,7 +180,7 @@ impl<M: MemoryObject, A: Allocator> GpuAllocator<M, A> {
         );
     }
 
-    /// Gives a memory type's free-list chunks in which no block is live back to the device, the oldest first.
+    /// Releases a memory type's free-list chunks without a live block, the oldest first.
     fn clean_list<D: ObjectDevice<M>>(&mut self, device: &mut D, memory_type: u32)
         requires known { memory_type < length (self.old.properties).memory_types }
         requires agrees { Agrees self.old (D.properties device.old) (D.objects device.old) }

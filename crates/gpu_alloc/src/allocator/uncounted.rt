@@ -1,5 +1,5 @@
-//! Calls of a buddy allocator, and a return of a fit chunk's block, that count nothing: each begins ledgers of counts that
-//! nobody reads.
+//! Calls of a buddy allocator, and returns of a fit chunk's block, that count nothing: each begins ledgers of counts
+//! that nobody reads.
 
 ghost use Rattle.std.specs.Prelude.{◌≡◌, ℕ, ◌≤◌, ◌<◌, ◌↔◌, ◌^◌, IfOk, OnErr, IsTrue};
 ghost use Rattle.gpu_alloc_types.specs.Flags.{allocation_bits, has_bit, with_device_address};
@@ -26,7 +26,7 @@ use gpu_alloc_types::{AllocationFlags, MemoryObject, ObjectDevice};
 use std::alloc::Allocator;
 use std::sync::ledger::{Blank, Ledger};
 
-/// The refusal that `BuddyAllocator::alloc` gives a request first, as `BuddyAllocator::refuses` tells it.
+/// The error that `BuddyAllocator::alloc` would give a request first, from `BuddyAllocator::refuses`.
 pub(super) fn refuses<M: MemoryObject, A: Allocator, L: Ledger>(
     buddy: &BuddyAllocator<M, A>,
     size: u64,
@@ -87,7 +87,7 @@ pub(super) fn alloc<M: MemoryObject, A: Allocator, D: ObjectDevice<M>, L: Ledger
     )
 }
 
-/// Takes a block back, as `BuddyAllocator::dealloc` does.
+/// Returns a block, as `BuddyAllocator::dealloc` does.
 pub(super) fn dealloc<M: MemoryObject, A: Allocator, D: ObjectDevice<M>, L: Ledger>(
     buddy: &mut BuddyAllocator<M, A>,
     device: &mut D,
@@ -111,7 +111,7 @@ pub(super) fn dealloc<M: MemoryObject, A: Allocator, D: ObjectDevice<M>, L: Ledg
     buddy.dealloc(device, block, heap, allocations_remains, &mut releases);
 }
 
-/// Takes a block of a fit chunk back, as `FitAllocator::dealloc` does.
+/// Returns a block of a fit chunk, as `FitAllocator::dealloc` does.
 pub(super) fn dealloc_fit<M: MemoryObject, A: Allocator, D: ObjectDevice<M>, L: Ledger>(
     fits: &mut FitAllocator<M, A>,
     device: &mut D,

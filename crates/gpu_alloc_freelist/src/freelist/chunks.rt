@@ -51,10 +51,10 @@ struct NumberedKey {
     key: usize,
 }
 
-/// The held chunks of a free list: in a slab, and beside it their numbers in rising order, each with its chunk's key.
+/// The held chunks of a free list: a slab of chunks, and their numbers in rising order, each with its chunk's key.
 ///
-/// A chunk is found in a time that grows with the logarithm of how many are held. Where one goes, the greater numbers
-/// move up in their vector, and no other chunk moves.
+/// A chunk is found in time logarithmic in the held chunks. Where one is removed, the greater numbers move up in their
+/// vector, and no other chunk moves.
 #[derive(Drop)]
 pub(super) struct Chunks<M: MemoryObject, A: Allocator = Global> {
     rows: Slab<NumberedChunk<M>, A>,
@@ -78,7 +78,7 @@ impl<M: MemoryObject, A: Allocator> Model for Chunks<M, A> {
 }
 
 impl<M: MemoryObject, A: Allocator + Copy> Chunks<M, A> {
-    /// No chunk. `alloc` gives the memory of the two stores, of which this call takes none.
+    /// No chunks. The two stores take their memory from `alloc`; this call takes none.
     pub(super) fn new(alloc: A) -> Self
         ensures empty { result.held ≡ map.empty }
     {
@@ -97,7 +97,7 @@ impl<M: MemoryObject, A: Allocator> Chunks<M, A> {
         self.numbers.is_empty()
     }
 
-    /// The held chunks, each once, in no order that is told.
+    /// The held chunks, each once, in no particular order.
     pub(super) fn iter(&self) -> Iter<'_, NumberedChunk<M>>
         ensures { ListsChunks M.object self.now.held result }
     {
@@ -106,7 +106,7 @@ impl<M: MemoryObject, A: Allocator> Chunks<M, A> {
 
     /// Makes room for one more chunk, so that one `push` cannot fail.
     ///
-    /// The only refusal is want of memory. Nothing but the room changes, which is no less, after a refusal too.
+    /// The only error is want of memory. Nothing but the room changes, and it never shrinks, even after an error.
     pub(super) fn reserve(&mut self) -> Result<(), AllocError>
         ensures room { OnOk result (0 < self.new.room) }
         ensures stays { self.old.room ≤ self.new.room }
@@ -117,7 +117,7 @@ impl<M: MemoryObject, A: Allocator> Chunks<M, A> {
         self.numbers.reserve(1)
     }
 
-    /// Adds a chunk under a number that is greater than each that is held, into room that was made. `size` is in bytes.
+    /// Adds a chunk under a number greater than each that is held, into room that was made. `size` is in bytes.
     pub(super) fn push(&mut self, number: u64, memory: M, size: u64)
         requires room { 0 < self.old.room }
         requires greater { (k : ℕ) → IsSome (map.get self.old.held k) → k < number }
@@ -142,7 +142,7 @@ impl<M: MemoryObject, A: Allocator> Chunks<M, A> {
         &self.rows[self.numbers[place].key]
     }
 
-    /// Whether a region is all of its chunk, which has to be held.
+    /// Whether a region is all of its chunk, which must be held.
     pub(super) fn is_whole(&self, region: FreeListRegion) -> bool
         requires { IsSome (map.get self.now.held region.chunk) }
         ensures { IsTrue result ↔ IsWholeChunk self.now.held region }
@@ -150,7 +150,7 @@ impl<M: MemoryObject, A: Allocator> Chunks<M, A> {
         region.start == 0 && self.get(region.chunk).size == region.end
     }
 
-    /// Takes the chunk of a held number out. It takes no memory and cannot fail.
+    /// Removes the chunk of a held number. It allocates nothing and cannot fail.
     pub(super) fn remove(&mut self, number: u64) -> NumberedChunk<M>
         requires { IsSome (map.get self.old.held number) }
         ensures number { result.number ≡ number }

@@ -31,14 +31,14 @@ use std::alloc::{AllocError, Allocator, Global};
 use std::marker::Model;
 use std::sync::ledger::Ledger;
 
-/// Chunks of memory, the free runs in them, and the blocks that are live. It cannot be let go:
+/// Chunks of memory, the free runs in them, and the blocks that are live. It cannot be dropped:
 /// [`close`](FreeList::close) ends it.
 ///
 /// Chunks are numbered from 1 on, and no number comes twice. Between calls the regions are exactly the free runs: the
 /// longest ranges of bytes that lie in a chunk and in no live block.
 pub struct FreeList<M: MemoryObject, A: Allocator = Global> {
     chunks: Chunks<M, A>,
-    // With room for a run more with each live block.
+    // With room for one more run for each live block.
     runs: Runs<A>,
     live: Live<A>,
     // How many of the runs are whole chunks.
@@ -65,7 +65,7 @@ impl<M: MemoryObject, A: Allocator> Model for FreeList<M, A> {
 }
 
 impl<M: MemoryObject, A: Allocator + Copy> FreeList<M, A> {
-    /// A list of no chunk. `alloc` gives the memory of its stores, of which this call takes none.
+    /// A list without chunks. Its stores take their memory from `alloc`; this call takes none.
     ///
     /// No block is live (`live`), and the list may be closed (`held`).
     pub fn new(alloc: A) -> Self
@@ -85,10 +85,10 @@ impl<M: MemoryObject, A: Allocator + Copy> FreeList<M, A> {
 }
 
 impl<M: MemoryObject, A: Allocator> FreeList<M, A> {
-    /// Makes room for one more chunk with one more block: for their runs too, the front of the chunk now and the block
-    /// when it comes back. Whether there is room, contracts see as a number.
+    /// Makes room for one more chunk with one more block, and for their runs: the front of the chunk now, and the block
+    /// when it is returned. Contracts see the room as a number.
     ///
-    /// The only refusal is want of memory. Nothing but the room changes, which is no less, after a refusal too.
+    /// The only error is want of memory. Nothing but the room changes, and it never shrinks, even after an error.
     pub fn reserve(&mut self) -> Result<(), AllocError>
         ensures room { OnOk result (0 < self.new.room) }
         ensures stays { self.old.room ≤ self.new.room }
@@ -100,14 +100,14 @@ impl<M: MemoryObject, A: Allocator> FreeList<M, A> {
         self.runs.reserve(self.live.len())
     }
 
-    /// A block that is the tail of a new chunk: all from the last multiple of `align_mask + 1` on that leaves `size`
-    /// bytes to the chunk's end. The rest of the chunk is a free run. The chunk gets the next number.
+    /// A block that is the tail of a new chunk: it begins at the last multiple of `align_mask + 1` that leaves `size`
+    /// bytes, and ends with the chunk. The rest of the chunk is a free run. The chunk gets the next number.
     ///
-    /// `memory` is the chunk's object, of `memory_size` bytes. The size has to be at least 1 and at most that,
-    /// `align_mask + 1` a power of two of at most 2^63, room has to be made ([`reserve`](FreeList::reserve)), and a
-    /// number be left ([`has_number`](FreeList::has_number)). The call takes one chunk's room at most.
+    /// `memory` is the chunk's object, of `memory_size` bytes. The size must be at least 1 and at most that, and
+    /// `align_mask + 1` a power of two of at most 2^63. Room must be made ([`reserve`](FreeList::reserve)), and a
+    /// number be left ([`has_number`](FreeList::has_number)). The call takes at most one chunk's room.
     ///
-    /// Each block that a caller had in hand is live still (`leaves`). The new one is live too, and shares no byte with
+    /// Each block that a caller had in hand is still live (`leaves`). The new one is live too, and shares no byte with
     /// any of them (`added`).
     ///
     /// Where there is no host memory for a second handle of the object, `memory` itself is handed back and nothing has
@@ -142,15 +142,15 @@ impl<M: MemoryObject, A: Allocator> FreeList<M, A> {
         Ok(self.begin(memory, handle, memory_size, align_mask, size))
     }
 
-    /// Nothing is done: its contract tells what every list keeps.
+    /// A lemma about every list: does nothing at run time.
     fn keeps_sound(&self)
         ensures { IsSoundSpace self.now.space }
     {
         let _ = &self.runs;
     }
 
-    /// A block as [`get_block_from_new_memory`](FreeList::get_block_from_new_memory) gives it, which has the second
-    /// handle of the chunk's object. It takes no memory and cannot fail.
+    /// A block as [`get_block_from_new_memory`](FreeList::get_block_from_new_memory) gives it, with the second handle
+    /// of the chunk's object. It allocates nothing and cannot fail.
     pub(crate) fn begin(
         &mut self,
         memory: M,
@@ -192,16 +192,15 @@ impl<M: MemoryObject, A: Allocator> FreeList<M, A> {
         FreeListBlock::new(handle, slot, key)
     }
 
-    /// A block that is the tail of the last free run with room for it: all from the last multiple of `align_mask + 1`
-    /// on that leaves `size` bytes to the run's end. None where no run has room. Runs are ordered by chunk number, then
-    /// by start.
+    /// A block that is the tail of the last free run with room for it: it begins at the last multiple of `align_mask +
+    /// 1` that leaves `size` bytes, and ends with the run. `None` where no run has room. Runs are ordered by chunk
+    /// number, then by start.
     ///
-    /// The size has to be at least 1, and `align_mask + 1` a power of two of at most 2^63. It takes the room of
-    /// `reserve` itself, only once a run has room. The only refusal is want of host memory, for that room or for a
-    /// second handle of the chunk's object, and then the list is as it was. A block takes one chunk's room at most, and
-    /// a refusal none.
+    /// The size must be at least 1, and `align_mask + 1` a power of two of at most 2^63. It makes the room of `reserve`
+    /// itself, only once a run has room. The only error is want of host memory, for that room or for a second handle of
+    /// the chunk's object, and then the list is unchanged. A block takes at most one chunk's room, and an error none.
     ///
-    /// Each block that a caller had in hand is live still (`leaves`). The new one is live too, and shares no byte with
+    /// Each block that a caller had in hand is still live (`leaves`). The new one is live too, and shares no byte with
     /// any of them (`added`).
     pub fn get_block(
         &mut self,
@@ -231,7 +230,7 @@ impl<M: MemoryObject, A: Allocator> FreeList<M, A> {
         Ok(Some(FreeListBlock::new(memory, slot, key)))
     }
 
-    /// Whether some free run has room for such a block, so that `get_block` answers none where it has not.
+    /// Whether some free run has room for such a block: where none has, `get_block` returns `None`.
     pub(crate) fn has_place(&self, align_mask: u64, size: u64) -> bool
         requires nonempty { 0 < size }
         requires alignment { IsAlignMask align_mask }
@@ -240,7 +239,7 @@ impl<M: MemoryObject, A: Allocator> FreeList<M, A> {
         self.runs.last_with_room(size, align_mask).is_some()
     }
 
-    /// Whether there is a number for one more chunk: not after 2^64 - 1 chunks. A call that takes a new chunk needs one.
+    /// Whether a number is left for one more chunk: not after 2^64 - 1 chunks. A call that takes a new chunk needs one.
     pub fn has_number(&self) -> bool
         ensures { IsTrue result ↔ HasNumber self.now.space }
     {
@@ -254,15 +253,15 @@ impl<M: MemoryObject, A: Allocator> FreeList<M, A> {
         self.chunks.is_empty()
     }
 
-    /// Takes a block back, and joins it with the free runs beside it. It takes no memory and cannot fail, and room that
+    /// Returns a block, and joins it with the free runs next to it. It allocates nothing and cannot fail, and room that
     /// was made stays.
     ///
-    /// The block has to be live here, by its object, chunk, offset and size. Each other block that a caller has in hand
-    /// is live still, and may be returned next (`removed`).
+    /// The block must be live here, by its object, chunk, offset and size. Each other block that a caller has in hand
+    /// is still live, and may be returned next (`removed`).
     ///
-    /// `steps` counts the comparisons of a run with the block: no more than the number of runs has binary digits
-    /// (`few`), and one at least where there is a run (`some`). It never falls (`counted`). A caller who counts nothing
-    /// makes a counter in a ledger that nothing else uses:
+    /// `steps` counts the comparisons of a run with the block: at most the number of binary digits of the number of
+    /// runs (`few`), and at least one where there is a run (`some`). It never falls (`counted`). A caller that counts
+    /// nothing makes a counter in a ledger that nothing else uses:
     ///
     /// ```text
     /// put_back::<M, Brand>(&mut list, block, Blank::new(1));
@@ -292,12 +291,12 @@ impl<M: MemoryObject, A: Allocator> FreeList<M, A> {
         let _ = into_parts(block);
     }
 
-    /// Takes the wholly free chunk of the least number out of the list: its memory, its size in bytes and its number.
-    /// Where `keep_last` says so, the chunk in which the last run lies is passed over. None where there is no such
-    /// chunk. It takes no memory, and room that was made stays.
+    /// Takes the wholly free chunk of the least number out of the list, and returns its memory, its size in bytes and
+    /// its number, or `None` where there is no such chunk. With `keep_last` the chunk with the last run is passed over.
+    /// It allocates nothing, and room that was made stays.
     ///
-    /// The same blocks are live (`live`). Each chunk that goes leaves one fewer (`fewer`), so a loop until None ends.
-    /// None without `keep_last`, while no block is live, means that no chunk is held (`rest`): then
+    /// The same blocks are live (`live`). Each chunk that goes leaves one fewer (`fewer`), so a loop until `None` ends.
+    /// `None` without `keep_last`, while no block is live, means that no chunk is held (`rest`): then
     /// [`close`](FreeList::close) may be called without a test.
     #[inline(always)]
     pub fn take_whole(&mut self, keep_last: bool) -> Option<(M, u64, u64)>
@@ -329,8 +328,8 @@ impl<M: MemoryObject, A: Allocator> FreeList<M, A> {
         Some((memory, size, number))
     }
 
-    /// The free runs, by chunk number, then by start. There are no more of them than live blocks and held chunks together
-    /// (`few`).
+    /// The free runs, by chunk number, then by start. There are no more of them than live blocks and held chunks
+    /// together (`few`).
     pub fn regions(&self) -> &[FreeListRegion]
         ensures runs { (r : Region) → Contains result.now r
             ↔ IsFreeRun (IsFreeIn self.now.space) r.chunk r.start r.end }
@@ -349,14 +348,14 @@ impl<M: MemoryObject, A: Allocator> FreeList<M, A> {
         self.chunks.get(number)
     }
 
-    /// The held chunks, each once, in no order that is told.
+    /// The held chunks, each once, in no particular order.
     pub(crate) fn chunks(&self) -> Iter<'_, NumberedChunk<M>>
         ensures { ListsChunks M.object (self.now.space).chunks result }
     {
         self.chunks.iter()
     }
 
-    /// The live blocks, each once, in no order that is told.
+    /// The live blocks, each once, in no particular order.
     pub(crate) fn slots(&self) -> Iter<'_, Slot>
         ensures { ListsSlots (self.now.space).live result }
     {
@@ -378,7 +377,7 @@ impl<M: MemoryObject, A: Allocator> FreeList<M, A> {
         self.runs.allocator()
     }
 
-    /// Ends a list that holds no chunk ([`is_empty`](FreeList::is_empty)).
+    /// Ends a list without chunks ([`is_empty`](FreeList::is_empty)).
     pub fn close(self)
         requires { map.len (self.space).chunks ≡ 0 }
     {
@@ -392,7 +391,7 @@ impl<M: MemoryObject, A: Allocator> FreeList<M, A> {
     }
 }
 
-/// Whether no chunk may go, as the count of the runs that are whole chunks tells.
+/// Whether no chunk may be released, by the count of the runs that are whole chunks.
 fn none_goes<M: MemoryObject, A: Allocator>(
     regions: &[FreeListRegion],
     chunks: &Chunks<M, A>,
@@ -426,7 +425,7 @@ fn last_is_whole<M: MemoryObject, A: Allocator>(
     }
 }
 
-/// Where the first run stands that is a whole chunk: the last run is passed over, where it is to be kept.
+/// Where the first run stands that is a whole chunk. The last run is passed over if it is to be kept.
 fn first_whole<M: MemoryObject, A: Allocator>(
     regions: &[FreeListRegion],
     chunks: &Chunks<M, A>,

@@ -1,4 +1,4 @@
-//! The live blocks of a free list. Each stands under a key that it carries, so that it is found in few steps.
+//! The live blocks of a free list. Each stands under a key that it carries, so that it is found in constant time.
 
 ghost use Rattle.std.specs.Prelude.{◌≡◌, ◌≢◌, ◌↔◌, ◌+◌, ◌<◌, ◌≤◌, ℕ, Some, false, IsOk, IsTrue, MatchOption, OnOk};
 ghost use Rattle.std.specs.FinSet as set;
@@ -12,8 +12,7 @@ use std::marker::Model;
 
 /// The live blocks of a free list, each under a key that its block carries.
 ///
-/// With that key a block is found in constant time, and with another one in a time that grows with the number of live
-/// blocks.
+/// With that key a block is found in constant time, and with any other in time linear in the live blocks.
 #[derive(Drop)]
 pub(super) struct Live<A: Allocator = Global> {
     slots: Slab<Slot, A>,
@@ -36,7 +35,7 @@ impl<A: Allocator> Model for Live<A> {
 }
 
 impl<A: Allocator> Live<A> {
-    /// No live block. `alloc` gives the memory of the blocks, of which this call takes none.
+    /// No live blocks. They take their memory from `alloc`; this call takes none.
     pub(super) fn new(alloc: A) -> Self
         ensures empty { result.slots ≡ set.empty }
         ensures count { result.count ≡ 0 }
@@ -53,15 +52,15 @@ impl<A: Allocator> Live<A> {
         self.slots.len()
     }
 
-    /// The live blocks, each once, in no order that is told, with their keys.
+    /// The live blocks, each once, in no particular order, with their keys.
     pub(super) fn iter(&self) -> Iter<'_, Slot>
         ensures { ListsSlots self.now.slots result }
     {
         self.slots.iter()
     }
 
-    /// Whether a block is live. The answer is the same whatever the key is. The key that `keep` gave for the block makes
-    /// it fast.
+    /// Whether a block is live. The answer is the same for any key. The key that `keep` returned for the block makes it
+    /// fast.
     pub(super) fn has(&self, key: usize, slot: Slot) -> bool
         ensures { IsTrue result ↔ IsTrue (set.contains self.now.slots slot) }
     {
@@ -70,7 +69,7 @@ impl<A: Allocator> Live<A> {
 
     /// Makes room for one more block, so that one `keep` cannot fail.
     ///
-    /// The only refusal is want of memory. Nothing but the room changes, which is no less, after a refusal too.
+    /// The only error is want of memory. Nothing but the room changes, and it never shrinks, even after an error.
     pub(super) fn reserve(&mut self) -> Result<(), AllocError>
         ensures room { OnOk result (0 < self.new.room) }
         ensures stays { self.old.room ≤ self.new.room }
@@ -80,7 +79,7 @@ impl<A: Allocator> Live<A> {
         self.slots.reserve(1)
     }
 
-    /// Adds a block that is not live, into room that was made, and tells its key, which the block is to carry.
+    /// Adds a block that is not live, into room that was made, and returns its key, which the block must carry.
     pub(super) fn keep(&mut self, slot: Slot) -> usize
         requires room { 0 < self.old.room }
         requires fresh { set.contains self.old.slots slot ≡ false }
@@ -91,9 +90,9 @@ impl<A: Allocator> Live<A> {
         self.slots.insert_reserved(slot)
     }
 
-    /// Takes a block off those that are live. It takes no memory and cannot fail.
+    /// Removes a block from the live ones. It allocates nothing and cannot fail.
     ///
-    /// What comes of it is the same whatever the key is. The key that `keep` gave for the block makes it fast.
+    /// The result is the same for any key. The key that `keep` returned for the block makes it fast.
     pub(super) fn forget(&mut self, key: usize, slot: Slot)
         requires live { IsTrue (set.contains self.old.slots slot) }
         ensures slots { self.new.slots ≡ set.remove self.old.slots slot }
@@ -109,7 +108,7 @@ impl<A: Allocator> Live<A> {
     }
 }
 
-/// The key of a block: this one where the block stands under it, and else the one that a search of all blocks finds.
+/// The key of a block: `key` if the block stands under it, or else the one that a search of all blocks finds.
 #[inline(always)]
 fn key_of<A: Allocator>(slots: &Slab<Slot, A>, key: usize, slot: Slot) -> Option<usize>
     ensures { MatchOption result ((key : ℕ) → get slots.now key ≢ Some slot)

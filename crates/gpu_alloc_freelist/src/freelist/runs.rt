@@ -1,4 +1,4 @@
-//! The free runs of a list as one sorted vector: a run loses its tail, and a block that comes back is joined with its
+//! The free runs of a list as one sorted vector: a run loses its tail, and a returned block is joined with its
 //! neighbours in place.
 
 ghost use Rattle.std.specs.Prelude.{◌≡◌, ◌≤◌, ◌<◌, ◌+◌, ◌-◌, ◌^◌, ◌++◌, ◌∷◌, ◌↔◌, [], ℕ, length, take, drop};
@@ -48,7 +48,7 @@ impl<A: Allocator> Model for Runs<A> {
 }
 
 impl<A: Allocator> Runs<A> {
-    /// No run. `alloc` gives the memory of the vector, of which this call takes none.
+    /// No runs. The vector takes its memory from `alloc`; this call takes none.
     pub(super) fn new(alloc: A) -> Self
         ensures regions { result.regions ≡ [] }
         ensures room { result.room ≡ 0 }
@@ -58,8 +58,8 @@ impl<A: Allocator> Runs<A> {
         }
     }
 
-    /// Makes room for a run more with each of so many live blocks, and for two more. The only refusal is want of memory.
-    /// The runs stay as they are, and the room is no less, after a refusal too.
+    /// Makes room for one more run for each of `live` blocks, and for two more. The only error is want of memory. The
+    /// runs are unchanged, and the room never shrinks, even after an error.
     pub(super) fn reserve(&mut self, live: usize) -> Result<(), AllocError>
         ensures room { OnOk result (live + 2 ≤ self.new.room) }
         ensures stays { self.old.room ≤ self.new.room }
@@ -98,7 +98,7 @@ impl<A: Allocator> Runs<A> {
     }
 
     /// Where the last run stands that has room for a block of this size at a multiple of `align_mask + 1`, in bytes.
-    /// None where no run has.
+    /// `None` where no run has room.
     pub(super) fn last_with_room(&self, size: u64, align_mask: u64) -> Option<usize>
         requires { IsAlignMask align_mask }
         ensures some { IfSome result
@@ -117,7 +117,8 @@ impl<A: Allocator> Runs<A> {
         None
     }
 
-    /// Takes the bytes from `start` on out of the run at this index, in place. Where none is left of it, the run goes.
+    /// Takes the bytes from `start` on out of the run at this index, in place. Where nothing is left of it, the run is
+    /// removed.
     pub(super) fn cut(&mut self, index: usize, start: u64)
         requires in_range { index < length self.old.regions }
         requires within { (d : Region) → ((slice_index_or self.old.regions index d).start ≤ start)
@@ -133,7 +134,7 @@ impl<A: Allocator> Runs<A> {
         }
     }
 
-    /// Adds a run behind all others, where `reserve` made room.
+    /// Adds a run after all others, where `reserve` made room.
     pub(super) fn push(&mut self, region: FreeListRegion)
         requires nonempty { region.start < region.end }
         requires last { All (λ r. IsBefore r region) self.old.regions }
@@ -154,9 +155,9 @@ impl<A: Allocator> Runs<A> {
         self.regions.remove(index)
     }
 
-    /// Puts a block back that has no byte in common with a run, where `reserve` made room: it is joined with the run
-    /// before it and the run behind it where it touches them, in place, and what comes of it is told. `steps` counts the
-    /// comparisons of a run with the block: no more than the number of runs has binary digits.
+    /// Returns a block that has no byte in common with a run, where `reserve` made room. It is joined in place with the
+    /// run before it and the run after it where it touches them. The result says what came of it. `steps` counts the
+    /// comparisons of a run with the block: at most the number of binary digits of the number of runs.
     pub(super) fn put_back<M: MemoryObject, L: Ledger>(
         &mut self,
         block: &FreeListBlock<M>,
@@ -181,7 +182,7 @@ impl<A: Allocator> Runs<A> {
     }
 }
 
-/// The block that is the tail of a run which has room for it, or of a new chunk.
+/// The block that is the tail of a run with room for it, or of a new chunk.
 pub(super) fn tail_of(region: FreeListRegion, object: u64, size: u64, align_mask: u64) -> Slot
     requires alignment { IsAlignMask align_mask }
     requires enough { size ≤ region.end }
@@ -201,8 +202,8 @@ pub(super) fn tail_of(region: FreeListRegion, object: u64, size: u64, align_mask
     }
 }
 
-/// How many of the first `end` runs are left when those at their end are passed over that are shorter than a block of
-/// this size. They are passed four at a time, so up to three of them may be left.
+/// How many of the first `end` runs are left after those at their end that are shorter than a block of this size are
+/// passed over. They are passed four at a time, so up to three of them may be left.
 fn skip_shorter(regions: &[FreeListRegion], end: usize, size: u64) -> usize
     requires sorted { AreSorted regions.now }
     requires within { end ≤ length regions.now }
@@ -243,13 +244,13 @@ fn has_room(region: FreeListRegion, size: u64, align_mask: u64) -> bool
     ensures yes { result ≡ true → HasRoom size (align_mask + 1) region.start region.end }
     ensures no { result ≡ false → HasRoom size (align_mask + 1) region.start region.end → ⊥ }
 {
-    // (no division is made for a run that is too short)
+    // (no division for a run that is too short)
     size <= region.end
         && region.start <= region.end - size
         && region.start <= tail_start(region.end, size, align_mask)
 }
 
-/// Where a block of this size starts that ends where a run does: the last aligned byte that leaves the size.
+/// Where a block of this size that ends with its run starts: the last aligned byte that leaves the size.
 fn tail_start(end: u64, size: u64, align_mask: u64) -> u64
     requires alignment { IsAlignMask align_mask }
     requires enough { size ≤ end }
@@ -259,7 +260,7 @@ fn tail_start(end: u64, size: u64, align_mask: u64) -> u64
     last - last % (align_mask + 1)
 }
 
-/// How many runs come before a block, by halves: the window of those that are not yet known shrinks until it is empty.
+/// How many runs come before a block, by binary search: the window of undecided runs shrinks until it is empty.
 fn place_of<M: MemoryObject, L: Ledger>(
     regions: &[FreeListRegion],
     block: &FreeListBlock<M>,
@@ -284,7 +285,7 @@ fn place_of<M: MemoryObject, L: Ledger>(
     low
 }
 
-/// Compares a run with a block, and counts it.
+/// Compares a run with a block, and counts the comparison.
 fn compare<M: MemoryObject, L: Ledger>(
     region: &FreeListRegion,
     block: &FreeListBlock<M>,
@@ -297,7 +298,7 @@ fn compare<M: MemoryObject, L: Ledger>(
     region.cmp(block)
 }
 
-/// A run that stands in place of those from index `from` to before `to`.
+/// A run that takes the place of those from index `from` up to `to`.
 #[derive(Clone, Copy)]
 struct Joint {
     from: usize,
@@ -305,7 +306,7 @@ struct Joint {
     region: FreeListRegion,
 }
 
-/// What becomes of a block that comes back between two runs: it is joined with those that it touches.
+/// What becomes of a block that is returned between two runs: it is joined with those that it touches.
 fn join(regions: &[FreeListRegion], place: usize, block: Slot) -> Joint
     requires within { place ≤ length regions.now }
     requires fits { block.offset + block.size < 2 ^ 64 }
@@ -344,7 +345,7 @@ fn touches(before: FreeListRegion, after: FreeListRegion) -> bool
     before.chunk == after.chunk && before.end == after.start
 }
 
-/// Puts a joint in place of the runs that it joins, two at most: one of them becomes it, or it is inserted.
+/// Puts a joint in place of the runs that it joins, at most two: one of them becomes it, or it is inserted.
 fn splice<A: Allocator>(regions: &mut Vec<FreeListRegion, A>, joint: Joint)
     requires within { (joint.from ≤ joint.to) × (joint.to ≤ vec_len regions.old) }
     requires two { joint.to ≤ joint.from + 2 }
@@ -363,7 +364,7 @@ fn splice<A: Allocator>(regions: &mut Vec<FreeListRegion, A>, joint: Joint)
     }
 }
 
-/// Inserts a run at this index, where there is room. Those behind it move up by one place.
+/// Inserts a run at this index, where there is room. Those after it move up by one place.
 fn insert<A: Allocator>(regions: &mut Vec<FreeListRegion, A>, index: usize, region: FreeListRegion)
     requires within { index ≤ vec_len regions.old }
     requires room { vec_len regions.old < vec_capacity regions.old }
@@ -375,7 +376,7 @@ fn insert<A: Allocator>(regions: &mut Vec<FreeListRegion, A>, index: usize, regi
 }
 
 /// Puts a run before the others, which move up by one place. The last of them is lost.
-// (It is not inlined, since LLVM makes one `memmove` of the copy where the slice is all that it knows.)
+// (It is not inlined: LLVM makes one `memmove` of the copy only where the slice is all that it knows.)
 #[inline(never)]
 fn put_first(regions: &mut [FreeListRegion], region: FreeListRegion)
     requires { 0 < length regions.old }

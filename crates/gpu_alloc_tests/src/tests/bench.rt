@@ -62,7 +62,7 @@ impl<A: Allocator + Copy> Model for Bench<A> {
 }
 
 impl<A: Allocator + Copy> Bench<A> {
-    /// One that gave out nothing, by the potato's sizes, over a device with this memory type and this atom. It has room
+    /// A bench without blocks, with the potato's sizes, over a device with this memory type and this atom. It has room
     /// for eight blocks.
     pub(super) fn new(
         rt: &impl Abort,
@@ -85,7 +85,7 @@ impl<A: Allocator + Copy> Bench<A> {
         }
     }
 
-    /// One over a fresh device that offers this, with room for blocks.
+    /// A bench over a fresh device that offers these, with room for blocks.
     fn over(
         alloc: A,
         offered: DeviceProperties<'_>,
@@ -133,7 +133,7 @@ impl<A: Allocator + Copy> Bench<A> {
         self.allocator.heap_budget(0)
     }
 
-    /// Takes a block, with that hint or none, and keeps it. For that no memory is taken.
+    /// Allocates a block, perhaps with a hint, and keeps it. Keeping it takes no memory.
     pub(super) fn take(
         &mut self,
         rt: &impl Abort,
@@ -145,7 +145,7 @@ impl<A: Allocator + Copy> Bench<A> {
         Ok(())
     }
 
-    /// Takes a block from what is held, with that hint and granularity or none, and keeps it. It tells the block's
+    /// Allocates a block from what is held, perhaps with a hint and a granularity, and keeps it. Returns the block's
     /// memory type and where it starts, if there was a place.
     pub(super) fn take_held(
         &mut self,
@@ -171,13 +171,13 @@ impl<A: Allocator + Copy> Bench<A> {
         (self.allocator.holds(object), self.allocator.owns(block))
     }
 
-    /// From now on so many more objects may be held.
+    /// Sets how many more objects may be held.
     pub(super) fn allow(&mut self, rt: &impl Abort, remaining: u32) {
         allow(rt, &mut self.allocator, &self.device, remaining);
     }
 
-    /// Has the device make an object of 64 bytes, and imports it. Where either is refused memory, what is held is as
-    /// before, and it is served with ample memory. It tells what was refused, if anything was: an object or an import.
+    /// Has the device make an object of 64 bytes, and imports it. Where either lacks memory, what is held is as before,
+    /// and it is served with ample memory. Returns what was refused, if anything was: an object or an import.
     pub(super) fn import_or_again(
         &mut self,
         rt: &impl Abort,
@@ -206,7 +206,7 @@ impl<A: Allocator + Copy> Bench<A> {
         keep(rt, &mut self.blocks, block);
     }
 
-    /// Takes a block, and calls it where no memory is left.
+    /// Allocates a block, and calls it where no memory is left.
     pub(super) fn take_and_call(
         &mut self,
         rt: &impl Abort,
@@ -244,14 +244,14 @@ impl<A: Allocator + Copy> Bench<A> {
         self.allocator.free_ranges(memory_type)
     }
 
-    /// Gives back the block at this place of those that are kept. The latest takes its place.
+    /// Returns the block at this place of those that are kept. The latest takes its place.
     pub(super) fn give_back_at(&mut self, rt: &impl Abort, at: usize) {
         below(rt, at, self.blocks.len(), "no such block");
         let block = self.blocks.swap_remove(at);
         give_back(rt, &mut self.allocator, &mut self.device, block);
     }
 
-    /// Gives back the block in an object that has no other.
+    /// Returns the block in an object that has no other.
     pub(super) fn give_back(&mut self, rt: &impl Abort, object: u64) {
         let mut found = None;
         for (at, block) in self.blocks.iter().enumerate() {
@@ -263,14 +263,14 @@ impl<A: Allocator + Copy> Bench<A> {
         self.give_back_at(rt, found.unwrap_or(0));
     }
 
-    /// Gives all blocks back.
+    /// Returns all blocks.
     pub(super) fn give_all_back(&mut self, rt: &impl Abort) {
         for _ in 0..self.blocks.len() {
             self.give_back_at(rt, 0);
         }
     }
 
-    /// Gives back what free lists keep, and ends the allocator. Nothing is held then.
+    /// Cleans up, and ends the allocator. Nothing is held then.
     pub(super) fn end(mut self, rt: &impl Abort, remaining: u32) {
         self.clean();
         let nothing = Held {
@@ -283,7 +283,7 @@ impl<A: Allocator + Copy> Bench<A> {
         self.close(rt);
     }
 
-    /// Gives back what free lists keep.
+    /// Releases what free lists keep.
     fn clean(&mut self) {
         clean(&mut self.allocator, &mut self.device);
     }
@@ -319,7 +319,7 @@ impl Bench {
     }
 }
 
-/// A fresh device that offers this.
+/// A fresh device that offers these.
 fn device_of<A: Allocator + Copy>(
     alloc: A,
     offered: &DeviceProperties<'_>,
@@ -345,7 +345,7 @@ fn keep<M: MemoryObject, A: Allocator>(
     blocks.push_reserved(block);
 }
 
-/// Asks for a block, with that hint or none.
+/// Asks for a block, perhaps with a hint.
 fn ask<M: MemoryObject, D: MemoryDevice<M>, A: Allocator>(
     rt: &impl Abort,
     allocator: &mut GpuAllocator<M, A>,
@@ -370,7 +370,7 @@ fn ask<M: MemoryObject, D: MemoryDevice<M>, A: Allocator>(
     }
 }
 
-/// Asks for a block of what is held, with that hint and granularity or none.
+/// Asks for a block of what is held, perhaps with a hint and a granularity.
 fn ask_held<M: MemoryObject, D: MemoryDevice<M>, A: Allocator>(
     rt: &impl Abort,
     allocator: &mut GpuAllocator<M, A>,
@@ -392,7 +392,7 @@ fn ask_held<M: MemoryObject, D: MemoryDevice<M>, A: Allocator>(
     allocator.alloc_held(device, request, hint, granularity)
 }
 
-/// A granularity has to be a power of two of at most 2^32, where there is one.
+/// A granularity, if there is one, must be a power of two of at most 2^32.
 fn has_granularity(rt: &impl Abort, granularity: Option<u64>)
     ensures { IfSome granularity IsGranularity }
 {
@@ -402,7 +402,7 @@ fn has_granularity(rt: &impl Abort, granularity: Option<u64>)
     }
 }
 
-/// From now on so many more objects may be held.
+/// Sets how many more objects may be held.
 fn allow<M: MemoryObject, D: MemoryDevice<M>, A: Allocator>(
     rt: &impl Abort,
     allocator: &mut GpuAllocator<M, A>,
@@ -423,7 +423,7 @@ fn allow<M: MemoryObject, D: MemoryDevice<M>, A: Allocator>(
     allocator.set_remaining_allocations(remaining);
 }
 
-/// Gives back a block, which the allocator has to own.
+/// Returns a block, which the allocator must own.
 pub(super) fn give_back<M: MemoryObject, D: MemoryDevice<M>, A: Allocator>(
     rt: &impl Abort,
     allocator: &mut GpuAllocator<M, A>,
@@ -438,7 +438,7 @@ pub(super) fn give_back<M: MemoryObject, D: MemoryDevice<M>, A: Allocator>(
     allocator.dealloc(device, block);
 }
 
-/// Gives back what free lists keep.
+/// Releases what free lists keep.
 pub(super) fn clean<M: MemoryObject, D: MemoryDevice<M>, A: Allocator>(
     allocator: &mut GpuAllocator<M, A>,
     device: &mut D,
@@ -482,7 +482,7 @@ fn map_and_unmap<M: MemoryObject, D: MemoryDevice<M>, A: Allocator>(
     );
 }
 
-/// Calls a block of four bytes or more where no memory is left. Then it is ample.
+/// Calls a block of four bytes or more where no memory is left. Then memory is ample.
 fn call_without_memory<M: MemoryObject, D: MemoryDevice<M>, A: Allocator>(
     rt: &impl Abort,
     memory: &ScarceMemory,
@@ -527,8 +527,8 @@ fn write_and_read<M: MemoryObject, D: MemoryDevice<M>, A: Allocator>(
     same(rt, "the bytes", &bytes, &[1, 2, 3, 4]);
 }
 
-/// Imports an object of 64 bytes, and once more with ample memory where that was refused: then the object came back, and
-/// what is held is as before. It tells what was refused, if it was.
+/// Imports an object of 64 bytes, and once more with ample memory where memory is missing: then the object came back,
+/// and what is held is as before. Returns what was refused, if anything was.
 fn import_or_again<M: MemoryObject, D: MemoryDevice<M>, A: Allocator>(
     rt: &impl Abort,
     memory: &ScarceMemory,
@@ -579,7 +579,7 @@ fn import_again<M: MemoryObject, D: MemoryDevice<M>, A: Allocator>(
     }
 }
 
-/// An object of which the device makes so many bytes, and the part of it that is imported, which ends where the object
+/// An object of this many bytes that the device makes, and the part of it that is imported, which ends where the object
 /// does.
 #[derive(Clone, Copy)]
 pub(super) struct Part {

@@ -31,7 +31,7 @@ struct Refused {
     align_mask: u64,
     remaining: u32,
 
-    /// What is told before the request.
+    /// The refusal that is known before the request.
     told: Option<AllocationError>,
 
     error: AllocationError,
@@ -71,7 +71,7 @@ impl Model for Chunks {
 }
 
 impl Chunks {
-    /// One that holds nothing, and may hold so many objects, over one type with these properties.
+    /// One that holds nothing, and may hold this many objects, over one type with these properties.
     pub(super) fn new(
         alloc: Global,
         props: MemoryPropertyFlags,
@@ -109,7 +109,7 @@ impl Chunks {
         self.device.refuse(kind, 1, cause)
     }
 
-    /// Compares what is told before a request for one byte, and its refusal.
+    /// Compares the refusal that is known before a request for one byte, and its result.
     fn compare_refusal(&mut self, rt: &impl Abort, case: &Refused)
         requires { IsAlignMask case.now.align_mask }
     {
@@ -121,7 +121,7 @@ impl Chunks {
         }
     }
 
-    /// What is told before a request for one byte. It counts nothing.
+    /// The refusal that is known before a request for one byte. It counts nothing.
     fn told<L: Ledger>(&self, align_mask: u64, blank: Blank) -> Option<AllocationError>
         requires alignment { IsAlignMask align_mask }
         requires begins { Begins blank L.name L.parts }
@@ -131,7 +131,7 @@ impl Chunks {
             .refuses(1, align_mask, &self.heap, self.remaining, looks)
     }
 
-    /// Asks for a block of at least so many bytes at a multiple of the mask and one, and counts nothing.
+    /// Asks for a block of at least this many bytes at a multiple of the mask plus one, and counts nothing.
     fn ask_uncounted<L: Ledger, K: Ledger>(
         &mut self,
         size: u64,
@@ -158,7 +158,7 @@ impl Chunks {
         )
     }
 
-    /// Asks for a block of at least so many bytes at a multiple of the mask and one.
+    /// Asks for a block of at least this many bytes at a multiple of the mask plus one.
     pub(super) fn ask(
         &mut self,
         size: u64,
@@ -172,7 +172,7 @@ impl Chunks {
         self.ask_uncounted::<Brand, Brand>(size, align_mask, Blank::new(1), Blank::new(1))
     }
 
-    /// A block of at least so many bytes.
+    /// A block of at least this many bytes.
     fn take(&mut self, rt: &impl Abort, size: u64) -> BuddyBlock<SimMemory>
         ensures added { Adds self.old self.new result }
         ensures leaves { Leaves self.old self.new }
@@ -184,7 +184,7 @@ impl Chunks {
         }
     }
 
-    /// Takes a block back, and counts nothing.
+    /// Returns a block, and counts nothing.
     fn give_back_uncounted<L: Ledger>(&mut self, block: BuddyBlock<SimMemory>, blank: Blank)
         requires live { IsLiveLeaf self.old block }
         requires begins { Begins blank L.name L.parts }
@@ -199,7 +199,7 @@ impl Chunks {
         );
     }
 
-    /// Takes a block back.
+    /// Returns a block.
     pub(super) fn give_back(&mut self, block: BuddyBlock<SimMemory>)
         requires live { IsLiveLeaf self.old block }
         ensures removed { Removes self.old block self.new }
@@ -260,7 +260,7 @@ impl Chunks {
     }
 }
 
-/// Compares a refusal where the device refuses the first question of a kind. Nothing is held after it.
+/// Compares the result where the device refuses the first question of a kind. Nothing is held after it.
 fn compare_refusal(
     rt: &impl Abort,
     alloc: Global,
@@ -347,8 +347,8 @@ const LARGE: [(u64, u64, u64); 4] = [
     (1, 4096, 8192),
 ];
 
-/// What is free is told in order, and a half that comes back is not joined with a neighbour that is no half of one range
-/// with it. If not, a caller would see other pieces than those that blocks are taken from.
+/// Free ranges are listed in order, and a returned half is not joined with a neighbour that is not its other half. If
+/// not, a caller would see other pieces than those that blocks are taken from.
 #[test]
 fn free_pieces_are_told_in_order(rt: HostRuntime) -> Result<(), Fail> {
     let mut chunks = Chunks::new(rt.alloc(), MemoryPropertyFlags::DEVICE_LOCAL, 4096)?;

@@ -1,5 +1,5 @@
-//! What a heap has room for beside imports that may be past it: in each order in which blocks of each kind are asked for
-//! and given back, what is held, asked and left is what a plain account says.
+//! What a heap has room for next to imports that may exceed it. In each order in which blocks of each kind are
+//! allocated and returned, what is held, asked and left agrees with a plain account.
 
 use super::bench::{Bench, Held, whole};
 use super::offers::LOCAL;
@@ -16,7 +16,7 @@ const HEAP: u64 = 1 << 20;
 /// How many bytes a chunk has, of a buddy allocator and of a free list.
 const CHUNK: u64 = 8192;
 
-/// How many bytes the object of a block's own has. Beside it the heap has room for one chunk exactly.
+/// How many bytes the object of a block's own has. With it the heap has room for exactly one chunk.
 const OWN: u64 = HEAP - CHUNK;
 
 /// A block.
@@ -37,7 +37,7 @@ enum Kind {
     /// A second one of that chunk.
     Second,
 
-    /// Of a free list's chunk, which stays once it is there.
+    /// Of a free list's chunk, which then stays.
     Transient,
 }
 
@@ -156,7 +156,7 @@ impl Account {
         found
     }
 
-    /// The block at that place is back. The latest takes its place.
+    /// The block at that place is returned. The latest takes its place.
     fn remove(&mut self, rt: &impl Abort, at: usize) {
         holds(rt, at < self.live.len(), "no such kind");
         let _ = self.live.swap_remove(at);
@@ -191,13 +191,13 @@ fn ask(rt: &impl Abort, bench: &mut Bench, kind: Kind) -> Result<(), AllocationE
     bench.take(rt, request, hint)
 }
 
-/// Imports an object of so many bytes.
+/// Imports an object of this many bytes.
 fn import(rt: &impl Abort, bench: &mut Bench, size: u64) -> Result<(), AllocationError> {
     bench.import(rt, whole(size));
     Ok(())
 }
 
-/// Asks for the block of that kind, or gives it back where it is live, and compares what comes of it.
+/// Asks for the block of that kind, or returns it where it is live, and compares what comes of it.
 fn take_turn(rt: &impl Abort, bench: &mut Bench, account: &mut Account, order: usize, kind: Kind) {
     let at = (order, kind);
     if let Some(place) = account.place_of(kind) {
@@ -222,8 +222,8 @@ fn take_turn(rt: &impl Abort, bench: &mut Bench, account: &mut Account, order: u
     );
 }
 
-/// Takes three turns with each kind in that order: all are asked for, then those that are live come back and those that
-/// were refused are asked for again, and so once more.
+/// Takes three turns with each kind in that order. All are asked for, then those that are live are returned and those
+/// that were refused are asked for again, and so once more.
 fn take_turns(rt: &impl Abort, alloc: Global, order: usize) -> Result<(), Fail> {
     let mut account = Account {
         live: Vec::with_capacity(alloc, 8)?,

@@ -1,5 +1,5 @@
-//! The bytes of blocks: what is mapped, written and read, on coherent and non-coherent memory, of blocks that share an
-//! object and of blocks with one of their own, and what is left where the device refuses.
+//! The bytes of blocks: what is mapped, written and read, in coherent and non-coherent memory, and what is left where
+//! the device refuses. Some blocks share an object, and some have one of their own.
 
 use super::pair::{Asking, Call, Memory, Row, Step, play};
 use Call::{Map, Mapped, Read, Unmap, Unread, Write};
@@ -120,7 +120,7 @@ fn writes_flush_whole_atoms(rt: HostRuntime) -> Result<(), Fail> {
     play(&rt, rt.alloc(), &FLUSHED_ATOMS)
 }
 
-/// As these, but of 100 bytes: the second atom is cut where the object ends.
+/// As these, but of 100 bytes: the second atom is cut at the object's end.
 const CUT: Asking = Asking {
     memory: Memory::NonCoherent,
     usage: UsageFlags::HOST_ACCESS,
@@ -313,7 +313,7 @@ fn mapped_blocks_are_not_written(rt: HostRuntime) -> Result<(), Fail> {
     play(&rt, rt.alloc(), &MAPPED_BLOCKS)
 }
 
-/// Two blocks of 8 bytes with an object each, near to the device, which the host does not see.
+/// Two blocks of 8 bytes with an object each, in device-local memory that is not host-visible.
 const UNSEEN: Asking = Asking {
     memory: Memory::Unseen,
     usage: UsageFlags::FAST_DEVICE_ACCESS,

@@ -36,7 +36,7 @@ fn read(alloc: Global, text: &str) -> Result<Config, Error> {
     serde_json::from_str(alloc, text)
 }
 
-/// A text that no configuration has.
+/// A text that is not a configuration.
 fn compare_refused(rt: &impl Abort, alloc: Global, text: &str) {
     let refused = read(alloc, text).is_err();
     same_at(rt, "it is refused at", &text, &refused, &true);
@@ -88,7 +88,8 @@ fn a_configuration_is_read_as_it_was_written(rt: HostRuntime) -> Result<(), Fail
     Ok(())
 }
 
-/// Puts an unknown field among the potato's at each place, and compares what is read of them in order and turned round.
+/// Puts an unknown field among the potato's at each place, and compares what is read, with the fields in order and
+/// reversed.
 fn compare_with_unknown(
     rt: &impl Abort,
     alloc: Global,
@@ -131,7 +132,7 @@ fn compare_doubled_and_missing(
     compare_refused_fields(rt, alloc, fields.as_slice())
 }
 
-/// A field that has this value.
+/// A field with this value.
 fn compare_wrong_value(
     rt: &impl Abort,
     alloc: Global,
@@ -144,7 +145,7 @@ fn compare_wrong_value(
     compare_refused_fields(rt, alloc, &fields)
 }
 
-/// Values that no field has.
+/// Values that no field accepts.
 const WRONG: [&str; 14] = [
     "-1",
     "18446744073709551616",
@@ -185,7 +186,7 @@ fn compare_longer(rt: &impl Abort, alloc: Global, text: &str) -> Result<(), Allo
     Ok(())
 }
 
-/// Each text that the potato's begins with, but for the whole.
+/// Each proper prefix of the potato's text.
 fn compare_cut(rt: &impl Abort, alloc: Global, mut text: String) {
     for _ in 0..text.len() {
         text.pop();
@@ -194,7 +195,7 @@ fn compare_cut(rt: &impl Abort, alloc: Global, mut text: String) {
     holds(rt, text.is_empty(), "a text that was not cut to its start");
 }
 
-/// Texts that are no configuration's.
+/// Texts that are not configurations.
 const TEXTS: [&str; 8] = [
     " ",
     "null",

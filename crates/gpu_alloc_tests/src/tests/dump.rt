@@ -1,4 +1,4 @@
-//! The text of a report of a living program: what `serde_json` reads in it is the report, field by field.
+//! The text of a report of a living program: the report that `serde_json` reads from it is the same, field by field.
 
 use super::same::{holds, never, never_with, same, same_at};
 use gpu_alloc::{
@@ -14,7 +14,7 @@ use std::alloc::Global;
 use std::process::Abort;
 use std::test::Fail;
 
-/// What the text has to hold, as it is documented.
+/// The members of the text, as documented.
 #[derive(Drop, Serialize)]
 struct Dump<'r> {
     heaps: &'r [HeapReport],
@@ -84,7 +84,7 @@ fn opened(rt: &impl Abort, alloc: Global) -> Desk {
     }
 }
 
-/// A block, each question for which is granted.
+/// Allocates a block; each question for it is granted.
 fn granted(
     rt: &impl Abort,
     alloc: Global,
@@ -157,7 +157,7 @@ fn object_row(
     })
 }
 
-/// What the text of a report of the desk has to hold.
+/// The members of the text of a report of the desk.
 fn wanted(rt: &impl Abort, alloc: Global, desk: &Desk, report: &Report) -> Result<Value, Fail> {
     let mut types = Vec::new(alloc);
     for offered in &TYPES {
@@ -179,7 +179,7 @@ fn wanted(rt: &impl Abort, alloc: Global, desk: &Desk, report: &Report) -> Resul
     Ok(serde_json::to_value(alloc, &dump)?)
 }
 
-/// Ends a desk: its blocks come back, and the names of its objects are read.
+/// Ends a desk: its blocks are freed, and the names of its objects are read.
 fn ended(rt: &impl Abort, mut desk: Desk) {
     for _ in 0..1000 {
         let Some(grant) = desk.block_after(0) else {

@@ -1,6 +1,6 @@
-//! Lists of calls of the allocator of exact runs, drawn from a fixed seed: each block has to be exactly as long as asked,
-//! in a free run that has room. What the device is asked for, what is held and what is free is compared with what plain
-//! lists of chunks and live blocks say.
+//! Lists of calls of the allocator of exact runs, drawn from a fixed seed. Each block must be exactly as long as
+//! requested, in a free run with room. What the device is asked for, what is held and what is free is compared with
+//! plain lists of chunks and live blocks.
 
 ghost use Rattle.std.specs.Prelude.{◌≡◌, ◌≤◌, ◌<◌, ◌+◌, ◌^◌, IfOk, IsTrue};
 ghost use Rattle.std.specs.Int.{is_power_of_two};
@@ -59,7 +59,7 @@ impl Model for Chunks {
 }
 
 impl Chunks {
-    /// One that holds nothing, over one device-local type, by atoms of the mask and one.
+    /// One that holds nothing, over one device-local type, by atoms of the mask plus one.
     fn new(alloc: Global, atom_mask: u64) -> Result<Chunks, Fail>
         requires atom { IsTrue (is_power_of_two (atom_mask + 1)) }
         requires atom_bound { atom_mask + 1 ≤ 2 ^ 62 }
@@ -86,14 +86,14 @@ impl Chunks {
         })
     }
 
-    /// Has the device refuse a question for a chunk, of which so many come up to it, with it.
+    /// Has the device refuse a question for a chunk, by its number from 1.
     fn refuse(&mut self, nth: u64) -> Result<(), AllocError>
         ensures { self.new ≡ self.old }
     {
         self.device.refuse(Question::Allocate, nth, Cause::Device)
     }
 
-    /// What is told before a request for so many bytes at a multiple of the mask and one.
+    /// The refusal that is known before a request for this many bytes at a multiple of the mask plus one.
     fn told(&mut self, rt: &impl Abort, size: u64, align_mask: u64) -> Option<AllocationError>
         requires nonempty { 0 < size }
         requires alignment { IsAlignMask align_mask }
@@ -104,7 +104,7 @@ impl Chunks {
             .refuses(size, align_mask, &self.heap, self.remaining)
     }
 
-    /// Asks for a block of so many bytes at a multiple of the mask and one.
+    /// Asks for a block of this many bytes at a multiple of the mask plus one.
     fn ask(
         &mut self,
         rt: &impl Abort,
@@ -127,7 +127,7 @@ impl Chunks {
         )
     }
 
-    /// Gives the chunk back in which no block is live, if there is one.
+    /// Releases the chunk in which no block is live, if there is one.
     fn clean(&mut self)
         ensures leaves { Leaves self.old self.new }
     {
@@ -171,7 +171,7 @@ impl Chunks {
     }
 }
 
-/// Takes a block back, and counts nothing.
+/// Returns a block, and counts nothing.
 fn put_back<L: Ledger>(chunks: &mut Chunks, block: FitBlock<SimMemory>, blank: Blank)
     requires begins { Begins blank L.name L.parts }
     requires live { IsLiveSlot (chunks.old).space block }
@@ -205,7 +205,8 @@ impl Model for Hand {
 }
 
 impl Hand {
-    /// One that gave out nothing, by bytes or by atoms of 64 bytes. It has room for as many blocks as a list has calls.
+    /// An allocator without blocks, by bytes or by atoms of 64 bytes. It has room for as many blocks as a list has
+    /// calls.
     fn new(alloc: Global, by_atoms: bool) -> Result<Hand, Fail> {
         let blocks = Vec::with_capacity(alloc, CALLS as usize)?;
         let chunks = if by_atoms {
@@ -228,8 +229,8 @@ impl Hand {
         same(rt, "a plan", &planned, &Ok(()));
     }
 
-    /// What is told before a request, and asks then. It keeps the block, and tells where it lies. All tiles are searched
-    /// once for both at most, and not again for a request that was refused for want of a place.
+    /// Asks which refusal is known before a request, and then makes it. Keeps the block, and returns where it lies. All
+    /// tiles are searched at most once for both, and not again for a request that was refused for want of a place.
     fn take(
         &mut self,
         rt: &impl Abort,
@@ -272,7 +273,7 @@ impl Hand {
         }
     }
 
-    /// Gives back the block at this place of those that are kept.
+    /// Returns the block at this place of those that are kept.
     fn give_back(&mut self, rt: &impl Abort, at: usize) {
         assert!(rt; at < self.blocks.len());
         let block = self.blocks.remove(at);
@@ -288,10 +289,10 @@ impl Hand {
     }
 }
 
-/// How often the drawn lists came to something: rows of [`CASES`].
+/// How often each case occurred in the drawn lists: rows of [`CASES`].
 type Tally = [u64; 12];
 
-/// What lists have to come to.
+/// The cases that must occur in the lists.
 const CASES: [&str; 12] = [
     "a block in a run",
     "a whole run",
@@ -362,8 +363,8 @@ impl Lists {
         false
     }
 
-    /// Takes in what a request came to, which has to be right: a block in a run that has room, or, where none has, what a
-    /// chunk comes to.
+    /// Takes in the result of a request, which must be right: a block in a run with room, or, where none has room, the
+    /// result of asking for a chunk.
     fn take(
         &mut self,
         rt: &impl Abort,
@@ -401,7 +402,7 @@ impl Lists {
         }
     }
 
-    /// Takes in a block: it begins this chunk, or, where that is none, lies in a run.
+    /// Takes in a block: it begins this chunk, or, where there is none, lies in a run.
     fn take_block(
         &mut self,
         rt: &impl Abort,
@@ -431,7 +432,8 @@ impl Lists {
         self.find_runs()
     }
 
-    /// Begins a chunk. It is refused where no more objects may be held, and then nothing is asked, or by the device.
+    /// Begins a chunk. Where no more objects may be held it is refused without a question, and otherwise the device may
+    /// refuse it.
     fn begin(&mut self, size: u64) -> Result<Result<Range, AllocationError>, AllocError> {
         if self.chunks.len() >= MOST as usize {
             count(&mut self.tally[4]);
@@ -459,7 +461,8 @@ impl Lists {
         Ok(Ok(chunk))
     }
 
-    /// Takes back the block at this place. Where its chunk is wholly free then and another one is too, its chunk goes.
+    /// Returns the block at this place. Where its chunk is then wholly free and another one is too, its chunk is
+    /// released.
     fn take_back(&mut self, rt: &impl Abort, at: usize) -> Result<(), AllocError> {
         holds(rt, at < self.live.len(), "no such block");
         let block = self.live.remove(at);
@@ -490,13 +493,13 @@ impl Lists {
         self.let_go(block.object)
     }
 
-    /// Lets the chunk of this object go.
+    /// Releases the chunk of this object.
     fn let_go(&mut self, object: u64) -> Result<(), AllocError> {
         self.chunks.retain(|chunk| chunk.object != object);
         self.find_runs()
     }
 
-    /// Gives back the chunk that is wholly free, if there is one.
+    /// Releases the wholly free chunk, if there is one.
     fn clean(&mut self) -> Result<(), AllocError> {
         let mut gone = 0;
         for chunk in &self.chunks {
@@ -513,7 +516,7 @@ pub(super) fn lies_in(range: Range, other: Range) -> bool {
     range.object == other.object && other.start <= range.start && range.end <= other.end
 }
 
-/// Takes a block of drawn size and alignment.
+/// Allocates a block of drawn size and alignment.
 fn take(
     rt: &impl Abort,
     hand: &mut Hand,
@@ -542,7 +545,7 @@ fn give_back(
     lists.take_back(rt, at)
 }
 
-/// Gives back the chunk that is wholly free.
+/// Releases the wholly free chunk.
 fn clean(hand: &mut Hand, lists: &mut Lists) -> Result<(), AllocError> {
     hand.chunks.clean();
     lists.clean()
@@ -557,7 +560,8 @@ fn compare(rt: &impl Abort, hand: &Hand, lists: &Lists) {
         .compare_ranges(rt, lists.alloc, lists.runs.as_slice());
 }
 
-/// Makes the drawn calls of a list, more than half of which take a block, and then returns what is left and cleans up.
+/// Makes the drawn calls of a list, more than half of which allocate a block, and then returns what is left and cleans
+/// up.
 fn run(
     rt: &impl Abort,
     hand: &mut Hand,
@@ -581,7 +585,7 @@ fn run(
     Ok(())
 }
 
-/// Draws a list, makes its calls, and ends the allocator. It tells what the lists came to.
+/// Draws a list, makes its calls, and ends the allocator. Returns which cases the lists met.
 fn try_list(
     rt: &impl Abort,
     alloc: Global,
@@ -602,9 +606,10 @@ fn try_list(
     Ok(lists.tally)
 }
 
-/// Whatever is taken and returned, each block lies exactly as long as asked in a free run that has room, or begins a chunk
-/// where none has; a wholly free chunk goes where another one is; and no call searches twice. If not, blocks would share
-/// bytes, a device would be asked for chunks that nobody needs, or a full allocator would be slow.
+/// Whatever is allocated and returned, each block lies exactly as long as requested in a free run with room, or begins
+/// a chunk where no run has room. A wholly free chunk is released where there is another one, and no call searches
+/// twice. If not, blocks would share bytes, a device would be asked for chunks that nobody needs, or a full allocator
+/// would be slow.
 #[test]
 fn drawn_calls_leave_exact_runs(rt: HostRuntime) -> Result<(), Fail> {
     let mut chance = Chance { state: 31 };

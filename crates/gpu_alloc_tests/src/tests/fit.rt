@@ -1,6 +1,7 @@
-//! Sessions whose allocators share fit chunks, over lists of commands drawn from a fixed seed: each block of a fit chunk
-//! has to be exactly as long as asked, in whole grains, in a gap that has room. What is answered, held, free and reported
-//! is compared with what plain lists of chunks and live blocks say, and so is at the end how often the device was asked.
+//! Sessions whose allocators share fit chunks, over lists of commands drawn from a fixed seed. Each block of a fit
+//! chunk must be exactly as long as requested, in whole grains, in a gap with room. What is answered, held, free and
+//! reported is compared with plain lists of chunks and live blocks, and so is how often the device was asked in the
+//! end.
 
 mod model;
 
@@ -45,7 +46,7 @@ fn memory_type((heap, props): (u32, u8)) -> MemoryType {
     }
 }
 
-/// The memory types: near to the device, non-coherent, coherent, and near to the device.
+/// The memory types: device-local, non-coherent, coherent, and device-local.
 fn memory_types() -> [MemoryType; 4] {
     [(0, 1), (0, 2), (1, 6), (2, 1)].map(memory_type)
 }
@@ -58,7 +59,7 @@ struct Plan {
     map: u64,
 }
 
-/// What is asked for.
+/// A drawn request.
 #[derive(Clone, Copy, Debug)]
 struct Ask {
     size: u64,
@@ -70,7 +71,7 @@ struct Ask {
 }
 
 impl Ask {
-    /// What its memory is for.
+    /// Its usage.
     fn usage(&self) -> UsageFlags {
         if self.is_brief {
             UsageFlags::FAST_DEVICE_ACCESS.union(UsageFlags::TRANSIENT)
@@ -98,7 +99,7 @@ impl Ask {
     }
 }
 
-/// A drawn request: for as many bytes as a gap has, for more than a first chunk has, or for few.
+/// A drawn request: for as many bytes as a gap has, for more than the first chunk has, or for few.
 fn draw_ask(model: &Model, chance: &mut Chance) -> Result<Ask, AllocError> {
     let memory_type = (chance.next() % 4) as u32;
     let size = match chance.next() % 16 {
@@ -139,7 +140,7 @@ fn gap_size(model: &Model, memory_type: u32, chance: &mut Chance) -> Result<u64,
     Ok(gap.map_or(256, |gap| gap.end.saturating_sub(gap.start).max(1)))
 }
 
-/// A session with fit chunks over a device with this atom that allows so many objects, with those refusals.
+/// A session with fit chunks over a device with this atom that allows this many objects, with those refusals.
 fn open(
     rt: &impl Abort,
     alloc: Global,
@@ -162,7 +163,7 @@ fn open(
     open_over(alloc, offered, device)
 }
 
-/// A session with fit chunks over a device that offers this.
+/// A session with fit chunks over a device that offers these.
 pub(super) fn open_over(
     alloc: Global,
     offered: DeviceProperties<'_>,
@@ -192,7 +193,7 @@ fn refuse(rt: &impl Abort, device: &mut Sim, refused: Plan)
     same(rt, "a plan", &third, &Ok(()));
 }
 
-/// What a command was answered by.
+/// The answer to a command.
 #[derive(Clone, Copy, Debug, PartialEq, Eq)]
 enum Told {
     Done,
@@ -224,7 +225,7 @@ impl Told {
     }
 }
 
-/// Runs a command, and then those that ask what is free and held. It tells what the first was answered by.
+/// Runs a command, and then those that ask what is free and held. Returns the answer to the first.
 fn call(
     rt: &impl Abort,
     alloc: Global,
@@ -281,7 +282,7 @@ fn compare(rt: &impl Abort, model: &Model, replies: &[Reply]) -> Result<(), Allo
     Ok(())
 }
 
-/// Compares what a report tells of fit chunks.
+/// Compares what a report says of fit chunks.
 fn compare_report(
     rt: &impl Abort,
     alloc: Global,
@@ -349,7 +350,7 @@ fn give_back(
     compare(rt, model, replies.as_slice())
 }
 
-/// Gives back the chunks in which nothing is live.
+/// Releases the chunks in which nothing is live.
 fn clean(
     rt: &impl Abort,
     alloc: Global,
@@ -362,7 +363,8 @@ fn clean(
     compare(rt, model, replies.as_slice())
 }
 
-/// Runs the drawn commands of a list, more than half of which take a block, and then returns what is left and cleans up.
+/// Runs the drawn commands of a list, more than half of which allocate a block, and then returns what is left and
+/// cleans up.
 fn run(
     rt: &impl Abort,
     alloc: Global,
@@ -386,7 +388,7 @@ fn run(
     clean(rt, alloc, session, model)
 }
 
-/// Draws a list, runs its commands, and ends the session. It tells what the lists came to.
+/// Draws a list, runs its commands, and ends the session. Returns which cases the lists met.
 fn try_list(
     rt: &impl Abort,
     alloc: Global,
@@ -420,8 +422,8 @@ fn try_list(
     Ok(model.tally)
 }
 
-/// If not, blocks would share bytes or be longer than asked, a device would be asked for chunks that nobody needs, or a
-/// chunk would be kept for ever.
+/// If not, blocks would share bytes or be longer than requested, a device would be asked for chunks that nobody needs,
+/// or a chunk would be kept for ever.
 #[test]
 fn drawn_sessions_share_fit_chunks(rt: HostRuntime) -> Result<(), Fail> {
     let mut chance = Chance { state: 41 };

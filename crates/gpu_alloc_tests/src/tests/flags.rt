@@ -9,7 +9,7 @@ use std::hash::{DefaultHasher, Hash, Hasher};
 use std::process::Abort;
 use std::test::Fail;
 
-// What the trait's own calls make of a number: all named bits, those of the number, those that it lacks, and those that
+// What the trait's own calls make of a number: all named bits, its own named bits, those that it lacks, and those that
 // it gains by the lowest bit.
 fn numbers<F: Flags<Bits = u8> + Copy>(bits: u8) -> [u8; 4] {
     let flags = F::from_bits_retain(bits);
@@ -72,7 +72,7 @@ fn flags_are_hashed_by_their_numbers(rt: HostRuntime) -> Result<(), Fail> {
     Ok(())
 }
 
-// Flags of one number are hashed alike, whatever they are of, and others are not.
+// Flags of one number have the same hash, whatever their type, and others do not.
 fn compare_hashes(rt: &impl Abort) {
     let usage = hash_of(&UsageFlags::UPLOAD);
     same(

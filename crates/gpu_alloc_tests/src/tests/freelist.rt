@@ -34,7 +34,7 @@ struct Refused {
     props: MemoryPropertyFlags,
     remaining: u32,
 
-    /// What is told before the request.
+    /// The refusal that is known before the request.
     told: Option<AllocationError>,
 
     error: AllocationError,
@@ -62,7 +62,7 @@ fn compare_nothing_held(
     same(rt, "remaining", &remaining, &case.remaining);
 }
 
-/// Compares a refusal where the device refuses the first question of a kind. Nothing is held after it.
+/// Compares the result where the device refuses the first question of a kind. Nothing is held after it.
 fn compare_refusal(
     rt: &impl Abort,
     alloc: Global,
@@ -117,7 +117,7 @@ fn compare_refusal(
     Ok(())
 }
 
-/// Where no more objects may be held, the request is refused before the device is asked, and that is told beforehand.
+/// Where no more objects may be held, the request is refused before the device is asked, and that is known beforehand.
 /// If not, a device would be asked for more objects than it can hold.
 #[test]
 fn a_chunk_beyond_the_count_is_refused_first(rt: HostRuntime) -> Result<(), Fail> {
@@ -155,7 +155,8 @@ fn a_chunk_that_the_device_refuses_is_not_held(rt: HostRuntime) -> Result<(), Fa
     )
 }
 
-/// A chunk that was made and cannot be mapped goes back. If not, its object would be held for ever and counted nowhere.
+/// A chunk that was made and cannot be mapped is released. If not, its object would be held for ever and counted
+/// nowhere.
 #[test]
 fn a_chunk_that_cannot_be_mapped_is_given_back(rt: HostRuntime) -> Result<(), Fail> {
     compare_refusal(
@@ -212,7 +213,7 @@ impl Model for Chunks {
 }
 
 impl Chunks {
-    /// One that holds nothing, and may hold so many objects, over one device-local type. Each byte may start a block.
+    /// One that holds nothing, and may hold this many objects, over one device-local type. Each byte may start a block.
     pub(super) fn new(alloc: Global, most: u32) -> Result<Chunks, Fail> {
         Chunks::of_atoms(alloc, 0, most)
     }
@@ -222,7 +223,7 @@ impl Chunks {
         Chunks::of_atoms(alloc, 63, most)
     }
 
-    /// The same by atoms of the mask and one.
+    /// The same by atoms of the mask plus one.
     fn of_atoms(alloc: Global, atom_mask: u64, most: u32) -> Result<Chunks, Fail>
         requires atom { IsTrue (is_power_of_two (atom_mask + 1)) }
         requires atom_bound { atom_mask + 1 ≤ 2 ^ 62 }
@@ -250,14 +251,14 @@ impl Chunks {
         })
     }
 
-    /// Has the device refuse a question for a chunk, of which so many come up to it, with it.
+    /// Has the device refuse a question for a chunk, by its number from 1.
     pub(super) fn refuse(&mut self, nth: u64) -> Result<(), AllocError>
         ensures { self.new ≡ self.old }
     {
         self.device.refuse(Question::Allocate, nth, Cause::Device)
     }
 
-    /// What is told before a request for so many bytes at a multiple of the mask and one.
+    /// The refusal that is known before a request for this many bytes at a multiple of the mask plus one.
     pub(super) fn told(
         &self,
         rt: &impl Abort,
@@ -272,7 +273,7 @@ impl Chunks {
             .refuses(size, align_mask, &self.heap, self.remaining)
     }
 
-    /// Asks for a block of at least so many bytes at a multiple of the mask and one.
+    /// Asks for a block of at least this many bytes at a multiple of the mask plus one.
     pub(super) fn ask(
         &mut self,
         rt: &impl Abort,
@@ -295,7 +296,7 @@ impl Chunks {
         )
     }
 
-    /// A block of at least so many bytes.
+    /// A block of at least this many bytes.
     fn take(&mut self, rt: &impl Abort, size: u64) -> FreeListBlock<SimMemory>
         ensures added { Adds self.old self.new result }
         ensures leaves { Leaves self.old self.new }
@@ -307,7 +308,7 @@ impl Chunks {
         }
     }
 
-    /// Takes a block back.
+    /// Returns a block.
     pub(super) fn give_back(&mut self, block: FreeListBlock<SimMemory>)
         requires live { IsLiveSlot (self.old).space block }
         ensures removed { Removes self.old block self.new }
@@ -315,7 +316,7 @@ impl Chunks {
         self.allocator.dealloc(&mut self.device, block, &mut self.heap, &mut self.remaining);
     }
 
-    /// Gives every chunk back in which no block is live.
+    /// Releases every chunk in which no block is live.
     pub(super) fn clean(&mut self)
         ensures leaves { Leaves self.old self.new }
     {
@@ -377,9 +378,9 @@ fn place_of(block: &FreeListBlock<SimMemory>) -> (u64, u64, u64) {
     (block.memory().object(), block.offset(), block.size())
 }
 
-/// Blocks are cut off the end of one chunk. It stays when both are back, since the last run lies in it, and goes with a
-/// cleanup. If not, blocks would lie elsewhere than in the original crate, each request would ask the device anew, or a
-/// chunk that nobody uses would be held for ever.
+/// Blocks are cut off the end of one chunk. It stays when both are returned, since the last run lies in it, and is
+/// released by a cleanup. If not, blocks would lie elsewhere than in the original crate, each request would ask the
+/// device anew, or a chunk that nobody uses would be held for ever.
 #[test]
 fn two_blocks_share_a_chunk(rt: HostRuntime) -> Result<(), Fail> {
     let mut chunks = Chunks::new(rt.alloc(), 4096)?;
@@ -403,7 +404,7 @@ fn two_blocks_share_a_chunk(rt: HostRuntime) -> Result<(), Fail> {
     Ok(())
 }
 
-/// A handle that is a name alone.
+/// A handle that is only a name.
 #[derive(Drop)]
 struct Handle {
     name: u64,
@@ -421,8 +422,8 @@ impl MemoryObject for Handle {
     }
 }
 
-/// A list that holds one chunk, of 64 bytes of the object 7, and a block of 10 bytes in it. Before that the list has no
-/// block to give.
+/// A list with one chunk, of 64 bytes of the object 7, and a block of 10 bytes in it. Before that the list has no block
+/// to give.
 fn open_with_block(rt: &impl Abort, alloc: Global) -> (FreeList<Handle>, FreeListBlock<Handle>)
     ensures one { map.len ((result.0).space).chunks ≡ 1 }
     ensures live { IsLiveSlot (result.0).space result.1 }
@@ -452,7 +453,7 @@ fn compare_run(rt: &impl Abort, list: &FreeList<Handle>, end: u64) {
     same(rt, "runs", &list.regions(), &[run].as_slice());
 }
 
-/// Compares on which side of a block some runs lie: a run before it in its chunk, one behind it, and one in the next
+/// Compares on which side of a block some runs lie: a run before it in its chunk, one after it, and one in the next
 /// chunk.
 fn compare_sides(rt: &impl Abort, block: &FreeListBlock<Handle>) {
     for (chunk, start, side) in [
@@ -475,7 +476,7 @@ fn compare_sides(rt: &impl Abort, block: &FreeListBlock<Handle>) {
     }
 }
 
-/// Takes a block back, and counts nothing.
+/// Returns a block, and counts nothing.
 fn put_back<L: Ledger>(list: &mut FreeList<Handle>, block: FreeListBlock<Handle>, blank: Blank)
     requires begins { Begins blank L.name L.parts }
     requires live { IsLiveSlot list.old.space block }
@@ -498,8 +499,8 @@ fn end_with_chunk(rt: &impl Abort, mut list: FreeList<Handle>)
     list.close();
 }
 
-/// A block is the end of its chunk, what is before it is one run, and when it is back the run is the chunk again. If
-/// not, a list would give out bytes twice, or lose bytes that came back.
+/// A block is the end of its chunk, what is before it is one run, and when it is returned the run is the chunk again.
+/// If not, a list would give out bytes twice, or lose returned bytes.
 #[test]
 fn a_block_comes_back_to_its_list(rt: HostRuntime) {
     let (mut list, block) = open_with_block(&rt, rt.alloc());

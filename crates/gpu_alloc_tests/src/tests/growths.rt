@@ -1,5 +1,5 @@
-//! Each request for host memory of a whole run refused in turn, by calls of the allocator alone: what is held is as
-//! before then. The calls of blocks, the returns, the cleanup and the end take no memory.
+//! Each request for host memory of a whole run refused in turn, by calls of the allocator alone: what is held is then
+//! as before. The calls of blocks, the returns, the cleanup and the end take no memory.
 
 use super::bench::{Bench, Held, close, leave_nothing};
 use super::offers::{are_usable, offer};
@@ -13,7 +13,7 @@ use std::alloc::{Allocator, Global};
 use std::process::Abort;
 use std::test::Fail;
 
-/// A memory type that the host sees and has to flush.
+/// A memory type that is host-visible and must be flushed.
 const NON_COHERENT: MemoryType = MemoryType {
     heap: 0,
     props: MemoryPropertyFlags::HOST_VISIBLE,
@@ -63,7 +63,7 @@ fn kinds() -> [(&'static str, Request, Dedicated); 3] {
     ]
 }
 
-/// Takes a block, and once more with ample memory where that was refused: then what is held is as before. It tells
+/// Allocates a block, and once more with ample memory where memory is missing: then what is held is as before. Returns
 /// whether it was served at once.
 fn take_or_again<A: Allocator + Copy>(
     rt: &impl Abort,
@@ -91,7 +91,7 @@ fn compare_kept(rt: &impl Abort, error: AllocationError, after: Held, before: He
     same(rt, "what is held after a refusal", &after, &before);
 }
 
-/// Takes a block of each kind, an import first. It tells what was refused memory first, and is served with ample memory
+/// Allocates a block of each kind, an import first. Returns what first lacked memory, and is served with ample memory
 /// then.
 fn take_each<A: Allocator + Copy>(
     rt: &impl Abort,
@@ -108,7 +108,7 @@ fn take_each<A: Allocator + Copy>(
     refused
 }
 
-/// Takes a further block of each kind beside those, and calls it where no memory is left.
+/// Allocates a further block of each kind, and calls it where no memory is left.
 fn call_each<A: Allocator + Copy>(rt: &impl Abort, memory: &ScarceMemory, bench: &mut Bench<A>) {
     for (_, request, hint) in kinds() {
         bench.take_and_call(rt, memory, request, hint);
@@ -116,8 +116,8 @@ fn call_each<A: Allocator + Copy>(rt: &impl Abort, memory: &ScarceMemory, bench:
     bench.import_and_call(rt, memory);
 }
 
-/// Takes blocks where so many bytes are left, calls them, gives all back and ends the allocator where none is left. What
-/// was refused first, and how many may be left next.
+/// Allocates blocks where this many bytes are left, calls them, returns all and ends the allocator where none is left.
+/// Returns what was refused first, and how many bytes may be left next.
 fn run_in(
     rt: &impl Abort,
     alloc: Global,
@@ -136,8 +136,8 @@ fn run_in(
     Ok((refused, less))
 }
 
-/// None is refused at first, and then each request for memory, the last one first: each kind of block is refused for
-/// want of it.
+/// No request is refused at first, and then each request for memory is, the last one first: each kind of block is
+/// refused for want of it.
 #[test]
 fn each_growth_of_an_allocator_is_refused_in_turn(rt: HostRuntime) -> Result<(), Fail> {
     let mut met = Vec::new(rt.alloc());
@@ -172,7 +172,7 @@ fn open<'a>(
     GpuAllocator::new(memory, Config::i_am_potato(), offered)
 }
 
-/// Whether an allocator is opened where so many bytes are left. It is ended then.
+/// Whether an allocator can be opened where this many bytes are left. It is then ended.
 fn is_opened_in(rt: &impl Abort, alloc: Global, room: usize) -> Result<bool, Fail> {
     let memory = ScarceMemory::new(alloc)?;
     memory.leave(room)?;

@@ -1,4 +1,4 @@
-//! Handles and frames over a device, of which it refuses one object.
+//! Handles and frames over a device that refuses one object.
 
 ghost use Rattle.std.specs.Prelude.{false};
 ghost use Rattle.gpu_alloc.specs.Request.{IsAskable};
@@ -16,7 +16,7 @@ type Manager = ResourceManager<SimMemory, Sim>;
 
 type Planner = FramePlanner<SimMemory, Sim>;
 
-/// So many bytes, which may be asked for.
+/// A valid request for this many bytes.
 fn request(rt: &impl Abort, size: u64) -> Request
     ensures { IsAskable false result }
 {
@@ -30,7 +30,7 @@ fn request(rt: &impl Abort, size: u64) -> Request
     request
 }
 
-/// Makes a block of so many bytes, which is found under its handle.
+/// Makes a block of this many bytes, which is found under its handle.
 fn make(rt: &impl Abort, manager: &mut Manager, size: u64) -> Handle {
     let asked = request(rt, size);
     let handle = manager.create(asked).expect(rt, "a block");
@@ -38,13 +38,13 @@ fn make(rt: &impl Abort, manager: &mut Manager, size: u64) -> Handle {
     handle
 }
 
-/// The handle finds a block of so many bytes, or none.
+/// The handle finds a block of this many bytes, or none.
 fn finds(rt: &impl Abort, manager: &Manager, handle: Handle, size: Option<u64>) {
     let found = manager.block(handle).map(|block| block.size());
     same(rt, "what a handle finds", &found, &size);
 }
 
-/// Two blocks, of which one goes for a third in its slot, and a refusal.
+/// Two blocks, one of which is replaced by a third in its slot, and a refusal.
 fn replace(rt: &impl Abort, manager: &mut Manager) {
     let first = make(rt, manager, 64);
     let second = make(rt, manager, 128);
@@ -71,7 +71,7 @@ fn begin(rt: &impl Abort, planner: &mut Planner, last: u64) -> Result<(), Alloca
     planner.begin_flight(&requests)
 }
 
-/// Two flights, the oldest of which goes, and one that is refused.
+/// Two flights, the oldest of which is retired, and one that is refused.
 fn fly(rt: &impl Abort, planner: &mut Planner) {
     same(rt, "a flight", &begin(rt, planner, 32), &Ok(()));
     same(rt, "another", &begin(rt, planner, 64), &Ok(()));

@@ -1,5 +1,5 @@
-//! Requests that ask the device for nothing: which memory type serves them from what is held, and that nothing is asked
-//! and no object is made, whatever is answered.
+//! Requests that ask the device for nothing: which memory type serves them from what is held. Nothing is asked and no
+//! object is made, whatever the answer.
 
 use super::bench::Bench;
 use super::offers::LOCAL;
@@ -33,7 +33,7 @@ const ROW: Row = Row {
     wanted: Ok(None),
 };
 
-/// Where nothing is held, each would ask, or is refused before any memory type is looked at.
+/// Where nothing is held, each would ask, or is refused before any memory type is tried.
 const NOTHING_HELD: [Row; 4] = [
     ROW,
     Row {
@@ -57,7 +57,7 @@ const NOTHING_HELD: [Row; 4] = [
     },
 ];
 
-/// A buddy chunk of the second type is held, of which the first 128 bytes are a block's.
+/// A buddy chunk of the second type is held, whose first 128 bytes are a block's.
 const BUDDY_CHUNK: [Row; 8] = [
     Row {
         what: "of a type with a place, though the first would ask",
@@ -103,7 +103,7 @@ const BUDDY_CHUNK: [Row; 8] = [
     },
 ];
 
-/// A free-list chunk of the first type is held too, of which the last 100 bytes are a block's.
+/// A free-list chunk of the first type is held too, whose last 100 bytes are a block's.
 const BOTH_CHUNKS: [Row; 2] = [
     Row {
         what: "for a moment",
@@ -119,7 +119,7 @@ const BOTH_CHUNKS: [Row; 2] = [
     },
 ];
 
-/// Asks for each in turn, and compares what is answered, that the device was asked for nothing, and that as much is
+/// Makes each request in turn, and compares the answer, that the device was asked for nothing, and that as much is
 /// held.
 fn ask_in_turn(rt: &impl Abort, bench: &mut Bench, rows: &[Row]) {
     for row in rows {
@@ -137,7 +137,7 @@ fn ask_in_turn(rt: &impl Abort, bench: &mut Bench, rows: &[Row]) {
     }
 }
 
-/// What the memory of such a request is for.
+/// The usage of such a request.
 fn usage_of(is_brief: bool) -> UsageFlags {
     if is_brief {
         UsageFlags::TRANSIENT
@@ -146,7 +146,7 @@ fn usage_of(is_brief: bool) -> UsageFlags {
     }
 }
 
-/// Takes a block of 100 bytes as any other, for which an object may be made.
+/// Allocates a block of 100 bytes in the usual way, for which an object may be made.
 fn take_one(
     rt: &impl Abort,
     bench: &mut Bench,

@@ -1,4 +1,4 @@
-//! Imports: what is flushed, held and counted, beside blocks of each kind, and without memory.
+//! Imports: what is flushed, held and counted, next to blocks of each kind, and without memory.
 
 use super::bench::{Bench, Held, Part, whole};
 use super::offers::LOCAL;
@@ -9,13 +9,13 @@ use std::alloc::Global;
 use std::process::Abort;
 use std::test::Fail;
 
-/// A memory type that the host sees and has to flush.
+/// A memory type that is host-visible and must be flushed.
 const NON_COHERENT: MemoryType = MemoryType {
     heap: 0,
     props: MemoryPropertyFlags::HOST_VISIBLE,
 };
 
-/// Takes a block of so many bytes for this usage, with that hint or none.
+/// Allocates a block of this many bytes for this usage, perhaps with a hint.
 fn take(rt: &impl Abort, bench: &mut Bench, size: u64, usage: UsageFlags, hint: Option<Dedicated>) {
     let request = Request {
         size,
@@ -92,7 +92,7 @@ fn an_import_may_be_as_large_as_any_object(rt: HostRuntime) -> Result<(), Fail> 
 /// import.
 const COUNTED: [u128; 5] = [1000, 500, 8192, 8192, 600];
 
-/// The orders in which the blocks in them are given back: each order of their kinds.
+/// The orders in which the blocks in them are returned: each order of their kinds.
 const ORDERS: [[u64; 5]; 60] = [
     [1, 2, 3, 5, 4],
     [1, 2, 4, 5, 3],
@@ -156,7 +156,7 @@ const ORDERS: [[u64; 5]; 60] = [
     [5, 4, 3, 2, 1],
 ];
 
-/// One with a block in each of the five objects.
+/// A bench with a block in each of the five objects.
 fn with_five(rt: &impl Abort, alloc: Global) -> Result<Bench, Fail> {
     let mut bench = Bench::new(rt, alloc, LOCAL, 1)?;
     take(
@@ -178,7 +178,7 @@ fn with_five(rt: &impl Abort, alloc: Global) -> Result<Bench, Fail> {
     Ok(bench)
 }
 
-/// Gives the five blocks back in an order, and compares what is held after each. The free list keeps its chunk.
+/// Returns the five blocks in an order, and compares what is held after each. The free list keeps its chunk.
 fn compare_returns(rt: &impl Abort, alloc: Global, order: [u64; 5]) -> Result<(), Fail> {
     let mut bench = with_five(rt, alloc)?;
     let mut held = Held {

@@ -16,7 +16,7 @@ pub(super) const LOCAL: MemoryType = MemoryType {
     props: MemoryPropertyFlags::DEVICE_LOCAL,
 };
 
-/// What a device offers that has these types in one heap.
+/// A device with these types in one heap.
 pub(super) fn offer<'a>(memory_types: &'a [MemoryType], atom: u64) -> DeviceProperties<'a> {
     DeviceProperties {
         memory_types,
@@ -28,7 +28,7 @@ pub(super) fn offer<'a>(memory_types: &'a [MemoryType], atom: u64) -> DeviceProp
     }
 }
 
-/// The same properties once more.
+/// A copy of these properties.
 pub(super) fn again<'a>(props: &DeviceProperties<'a>) -> DeviceProperties<'a>
     ensures { properties_of result ≡ properties_of props.now }
 {
@@ -42,7 +42,7 @@ pub(super) fn again<'a>(props: &DeviceProperties<'a>) -> DeviceProperties<'a>
     }
 }
 
-/// An allocator has to be able to stand on these.
+/// An allocator can be built on these properties.
 pub(super) fn are_usable(rt: &impl Abort, props: &DeviceProperties<'_>)
     ensures { IsUsable (properties_of props.now) }
 {

@@ -31,17 +31,17 @@ const OUTSIDE: &str = "a range outside its block";
 /// A kind of memory.
 #[derive(Clone, Copy)]
 pub(super) enum Memory {
-    /// The host does not see it.
+    /// It is not host-visible.
     Unseen,
 
-    /// The host sees it, and has to flush and to invalidate it.
+    /// It is host-visible, and must be flushed and invalidated.
     NonCoherent,
 
-    /// The host sees it as the device does.
+    /// It is host-visible and coherent.
     Coherent,
 }
 
-/// What two blocks are asked for with, each.
+/// What each of two blocks is asked for with.
 #[derive(Clone, Copy)]
 pub(super) struct Asking {
     pub(super) memory: Memory,
@@ -50,29 +50,30 @@ pub(super) struct Asking {
     pub(super) hint: Dedicated,
 }
 
-/// A call of a block, and what it has to answer.
+/// A call of a block, and the answer that it must give.
 #[derive(Clone, Copy)]
 pub(super) enum Call {
     /// These bytes are written there.
     Write(u64, &'static [u8], Result<(), MapError>),
 
-    /// So many bytes are read there, and are these.
+    /// This many bytes are read there, and are these.
     Read(u64, &'static [u8]),
 
-    /// So many bytes are refused to be read there, and the buffer stays as it was.
+    /// Reading this many bytes there is refused, and the buffer is unchanged.
     Unread(u64, usize, MapError),
 
-    /// So many bytes are mapped there. A mapping is told by where it starts in the object, and how many bytes it has.
+    /// This many bytes are mapped there. A mapping is given by where it starts in the object, and how many bytes it
+    /// has.
     Map(u64, usize, Result<(u64, u64), MapError>),
 
-    /// The mapping is ended, where there is one.
+    /// The block is unmapped, if it is mapped.
     Unmap(bool),
 
     /// That is mapped.
     Mapped(Option<(u64, u64)>),
 }
 
-/// What is done with two blocks and their device, and what has to come of it.
+/// What is done with two blocks and their device, and what must come of it.
 #[derive(Clone, Copy)]
 pub(super) enum Step {
     /// The first block is called.
@@ -87,7 +88,7 @@ pub(super) enum Step {
     /// A command of the device writes these bytes into an object, from an offset on.
     Command(u64, u64, &'static [u8]),
 
-    /// The device was asked so often to allocate, map, flush and invalidate.
+    /// How often the device was asked to allocate, map, flush and invalidate.
     Asked([u64; 4]),
 
     /// The latest range in a question was that of the object with this name: its offset and its size.
@@ -155,7 +156,7 @@ impl Pair {
         }
     }
 
-    /// Takes one step, and compares what comes of it. The number tells which one it is.
+    /// Takes one step, and compares what comes of it. The number says which one it is.
     fn take_step(&mut self, rt: &impl Abort, at: usize, step: Step) {
         match step {
             Step::First(call) => self.call_first(rt, at, call),
@@ -207,7 +208,7 @@ impl Pair {
         ]
     }
 
-    /// Gives both blocks back as they are, mapped or not, cleans up, and ends the allocator. Nothing is held then.
+    /// Returns both blocks as they are, mapped or not, cleans up, and ends the allocator. Nothing is held then.
     fn end(self, rt: &impl Abort) {
         let Pair {
             mut allocator,
@@ -224,7 +225,7 @@ impl Pair {
     }
 }
 
-/// Takes the steps of each row in their order with two fresh blocks, and gives these back.
+/// Takes the steps of each row in their order with two fresh blocks, and returns these.
 pub(super) fn play(rt: &impl Abort, alloc: Global, rows: &[Row]) -> Result<(), Fail> {
     for (asking, steps) in rows {
         play_row(rt, alloc, *asking, steps)?;
@@ -253,7 +254,7 @@ fn props_of(memory: Memory) -> MemoryPropertyFlags {
     }
 }
 
-/// A block as it is asked for, beside those in hand.
+/// Allocates a block while others are in hand.
 fn take(
     rt: &impl Abort,
     allocator: &mut GpuAllocator<SimMemory>,
@@ -285,7 +286,7 @@ fn take(
     }
 }
 
-/// Plans a refusal, of a cause that a question of this kind can have.
+/// Plans a refusal, for a cause that a question of this kind can have.
 pub(super) fn plan(
     rt: &impl Abort,
     device: &mut Sim,
@@ -321,7 +322,7 @@ fn fits(block: &MemoryBlock<SimMemory>, offset: u64, len: usize) -> bool
     u128::from(offset) + len as u128 <= u128::from(block.size())
 }
 
-/// Calls a block, and compares what it answers.
+/// Calls a block, and compares its answer.
 fn call_block(
     rt: &impl Abort,
     device: &mut Sim,
@@ -378,7 +379,7 @@ fn place_of(mapping: Option<Mapping>) -> Option<(u64, u64)> {
     Some((start, len))
 }
 
-/// Reads so many bytes of a block. What is answered, and what the buffer holds then.
+/// Reads this many bytes of a block. Returns the answer, and what the buffer holds then.
 fn read(
     rt: &impl Abort,
     device: &mut Sim,
@@ -418,7 +419,7 @@ fn compare_read(
     );
 }
 
-/// Compares the cause of what was not read. The buffer is as it was.
+/// Compares the cause of a refused read. The buffer is unchanged.
 fn compare_unread(
     rt: &impl Abort,
     at: usize,

@@ -1,5 +1,5 @@
-//! Lists of calls of the buddy allocator, drawn from a fixed seed: where each block lies, what is held and what is free is
-//! compared with plain lists of free pieces and live blocks.
+//! Lists of calls of the buddy allocator, drawn from a fixed seed: where each block lies, what is held and what is free
+//! is compared with plain lists of free pieces and live blocks.
 
 ghost use Rattle.gpu_alloc.specs.AlignMasks.{IsAlignMask};
 ghost use Rattle.std.specs.Prelude.{◌<◌, IfSome, length};
@@ -25,10 +25,10 @@ const CALLS: u64 = 96;
 /// How many objects may be held in all.
 const MOST: u32 = 4096;
 
-/// The size of the first chunk, in bytes, where the first block is not too large for it.
+/// The size of the first chunk, in bytes, unless the first block is too large for it.
 const FIRST: u64 = 8192;
 
-/// Numbers that look like chance, the same in each run.
+/// Pseudorandom numbers, the same in each run.
 #[derive(Drop)]
 pub(super) struct Chance {
     pub(super) state: u64,
@@ -154,7 +154,7 @@ fn place_of(block: &BuddyBlock<SimMemory>) -> Piece {
     }
 }
 
-/// How often the drawn lists came to something.
+/// How often each case occurred in the drawn lists.
 #[derive(Clone, Copy, Drop)]
 struct Tally {
     /// A block was taken from a free piece.
@@ -169,7 +169,7 @@ struct Tally {
     /// It was larger than the one before.
     grown: u64,
 
-    /// A chunk went back while others were held.
+    /// A chunk was released while others were held.
     gone: u64,
 
     /// Two halves were joined.
@@ -189,7 +189,7 @@ impl Tally {
         }
     }
 
-    /// The drawn lists came to all of it, more often than every second list would have it once.
+    /// The drawn lists met each case, at least once for every second list.
     fn has_all(&self, rt: &impl Abort) {
         for row in [
             ("pieces", self.pieces),
@@ -236,7 +236,7 @@ struct Lists {
     /// The size of the latest chunk that was made.
     latest: u64,
 
-    /// What the lists came to.
+    /// The cases that the lists met.
     tally: Tally,
 }
 
@@ -252,7 +252,7 @@ impl Lists {
         }
     }
 
-    /// The length of the shortest free piece of at least so many bytes, if there is one.
+    /// The length of the shortest free piece of at least this many bytes, if there is one.
     fn shortest(&self, length: u64) -> Option<u64> {
         let mut shortest = None;
         for piece in &self.free {
@@ -265,8 +265,8 @@ impl Lists {
         shortest
     }
 
-    /// Takes in a block that was granted for so many bytes: the front of a shortest free piece that is long enough, or,
-    /// where none is, of a new chunk. That is the size of the chunk for which the device was asked, if it was.
+    /// Takes in a block that was granted for this many bytes: the front of a shortest free piece that is long enough,
+    /// or, where there is none, of a new chunk. That has the size that the device was asked for, if it was asked.
     fn grant(
         &mut self,
         rt: &impl Abort,
@@ -293,7 +293,7 @@ impl Lists {
         Ok(())
     }
 
-    /// Takes the free piece of which a block is the front, and which has to be of this length.
+    /// Takes the free piece of which a block is the front, and which must have this length.
     fn take(&mut self, rt: &impl Abort, block: Piece, length: u64) -> Piece {
         let ties = count_of(self.free.as_slice(), length);
         let front = Piece {
@@ -312,7 +312,7 @@ impl Lists {
     }
 
     /// Begins the chunk of which a block is the front. It has twice the bytes of the block, or as many as the latest
-    /// chunk, if these are more.
+    /// chunk where that is more.
     fn begin(
         &mut self,
         rt: &impl Abort,
@@ -350,7 +350,7 @@ impl Lists {
         Ok(())
     }
 
-    /// Takes back the block at this place. Its chunk goes where no other block of it is live.
+    /// Returns the block at this place. Its chunk is released where no other block in it is live.
     fn take_back(&mut self, rt: &impl Abort, at: usize) -> Result<(), AllocError> {
         holds(rt, at < self.live.len(), "no such block");
         let block = self.live.remove(at);
@@ -361,7 +361,7 @@ impl Lists {
         Ok(())
     }
 
-    /// Joins a range with its other half while that is free, and has what comes of it free.
+    /// Joins a range with its other half while that is free, and frees the result.
     fn join(&mut self, block: Piece) -> Result<(), AllocError> {
         let mut piece = block;
         for _ in 0..63 {
@@ -376,7 +376,7 @@ impl Lists {
         Ok(())
     }
 
-    /// Lets a chunk go in which no block is live: it is one free piece.
+    /// Releases a chunk in which no block is live: it is one free piece.
     fn let_go(&mut self, rt: &impl Abort, object: u64) {
         let Some(at) = find_of(self.chunks.as_slice(), object) else {
             return never_with(rt, "no chunk of the object", &object);
@@ -432,7 +432,7 @@ impl Model for Hand {
 }
 
 impl Hand {
-    /// One that gave out nothing. It has room for as many blocks as a list has calls.
+    /// An allocator without blocks. It has room for as many blocks as a list has calls.
     fn new(alloc: Global) -> Result<Hand, Fail> {
         let blocks = Vec::with_capacity(alloc, CALLS as usize)?;
         match Chunks::new(alloc, MemoryPropertyFlags::DEVICE_LOCAL, MOST) {
@@ -444,7 +444,7 @@ impl Hand {
         }
     }
 
-    /// Takes a block and keeps it, and tells where it lies.
+    /// Allocates a block and keeps it, and returns where it lies.
     fn take(&mut self, rt: &impl Abort, size: u64, align_mask: u64) -> Piece
         requires nonempty { 0 < size }
         requires alignment { IsAlignMask align_mask }
@@ -464,7 +464,7 @@ impl Hand {
         }
     }
 
-    /// Gives back the block at this place of those that are kept.
+    /// Returns the block at this place of those that are kept.
     fn give_back(&mut self, rt: &impl Abort, at: usize) {
         assert!(rt; at < self.blocks.len());
         let block = self.blocks.remove(at);
@@ -480,7 +480,7 @@ impl Hand {
     }
 }
 
-/// Takes a block of drawn size and alignment, and finds where it may lie by the lists.
+/// Allocates a block of drawn size and alignment, and finds where it may lie by the lists.
 fn take(
     rt: &impl Abort,
     hand: &mut Hand,
@@ -521,7 +521,7 @@ fn compare(rt: &impl Abort, alloc: Global, hand: &Hand, lists: &Lists) -> Result
     Ok(())
 }
 
-/// Makes the calls of a list, more than half of which take a block, and then returns what is left.
+/// Makes the calls of a list, more than half of which allocate a block, and then returns what is left.
 fn run(
     rt: &impl Abort,
     alloc: Global,
@@ -544,7 +544,7 @@ fn run(
     Ok(())
 }
 
-/// Draws a list, makes its calls, and ends the allocator. It tells what the lists came to.
+/// Draws a list, makes its calls, and ends the allocator. Returns which cases the lists met.
 fn try_list(
     rt: &impl Abort,
     alloc: Global,
@@ -560,9 +560,9 @@ fn try_list(
     Ok(lists.tally)
 }
 
-/// Whatever is taken and returned, each block is the front of a shortest free piece that is long enough, any of those
-/// that are as short, or of a new chunk where no piece is; halves are joined, and a chunk without a live block goes. If
-/// not, blocks would share bytes, or bytes would be lost.
+/// Whatever is allocated and returned, each block is the front of a shortest free piece that is long enough, any of
+/// those that are as short, or of a new chunk where there is none. Halves are joined, and a chunk without a live block
+/// is released. If not, blocks would share bytes, or bytes would be lost.
 #[test]
 fn drawn_calls_leave_what_plain_lists_say(rt: HostRuntime) -> Result<(), Fail> {
     let mut chance = Chance { state: 7 };

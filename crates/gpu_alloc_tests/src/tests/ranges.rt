@@ -1,4 +1,4 @@
-//! The free ranges of a memory type, as an allocator over the simulated device tells them.
+//! The free ranges of a memory type, as an allocator over the simulated device lists them.
 
 use super::bench::Bench;
 use super::offers::LOCAL;
@@ -12,26 +12,26 @@ use std::test::Fail;
 /// A free range: its object, its start and its end.
 type Range = (u64, u64, u64);
 
-/// What is done with an allocator, and what has to come of it.
+/// What is done with an allocator, and what must come of it.
 #[derive(Clone, Copy)]
 enum Step {
-    /// A block of a buddy chunk, of so many bytes.
+    /// Allocates this many bytes in a buddy chunk.
     Shared(u64),
 
-    /// A block of a free list's chunk, of so many bytes, at a multiple of the mask and one.
+    /// Allocates this many bytes in a free list's chunk, at a multiple of the mask plus one.
     Transient(u64, u64),
 
-    /// A block of an object of its own, of so many bytes.
+    /// Allocates this many bytes in an object of their own.
     Own(u64),
 
-    /// The block at that place of those that are kept comes back, and the latest takes its place.
+    /// The block at that place of those that are kept is returned, and the latest takes its place.
     Return(usize),
 
     /// These are the free ranges of that memory type.
     Free(u32, &'static [Range]),
 }
 
-/// Compares free ranges with those of a row. The number tells which step it is.
+/// Compares free ranges with those of a row. The number says which step it is.
 pub(super) fn compare_ranges<A: Allocator>(
     rt: &impl Abort,
     at: usize,
@@ -51,7 +51,7 @@ pub(super) fn compare_ranges<A: Allocator>(
     }
 }
 
-/// Compares the free ranges of a memory type with those of a row. The number tells which step it is.
+/// Compares the free ranges of a memory type with those of a row. The number says which step it is.
 fn compare_free<A: Allocator + Copy>(
     rt: &impl Abort,
     at: usize,
@@ -65,7 +65,7 @@ fn compare_free<A: Allocator + Copy>(
     }
 }
 
-/// A request for so many bytes of the first type, at multiples of the mask and one.
+/// A request for this many bytes of the first type, at multiples of the mask plus one.
 fn request(size: u64, align_mask: u64, usage: UsageFlags) -> Request {
     Request {
         size,
@@ -75,7 +75,7 @@ fn request(size: u64, align_mask: u64, usage: UsageFlags) -> Request {
     }
 }
 
-/// What a step asks for, with its hint, if it asks for a block.
+/// The request of a step, with its hint, if it asks for a block.
 fn asked_by(step: Step) -> Option<(Request, Option<Dedicated>)> {
     match step {
         Step::Shared(size) => Some((request(size, 0, UsageFlags::empty()), None)),
@@ -88,7 +88,7 @@ fn asked_by(step: Step) -> Option<(Request, Option<Dedicated>)> {
     }
 }
 
-/// Takes one step, and compares what comes of it. The number tells which one it is.
+/// Takes one step, and compares what comes of it. The number says which one it is.
 fn take_step<A: Allocator + Copy>(rt: &impl Abort, bench: &mut Bench<A>, at: usize, step: Step) {
     if let Some((request, hint)) = asked_by(step) {
         let taken = bench.take(rt, request, hint);
@@ -157,7 +157,7 @@ const JOINED_PIECES: [Step; 11] = [
     ),
 ];
 
-/// Free pieces are the longest ones, and halves are joined as they come back. If not, free space would depend on the
+/// Free pieces are the longest ones, and halves are joined as they are returned. If not, free space would depend on the
 /// order of the calls before.
 #[test]
 fn free_pieces_are_joined(rt: HostRuntime) -> Result<(), Fail> {
@@ -214,8 +214,8 @@ const JOINED_RUNS: [Step; 11] = [
     Step::Free(0, &[(2, 0, 16384)]),
 ];
 
-/// What is left below an aligned block is one run, and when both blocks are back it is the chunk. If not, bytes that
-/// came back would be lost. A larger chunk that comes beside it keeps the last run, and the smaller one goes.
+/// What is left below an aligned block is one run, and when both blocks are returned it is the chunk. If not, returned
+/// bytes would be lost. A larger chunk next to it keeps the last run, and the smaller one is released.
 #[test]
 fn runs_are_joined(rt: HostRuntime) -> Result<(), Fail> {
     take_steps(&rt, rt.alloc(), &JOINED_RUNS)
@@ -238,8 +238,8 @@ fn other_memory_has_no_free_ranges(rt: HostRuntime) -> Result<(), Fail> {
     take_steps(&rt, rt.alloc(), &OTHER_MEMORY)
 }
 
-/// Looks at the free ranges where so many bytes are left, and once more with ample memory where that was refused. They
-/// have to be these, and nothing else changes. It tells whether those bytes were enough.
+/// Looks at the free ranges where this many bytes are left, and once more with ample memory where they are too few. The
+/// ranges must be these, and nothing else changes. Returns whether those bytes were enough.
 fn look_in<A: Allocator + Copy>(
     rt: &impl Abort,
     memory: &ScarceMemory,
@@ -260,7 +260,7 @@ fn look_in<A: Allocator + Copy>(
     Ok(served)
 }
 
-/// Compares the free ranges with those of a row, or their refusal. It tells which came.
+/// Compares the free ranges with those of a row, or their refusal. Returns which came.
 fn is_served<A: Allocator>(
     rt: &impl Abort,
     room: usize,
@@ -280,7 +280,7 @@ fn is_served<A: Allocator>(
     }
 }
 
-/// Takes the steps, looks at the free ranges where so many bytes are left, and ends the allocator.
+/// Takes the steps, looks at the free ranges where this many bytes are left, and ends the allocator.
 fn take_and_look<A: Allocator + Copy>(
     rt: &impl Abort,
     memory: &ScarceMemory,
@@ -338,7 +338,7 @@ const PIECES: [Range; 6] = [
 ];
 
 /// Where the host has no memory for the list of free pieces, which is the only one here, the look is refused and
-/// nothing changes. If not, a look would answer wrong where memory runs out.
+/// nothing changes. If not, a look would give a wrong answer where memory runs out.
 #[test]
 fn want_of_memory_for_pieces_is_refused(rt: HostRuntime) -> Result<(), Fail> {
     compare_refusals(&rt, rt.alloc(), &[Step::Shared(100)], &PIECES)

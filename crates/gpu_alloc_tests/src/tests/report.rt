@@ -27,8 +27,8 @@ const REPORT: &str = concat!(
     r#"{"block":null,"offset":2048,"size":2048},{"block":null,"offset":4096,"size":4096}]}]}"#,
 );
 
-/// The same with fit chunks. The second block takes the rest of the first chunk, of 8192 bytes, so that the third one is
-/// the front of a chunk twice as large. The first goes back.
+/// The same with fit chunks. The second block takes the rest of the first chunk, of 8192 bytes, so the third one is at
+/// the front of a chunk twice as large. The first is returned.
 const FITTED_SCRIPT: &str = concat!(
     "heap 1048576\ntype 0 2\natom 64\nalloc 1 100 0 2 1\nalloc 2 7936 0 2 1\nalloc 3 10 0 2 1\n",
     "required 4 100 0 2 1\nfree 1",

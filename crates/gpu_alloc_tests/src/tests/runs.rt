@@ -1,5 +1,5 @@
-//! Lists of calls of the free-list allocator, drawn from a fixed seed: where each block lies, what the device is asked
-//! for, what is held and what is free is compared with what plain lists of chunks and live blocks say.
+//! Lists of calls of the free-list allocator, drawn from a fixed seed. Where each block lies, what the device is asked
+//! for, what is held and what is free is compared with plain lists of chunks and live blocks.
 
 ghost use Rattle.std.specs.Prelude.{◌≡◌, ◌<◌};
 ghost use Rattle.gpu_alloc.specs.AlignMasks.{IsAlignMask};
@@ -28,7 +28,7 @@ pub(super) const CALLS: u64 = 96;
 /// How many objects may be held at once.
 pub(super) const MOST: u32 = 3;
 
-/// A range of a chunk: its object is named by its number, since nothing else is asked of the device.
+/// A range of a chunk: its object is named by its number, since the device is asked for nothing else.
 pub(super) type Range = FreeRange;
 
 /// Where a block lies, and the number of its chunk.
@@ -41,7 +41,7 @@ fn place_of(block: &FreeListBlock<SimMemory>) -> (Range, u64) {
     (place, block.chunk())
 }
 
-/// The tail of a run that has room for so many bytes from a multiple of the mask and one on: it starts at the last such
+/// The tail of a run with room for this many bytes from a multiple of the mask plus one on: it starts at the last such
 /// multiple.
 pub(super) fn tail_of(run: Range, size: u64, align_mask: u64) -> Option<Range> {
     let start = run.end.checked_sub(size)? & !align_mask;
@@ -95,7 +95,7 @@ pub(super) fn runs_of(
     Ok(runs)
 }
 
-/// How often the drawn lists came to something.
+/// How often each case occurred in the drawn lists.
 #[derive(Clone, Copy, Drop)]
 struct Tally {
     /// The front of a run was left.
@@ -107,7 +107,7 @@ struct Tally {
     /// The last run had no room, and one before it had.
     passed: u64,
 
-    /// A block had more bytes than were asked for, for its alignment.
+    /// A block had more bytes than requested, because of its alignment.
     aligned: u64,
 
     /// A chunk was made.
@@ -116,13 +116,13 @@ struct Tally {
     /// It was larger than the next one was to be.
     grown: u64,
 
-    /// A chunk was wanted, and no more objects might be held.
+    /// A chunk was needed, and no more objects could be held.
     too_many: u64,
 
     /// The device refused a chunk.
     refused: u64,
 
-    /// A block came back beside no run, beside one before it, behind it, and between two.
+    /// A block was returned next to no run, to one before it, to one after it, and between two.
     alone: u64,
     joined_before: u64,
     joined_behind: u64,
@@ -131,7 +131,7 @@ struct Tally {
     /// A return kept the last run's chunk, which was wholly free.
     kept: u64,
 
-    /// A chunk went with a return, and with a cleanup.
+    /// A chunk was released with a return, and with a cleanup.
     gone: u64,
     cleaned: u64,
 }
@@ -179,7 +179,7 @@ impl Tally {
         ]
     }
 
-    /// The drawn lists came to each case, as often as every fourth of them would have it once.
+    /// The drawn lists met each case, at least once for every fourth of them.
     fn has_all(&self, rt: &impl Abort) {
         for row in self.rows() {
             same_at(
@@ -193,7 +193,7 @@ impl Tally {
     }
 }
 
-/// What is held and live by plain lists, and what has to come of a call.
+/// What is held and live by plain lists, and what must come of a call.
 #[derive(Drop)]
 struct Lists {
     alloc: Global,
@@ -202,7 +202,7 @@ struct Lists {
     /// The held chunks, the oldest first.
     chunks: Vec<Range>,
 
-    /// The live blocks, in the order in which they came.
+    /// The live blocks, in the order in which they were granted.
     live: Vec<Range>,
 
     /// What is free, by chunk, then by start.
@@ -220,7 +220,7 @@ struct Lists {
     /// Which of these questions it refuses.
     refused: u64,
 
-    /// What the lists came to.
+    /// The cases that the lists met.
     tally: Tally,
 }
 
@@ -247,7 +247,7 @@ impl Lists {
         Ok(())
     }
 
-    /// What a request has to get, which is taken in.
+    /// What a request must get, which is taken in.
     fn take(
         &mut self,
         size: u64,
@@ -270,7 +270,7 @@ impl Lists {
         Ok(Ok(block))
     }
 
-    /// The tail of the last run that has room.
+    /// The tail of the last run with room.
     fn last_tail(&mut self, size: u64, align_mask: u64) -> Option<Range> {
         let mut last = None;
         let mut passed = false;
@@ -288,7 +288,7 @@ impl Lists {
         Some(tail)
     }
 
-    /// Counts the tail of a run, behind which there are others without room or not.
+    /// Counts the tail of a run, with or without other runs after it that lack room.
     fn count_tail(&mut self, run: Range, tail: Range, passed: bool) {
         if tail == run {
             count(&mut self.tally.whole);
@@ -300,8 +300,8 @@ impl Lists {
         }
     }
 
-    /// Begins a chunk, and finds its tail. It is refused where no more objects may be held, and then nothing is asked, or
-    /// by the device.
+    /// Begins a chunk, and finds its tail. Where no more objects may be held it is refused without a question, and
+    /// otherwise the device may refuse it.
     fn begin(
         &mut self,
         size: u64,
@@ -323,7 +323,7 @@ impl Lists {
         Ok(tail.ok_or(AllocationError::OutOfDeviceMemory))
     }
 
-    /// Adds a chunk of so many bytes. The one after it has twice as many, if so many may be.
+    /// Adds a chunk of this many bytes. The one after it has twice as many, up to the largest.
     fn add_chunk(&mut self, length: u64) -> Result<Range, AllocError> {
         count(&mut self.made);
         count(&mut self.tally.chunks);
@@ -340,7 +340,7 @@ impl Lists {
         Ok(chunk)
     }
 
-    /// Takes back the block at this place. Then each chunk goes that is wholly free, but not that of the last run.
+    /// Returns the block at this place. Then each wholly free chunk is released, except that of the last run.
     fn take_back(&mut self, rt: &impl Abort, at: usize) -> Result<(), AllocError> {
         holds(rt, at < self.live.len(), "no such block");
         let block = self.live.remove(at);
@@ -365,14 +365,14 @@ impl Lists {
         });
     }
 
-    /// Gives back each chunk that is wholly free.
+    /// Releases each wholly free chunk.
     fn clean(&mut self) -> Result<(), AllocError> {
         let gone = self.let_go(0)?;
         self.tally.cleaned = self.tally.cleaned.saturating_add(gone);
         Ok(())
     }
 
-    /// Lets each chunk go that is wholly free, but not the one of this number. It tells how many went.
+    /// Releases each wholly free chunk, except the one of this number. Returns how many were released.
     fn let_go(&mut self, kept: u64) -> Result<u64, AllocError> {
         let mut left = Vec::new(self.alloc);
         let mut gone = 0;
@@ -410,7 +410,7 @@ pub(super) fn sides_of(runs: &[Range], block: Range) -> (bool, bool) {
     (before, behind)
 }
 
-/// The size of a chunk for so many bytes: the next one's, doubled until it is enough, and cut at the largest.
+/// The size of a chunk for this many bytes: the next one's, doubled until it is enough, and cut at the largest.
 pub(super) fn chunk_size(next: u64, size: u64, largest: u64) -> u64 {
     let mut length = next;
     for _ in 0..63 {
@@ -432,7 +432,8 @@ pub(super) fn held_in(chunks: &[Range]) -> (usize, u128, u32) {
     (chunks.len(), bytes, remaining)
 }
 
-/// A drawn size: small ones most often, now and then that of a run, which may be taken whole then, or up to the largest.
+/// A drawn size: small ones most often, now and then that of a run, which may then be taken whole, or up to the
+/// largest.
 pub(super) fn drawn_size(runs: &[Range], chance: &mut Chance) -> u64
     ensures { 0 < result }
 {
@@ -484,7 +485,7 @@ impl Model for Hand {
 }
 
 impl Hand {
-    /// One that gave out nothing. It has room for as many blocks as a list has calls.
+    /// An allocator without blocks. It has room for as many blocks as a list has calls.
     fn new(alloc: Global, atom_mask: u64) -> Result<Hand, Fail> {
         let blocks = Vec::with_capacity(alloc, CALLS as usize)?;
         let chunks = if atom_mask == 0 {
@@ -507,7 +508,7 @@ impl Hand {
         same(rt, "a plan", &planned, &Ok(()));
     }
 
-    /// Takes a block and keeps it, and tells where it lies.
+    /// Allocates a block and keeps it, and returns where it lies.
     fn take(
         &mut self,
         rt: &impl Abort,
@@ -529,7 +530,7 @@ impl Hand {
         Ok(place)
     }
 
-    /// Gives back the block at this place of those that are kept, under this key if any.
+    /// Returns the block at this place of those that are kept, under this key if there is one.
     fn give_back(&mut self, rt: &impl Abort, at: usize, key: Option<usize>) {
         assert!(rt; at < self.blocks.len());
         let block = self.blocks.remove(at);
@@ -558,7 +559,7 @@ fn under(block: FreeListBlock<SimMemory>, key: Option<usize>) -> FreeListBlock<S
     FreeListBlock::new(memory, slot, key.unwrap_or(own))
 }
 
-/// Gives back a block under this key, if any.
+/// Returns a block under this key, if there is one.
 fn give_back_under(chunks: &mut Chunks, block: FreeListBlock<SimMemory>, key: Option<usize>)
     requires live { IsLiveSlot (chunks.old).space block }
     ensures removed { Removes chunks.old block chunks.new }
@@ -566,7 +567,7 @@ fn give_back_under(chunks: &mut Chunks, block: FreeListBlock<SimMemory>, key: Op
     chunks.give_back(under(block, key));
 }
 
-/// Takes a block of drawn size and alignment, and compares where it lies or why it is refused.
+/// Allocates a block of drawn size and alignment, and compares where it lies or why it is refused.
 fn take(
     rt: &impl Abort,
     hand: &mut Hand,
@@ -587,17 +588,17 @@ fn take(
     Ok(())
 }
 
-/// Under which keys blocks are given back.
+/// Under which keys blocks are returned.
 #[derive(Clone, Copy, PartialEq, Eq)]
 enum Keys {
     /// Their own.
     Own,
 
-    /// One that is drawn: its own, that of another block, or one that is none.
+    /// A drawn key: the block's own, that of another block, or an invalid one.
     Drawn,
 }
 
-/// A key, or none for the block's own.
+/// A key, or `None` for the block's own.
 fn draw_key(hand: &Hand, chance: &mut Chance, keys: Keys) -> Option<usize> {
     if keys == Keys::Own {
         return None;
@@ -628,7 +629,7 @@ fn give_back(
     lists.take_back(rt, at)
 }
 
-/// Gives back each chunk that is wholly free.
+/// Releases each wholly free chunk.
 fn clean(hand: &mut Hand, lists: &mut Lists) -> Result<(), AllocError> {
     hand.chunks.clean();
     lists.clean()
@@ -641,7 +642,7 @@ fn compare(rt: &impl Abort, hand: &Hand, lists: &Lists) {
     hand.chunks.compare_ranges(rt, lists.runs.as_slice());
 }
 
-/// Makes a drawn call: more than half of them take a block, and few clean up.
+/// Makes a drawn call: more than half of them allocate a block, and few clean up.
 fn call(
     rt: &impl Abort,
     hand: &mut Hand,
@@ -678,7 +679,7 @@ fn run(
     Ok(())
 }
 
-/// Draws a list, makes its calls, and ends the allocator. It tells what the lists came to.
+/// Draws a list, makes its calls, and ends the allocator. Returns which cases the lists met.
 fn try_list(
     rt: &impl Abort,
     alloc: Global,
@@ -710,16 +711,16 @@ fn try_lists(rt: &impl Abort, alloc: Global, seed: u64, keys: Keys) -> Result<()
     Ok(())
 }
 
-/// Whatever is taken and returned, each block is the tail of the last free run that has room, or of a new chunk where
-/// none has, and a wholly free chunk goes, but not that of the last run before a cleanup. If not, blocks would share
-/// bytes, bytes would be lost, or a device would be asked for chunks that nobody needs.
+/// Whatever is allocated and returned, each block is the tail of the last free run with room, or of a new chunk where
+/// none has room. A wholly free chunk is released, except that of the last run before a cleanup. If not, blocks would
+/// share bytes, bytes would be lost, or a device would be asked for chunks that nobody needs.
 #[test]
 fn drawn_calls_leave_what_live_blocks_say(rt: HostRuntime) -> Result<(), Fail> {
     try_lists(&rt, rt.alloc(), 11, Keys::Own)
 }
 
-/// A block comes back whatever key it has: its own, that of another block, or none that there is. If not, a list would
-/// take back another block in its place.
+/// A block is returned whatever key it has: its own, that of another block, or an invalid one. If not, a list would
+/// free another block in its place.
 #[test]
 fn a_block_comes_back_under_any_key(rt: HostRuntime) -> Result<(), Fail> {
     try_lists(&rt, rt.alloc(), 12, Keys::Drawn)

@@ -1,4 +1,4 @@
-//! The simulated device by itself: what it answers in turn, and what it counts and tells.
+//! The simulated device by itself: what it answers in turn, and what it counts and reports.
 
 ghost use Rattle.std.specs.Prelude.{◌≡◌, ◌<◌, length, IsTrue};
 ghost use Rattle.gpu_alloc_types.specs.Flags.{has_bit, host_visible, property_bits};
@@ -23,7 +23,7 @@ pub(super) type Plan = (Question, u64, Cause);
 /// A plan for no question that is asked here.
 pub(super) const NONE: Plan = (Question::Map, 0, Host);
 
-/// A device with one memory type, which the host sees, and an atom of 1 byte. Contracts see nothing else of it.
+/// A device with one host-visible memory type and an atom of 1 byte. Contracts see nothing else of it.
 #[derive(Drop)]
 pub(super) struct Device {
     pub(super) sim: Sim,
@@ -43,7 +43,7 @@ impl Model for Device {
 }
 
 impl Device {
-    /// One that refuses that question. Its memory is coherent or not.
+    /// A device that refuses that question. Its memory is coherent or not.
     pub(super) fn new(
         rt: &impl Abort,
         alloc: Global,
@@ -85,7 +85,7 @@ impl Device {
         same(rt, "a plan", &planned, &Ok(()));
     }
 
-    /// Takes one step, and compares what comes of it. The number tells which one it is.
+    /// Takes one step, and compares what comes of it. The number says which one it is.
     fn take_step(&mut self, rt: &impl Abort, at: usize, step: Step) {
         match step {
             Step::Keep(size, answer, objects) => {
@@ -130,7 +130,7 @@ impl Device {
         }
     }
 
-    /// The name of an object that is given back.
+    /// The name of an object that is released.
     fn ask_and_return(&mut self, rt: &impl Abort, size: u64) -> Result<u64, OutOfMemory> {
         holds(rt, size > 0, "an object of no bytes");
         let flags = AllocationFlags::from_bits_retain(0);
@@ -139,7 +139,7 @@ impl Device {
         Ok(memory.object())
     }
 
-    /// The name of an object that is kept, by another handle once the first is gone.
+    /// The name of an object that is kept, by another handle once the first is dropped.
     fn ask_and_duplicate(&mut self, rt: &impl Abort, size: u64) -> Option<u64> {
         holds(rt, size > 0, "an object of no bytes");
         let flags = AllocationFlags::from_bits_retain(0);
@@ -187,25 +187,26 @@ fn ask<A: Allocator + Copy>(sim: &mut Sim<A>, size: u64) -> Result<u64, OutOfMem
     }
 }
 
-/// What a device is asked, and what it answers or tells.
+/// What a device is asked, and what it answers or reports.
 #[derive(Clone, Copy)]
 enum Step {
-    /// It is asked for an object of so many bytes, which is kept, and answers its name. It holds so many objects then.
+    /// It is asked for an object of this many bytes, which is kept, and answers its name. Then it holds this many
+    /// objects.
     Keep(u64, Result<u64, OutOfMemory>, usize),
 
-    /// The same of an object that is given back at once.
+    /// The same of an object that is released at once.
     Return(u64, Result<u64, OutOfMemory>, usize),
 
-    /// Another handle of a new object has this name, once the first handle is gone.
+    /// Another handle of a new object has this name, once the first handle is dropped.
     Duplicate(u64, u64),
 
     /// It is asked to map the whole of a new object. Where it refuses, it grants a second question.
     Map(u64, Result<(), DeviceMapError>),
 
-    /// It was asked so often to allocate and to map.
+    /// How often it was asked to allocate and to map.
     Asked(u64, u64),
 
-    /// That was the latest question to allocate: for so many bytes of that memory type, without flags.
+    /// That was the latest question to allocate: for this many bytes of that memory type, without flags.
     Latest(Option<(u64, u32)>),
 }
 
@@ -344,7 +345,7 @@ impl<A: Allocator + Copy> OneType<A> {
         })
     }
 
-    /// The answer to a question for an object of so many bytes, and how many objects are held then.
+    /// The answer to a question for an object of this many bytes, and how many objects are held then.
     fn ask(&mut self, rt: &impl Abort, size: u64) -> (Result<u64, OutOfMemory>, usize) {
         holds(rt, size > 0, "an object of no bytes");
         let given = ask(&mut self.sim, size);
@@ -359,7 +360,7 @@ impl<A: Allocator + Copy> OneType<A> {
     }
 }
 
-/// A handle of the second object of a device, which is gone.
+/// A handle of the second object of a device, which is dropped.
 fn handle_of_second<A: Allocator + Copy>(
     rt: &impl Abort,
     heap: A,
@@ -371,7 +372,7 @@ fn handle_of_second<A: Allocator + Copy>(
     Ok(handle)
 }
 
-/// Duplicates a handle until its memory is spent. How many there are then.
+/// Duplicates a handle until memory runs out. Returns how many there are then.
 fn count_duplicates(
     alloc: Global,
     memory: &SimMemory<HostMemory<'_>>,
@@ -386,7 +387,7 @@ fn count_duplicates(
     Ok(None)
 }
 
-/// Each duplicate takes 8 bytes, which are refused where they are not left.
+/// Each duplicate takes 8 bytes, and is refused where they are not left.
 #[test]
 fn a_duplicate_is_refused_with_its_memory(rt: HostRuntime) -> Result<(), Fail> {
     let scarce = ScarceMemory::new(rt.alloc())?;
@@ -409,7 +410,7 @@ fn a_duplicate_is_refused_with_its_memory(rt: HostRuntime) -> Result<(), Fail> {
     Ok(())
 }
 
-/// Compares the largest object in memory that the host does not see, and that no command writes to it.
+/// Compares the largest object in memory that is not host-visible, and that no command writes to it.
 fn compare_largest(rt: &impl Abort, alloc: Global, bits: u8) -> Result<(), AllocError> {
     let mut device = OneType::new(alloc, bits)?;
     let (answer, _) = device.ask(rt, 1 << 63);
@@ -437,8 +438,8 @@ fn a_device_local_object_may_be_of_2_to_the_63_bytes(rt: HostRuntime) -> Result<
     Ok(())
 }
 
-/// Objects of these sizes where few bytes are left, the answers, and how many are held then: of 3,000 bytes there is
-/// room for the host's list alone.
+/// Objects of these sizes where few bytes are left, the answers, and how many are held then: for 3,000 bytes there is
+/// room only for the host's list.
 const FEW: [(u64, Result<u64, OutOfMemory>, usize); 3] = [
     (3000, Err(OutOfMemory::OutOfHostMemory), 0),
     (1 << 63, Err(OutOfMemory::OutOfHostMemory), 0),

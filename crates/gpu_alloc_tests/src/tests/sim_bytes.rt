@@ -126,7 +126,7 @@ impl Mapped {
         }])
     }
 
-    /// Flushes two bytes of it in one question, and then none. The latter leaves the latest range as it was.
+    /// Flushes two bytes of it in one question, and then none. The latter keeps the latest range.
     fn flush_two_and_none(&mut self, rt: &impl Abort) {
         let told = self.flush_two();
         same(rt, "the latest ranges", &told, &[Some((1, 2, 1)); 2]);
@@ -180,31 +180,31 @@ enum Act {
     /// The host writes bytes there.
     Put(u64, [u8; 2]),
 
-    /// A command of the device writes bytes there, where that is answered by `true`.
+    /// A command of the device writes bytes there, if the answer is `true`.
     Write(u64, [u8; 2], bool),
 
-    /// So many bytes are flushed there.
+    /// This many bytes are flushed there.
     Flush(u64, u64, Result<(), OutOfMemory>),
 
-    /// A byte at 5 and one at 2 are flushed by one question, of which the latter is told, and then none.
+    /// A byte at 5 and one at 2 are flushed by one question, of which the latter is reported, and then none.
     FlushTwo,
 
-    /// So many bytes are invalidated there.
+    /// This many bytes are invalidated there.
     Invalidate(u64, u64, Result<(), OutOfMemory>),
 
-    /// The mapping is ended, and begun anew.
+    /// The object is unmapped, and mapped again.
     Remap,
 
     /// The host sees these bytes.
     See([u8; 8]),
 
-    /// It was asked so often to flush and to invalidate, and that was the latest range.
+    /// How often it was asked to flush and to invalidate, and the latest range.
     Told(u64, u64, (u64, u64, u64)),
 }
 
 const REFUSED: Result<(), OutOfMemory> = Err(OutOfMemory::OutOfHostMemory);
 
-/// All that the device has comes to the host.
+/// All that the device has is copied to the host.
 const ALL: Act = Invalidate(0, 8, Ok(()));
 
 /// Does all that in turn with a fresh object, coherent or not, of a device that refuses no question.
@@ -231,7 +231,7 @@ fn act_in_turn(
     Ok(())
 }
 
-/// What the host sees of new bytes that are coherent, and of such that are not.
+/// What the host sees of new coherent bytes, and of new bytes that are not coherent.
 const NEW: [(bool, [Act; 3]); 2] = [
     (true, [See([0; 8]), Invalidate(3, 5, Ok(())), See([0; 8])]),
     (

@@ -1,4 +1,4 @@
-//! Values under keys that are given once: that each call does its work with ample memory, and that places are used again.
+//! Values under keys that are given once: each call succeeds with ample memory, and places are used again.
 
 use super::same::{same, same_at};
 use gpu_slots::SlotMap;
@@ -6,13 +6,13 @@ use std::alloc::AllocError;
 use std::process::Abort;
 use std::test::Fail;
 
-/// What is done with a map of numbers, and what has to come of it.
+/// What is done with a map of numbers, and what must come of it.
 #[derive(Clone, Copy)]
 enum Step {
     /// A value is put in, and that is its key.
     Put(u32, u64),
 
-    /// What is under a key is taken out.
+    /// The value under a key is removed.
     Take(u64, Option<u32>),
 
     /// The value under a key, if there is one, becomes this.
@@ -21,7 +21,7 @@ enum Step {
     /// That is under a key.
     Get(u64, Option<u32>),
 
-    /// There are so many values.
+    /// How many values there are.
     Len(usize),
 }
 
@@ -34,7 +34,7 @@ const AGAIN: u64 = 2 << 32;
 /// That of the second place in its first generation.
 const SECOND: u64 = (1 << 32) + 1;
 
-/// What is done in turn, after which there is the value 10 alone.
+/// What is done in turn, after which only the value 10 is there.
 const STEPS: [Step; 13] = [
     Step::Put(7, FIRST),
     Step::Take(FIRST, Some(7)),
@@ -51,20 +51,20 @@ const STEPS: [Step; 13] = [
     Step::Take(SECOND, Some(9)),
 ];
 
-/// Puts a value in. The answer is its key.
+/// Puts a value in, and returns its key.
 fn put(slots: &mut SlotMap<u32>, value: u32) -> Result<u64, AllocError> {
     slots.reserve()?;
     Ok(slots.insert_reserved(value))
 }
 
-/// Has the value under a key be this, if there is one.
+/// Sets the value under a key, if there is one.
 fn set(slots: &mut SlotMap<u32>, key: u64, value: u32) {
     if let Some(place) = slots.get_mut(key) {
         *place = value;
     }
 }
 
-/// Takes one step, and compares what comes of it. The number tells which one it is.
+/// Takes one step, and compares what comes of it. The number says which one it is.
 fn take_step(rt: &impl Abort, slots: &mut SlotMap<u32>, at: usize, step: Step) {
     match step {
         Step::Put(value, key) => same_at(rt, "the key at step", &at, &put(slots, value), &Ok(key)),
@@ -80,15 +80,15 @@ fn take_step(rt: &impl Abort, slots: &mut SlotMap<u32>, at: usize, step: Step) {
     }
 }
 
-/// Ends a map in which there is this value alone.
+/// Ends a map that has only this value.
 fn end(rt: &impl Abort, slots: SlotMap<u32>, value: u32) {
     let mut values = slots.into_values();
     same(rt, "the only value", &values.next(), &Some(value));
     same(rt, "a value after the only one", &values.next(), &None);
 }
 
-/// A key that was removed finds nothing for ever after, though its place is used again. If not, a caller that holds an
-/// old key would be given another's value.
+/// A key that was removed finds nothing for ever after, though its place is used again. If not, a caller with an old
+/// key would get another's value.
 #[test]
 fn a_place_is_used_again_under_another_key(rt: HostRuntime) -> Result<(), Fail> {
     let mut slots = SlotMap::new(rt.alloc());

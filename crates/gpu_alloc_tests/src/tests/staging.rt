@@ -1,4 +1,4 @@
-//! A staging pool over a device whose memory has to be flushed, of which it refuses one.
+//! A staging pool over a device whose memory must be flushed, and which refuses one flush.
 
 use super::offers::{again, offer};
 use super::same::{holds, same};
@@ -10,7 +10,7 @@ use std::test::Fail;
 
 type Pool = StagingPool<SimMemory, Sim>;
 
-/// The host sees it, and what it writes has to be flushed.
+/// It is host-visible, and the host's writes must be flushed.
 const VISIBLE: MemoryType = MemoryType {
     heap: 0,
     props: MemoryPropertyFlags::HOST_VISIBLE,

@@ -13,22 +13,22 @@ fn memory_type(props: u8) -> MemoryType {
     }
 }
 
-/// A type that is DEVICE_LOCAL, one that is HOST_VISIBLE and HOST_COHERENT, and one that is HOST_CACHED besides.
+/// A type that is DEVICE_LOCAL, one that is HOST_VISIBLE and HOST_COHERENT, and one that is also HOST_CACHED.
 fn three_types() -> [MemoryType; 3]
     ensures { length result ≡ 3 }
 {
     [memory_type(1), memory_type(6), memory_type(14)]
 }
 
-/// Eight types as a graphics card of its own offers them: of none, DEVICE_LOCAL, one that is LAZILY_ALLOCATED, one that
-/// is PROTECTED, the two that the host sees, one that both see, and DEVICE_LOCAL again.
+/// Eight types as a discrete graphics card offers them: one without properties, DEVICE_LOCAL, one that is
+/// LAZILY_ALLOCATED, one that is PROTECTED, the two that are host-visible, one that is both, and DEVICE_LOCAL again.
 fn card() -> [MemoryType; 8]
     ensures { length result ≡ 8 }
 {
     [0, 1, 17, 33, 6, 14, 7, 1].map(memory_type)
 }
 
-/// Eight types that the host sees, five of them non-coherent, with two pairs that are alike.
+/// Eight host-visible types, five of them non-coherent, with two pairs that are alike.
 fn shared_memory() -> [MemoryType; 8]
     ensures { length result ≡ 8 }
 {

@@ -12,7 +12,7 @@ use gpu_alloc_types::{MemoryPropertyFlags, MemoryType, UsageFlags};
 /// More than any key of a type.
 const KEYS: u8 = 16;
 
-/// Memory types of one usage, by index, the best first, at most 32; and the mask that has exactly their bits.
+/// The memory types of one usage, by index, the best first, at most 32; and the mask with exactly their bits.
 #[derive(Clone, Copy)]
 pub(crate) struct MemoryForOneUsage {
     types: [u32; 32],
@@ -33,7 +33,7 @@ impl MemoryForOneUsage {
         &self.types[..self.count]
     }
 
-    /// The mask that has exactly the bits of the types.
+    /// The mask with exactly the bits of the types.
     #[inline(always)]
     pub(crate) fn mask(&self) -> u32
         ensures { IsMaskOf result (ranked_types self.now) }
@@ -78,7 +78,7 @@ impl MemoryForOneUsage {
         }
     }
 
-    /// Adds a type behind the others, where it is wanted.
+    /// Appends a type if `wanted`.
     fn add_where(&mut self, wanted: bool, index: u32)
         requires room { wanted ≡ true → length (ranked_types self.old) < 32 }
         requires bit { index < 32 }
@@ -108,7 +108,7 @@ fn is_compatible(usage: UsageFlags, props: MemoryPropertyFlags) -> bool
     !props.intersects(unused) && (!is_by_host(usage) || visible)
 }
 
-/// How far memory with these properties is from what a usage wants, from 0 to 15.
+/// How far memory with these properties is from the usage's preferences, from 0 to 15.
 fn distance(usage: UsageFlags, props: MemoryPropertyFlags) -> u8
     ensures { result ≡ key (usage_bits usage) (property_bits props) }
 {
@@ -124,7 +124,7 @@ fn distance(usage: UsageFlags, props: MemoryPropertyFlags) -> u8
         + cost(1, coherent, carries)
 }
 
-/// `worth` where the two differ, else 0.
+/// `worth` where the two differ, and 0 otherwise.
 fn cost(worth: u8, has: bool, wants: bool) -> u8
     ensures { result ≡ where_differ worth has wants }
 {
@@ -138,7 +138,7 @@ fn is_by_host(usage: UsageFlags) -> bool
     usage.intersects(UsageFlags::HOST_ACCESS | UsageFlags::DOWNLOAD | UsageFlags::UPLOAD)
 }
 
-/// Whether the device's own memory is wanted.
+/// Whether the usage prefers the device's own memory.
 fn is_fast(usage: UsageFlags) -> bool
     ensures { result ≡ is_fast (usage_bits usage) }
 {

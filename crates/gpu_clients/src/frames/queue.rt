@@ -18,7 +18,7 @@ use std::alloc::{Allocator, Global};
 use std::collections::VecDeque;
 use std::marker::Model;
 
-/// Blocks in hand with their allocator and its device, the oldest first: no other block is live.
+/// Blocks in hand with their allocator and its device, the oldest first. No other block is live.
 pub(super) struct Queue<M: MemoryObject, D: ObjectDevice<M>, A: Allocator + Copy = Global> {
     allocator: GpuAllocator<M, A>,
     device: D,
@@ -48,7 +48,8 @@ impl<M: MemoryObject, D: ObjectDevice<M>, A: Allocator + Copy> Model for Queue<M
 }
 
 impl<M: MemoryObject, D: ObjectDevice<M>, A: Allocator + Copy> Queue<M, D, A> {
-    /// No block, over a device with these properties, which want of host memory gives back.
+    /// A queue without blocks, over a device with these properties. Where host memory is missing, the device comes
+    /// back.
     pub(super) fn new(
         alloc: A,
         config: Config,
@@ -82,7 +83,7 @@ impl<M: MemoryObject, D: ObjectDevice<M>, A: Allocator + Copy> Queue<M, D, A> {
         self.blocks.len()
     }
 
-    /// The block of a place.
+    /// The block at a place.
     pub(super) fn block(&self, place: usize) -> Option<&MemoryBlock<M>>
         ensures { option_copied result ≡ slice_get self.now.blocks place }
     {
@@ -93,7 +94,7 @@ impl<M: MemoryObject, D: ObjectDevice<M>, A: Allocator + Copy> Queue<M, D, A> {
         }
     }
 
-    /// Nothing is done: its contract tells what is so of blocks in hand, and that nothing leaves all as it was.
+    /// A lemma about blocks in hand: does nothing at run time. It also says that doing nothing leaves all unchanged.
     pub(super) fn keeps_blocks(&self)
         ensures owned { AreOwned self.now.allocator self.now.blocks }
         ensures ready { AreReady (D.properties self.now.device) (D.objects self.now.device) self.now.blocks }
@@ -104,7 +105,7 @@ impl<M: MemoryObject, D: ObjectDevice<M>, A: Allocator + Copy> Queue<M, D, A> {
         let _ = &self.device;
     }
 
-    /// Takes a last block as the request asks.
+    /// Allocates a block for the request, as the last one.
     #[tactic(auto, using(gpu_alloc_block::proofs::Lists::leaves_owned))]
     fn take(&mut self, request: Request) -> Result<(), AllocationError>
         requires askable { IsAskable (self.old.allocator.properties).buffer_device_address request }
@@ -126,7 +127,7 @@ impl<M: MemoryObject, D: ObjectDevice<M>, A: Allocator + Copy> Queue<M, D, A> {
         }
     }
 
-    /// Takes a block for each request, in their order, or none.
+    /// Allocates a block for each request, in their order, or none.
     #[tactic(auto, using(gpu_alloc::proofs::Served::serves_none))]
     pub(super) fn take_all(&mut self, requests: &[Request]) -> Result<(), AllocationError>
         requires askable { All (IsAskable (self.old.allocator.properties).buffer_device_address) requests.now }
@@ -146,7 +147,7 @@ impl<M: MemoryObject, D: ObjectDevice<M>, A: Allocator + Copy> Queue<M, D, A> {
         Ok(())
     }
 
-    /// Gives the last blocks back, but for the first so many.
+    /// Keeps the first `count` blocks and returns the rest.
     fn give_back_after(&mut self, count: usize)
         ensures blocks { self.new.blocks ≡ take count self.old.blocks }
         ensures leaves { Leaves D.objects self.old self.new self.new.blocks }
@@ -157,7 +158,7 @@ impl<M: MemoryObject, D: ObjectDevice<M>, A: Allocator + Copy> Queue<M, D, A> {
         }
     }
 
-    /// Gives the last block back.
+    /// Returns the last block.
     #[tactic(auto, using(gpu_alloc_block::proofs::Lists::last_owned))]
     fn give_back_last(&mut self)
         requires { 0 < length self.old.blocks }
@@ -173,7 +174,7 @@ impl<M: MemoryObject, D: ObjectDevice<M>, A: Allocator + Copy> Queue<M, D, A> {
         }
     }
 
-    /// Gives the first so many blocks back.
+    /// Returns the first `count` blocks.
     pub(super) fn give_back_first(&mut self, count: usize)
         ensures blocks { self.new.blocks ≡ drop count self.old.blocks }
         ensures leaves { Leaves D.objects self.old self.new self.new.blocks }
@@ -184,7 +185,7 @@ impl<M: MemoryObject, D: ObjectDevice<M>, A: Allocator + Copy> Queue<M, D, A> {
         }
     }
 
-    /// Gives the first block back, if there is one.
+    /// Returns the first block, if there is one.
     fn give_back_one(&mut self)
         ensures blocks { self.new.blocks ≡ drop 1 self.old.blocks }
         ensures leaves { Leaves D.objects self.old self.new self.new.blocks }
@@ -198,7 +199,7 @@ impl<M: MemoryObject, D: ObjectDevice<M>, A: Allocator + Copy> Queue<M, D, A> {
         }
     }
 
-    /// Gives every block back, and then the device.
+    /// Returns every block, and then the device.
     pub(super) fn end(mut self) -> D
         ensures { (name : ℕ) → D.objects result name ≡ beside D.objects self name }
     {

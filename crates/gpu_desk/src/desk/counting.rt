@@ -1,4 +1,4 @@
-//! Calls that tell and set counts.
+//! Calls that read and set counts.
 
 ghost use Rattle.std.specs.Prelude.{◌≡◌, ◌⊎◌, ◌↔◌, ◌<◌, ◌≤◌, ◌+◌, ◌^◌, ◌++◌, ◌∷◌, [], None, length, IfOk, IfErr, IfSome, IsTrue, false, OnOk, OnErr, OnSome};
 ghost use Rattle.gpu_alloc_types.specs.Flags.{usage_bits};
@@ -13,8 +13,8 @@ use super::Desk;
 use crate::{Counts, Denial, Fault, FreeRange, HeapCounts, UsageFlags};
 
 impl Desk {
-    /// Reads the name of an object that was given back, the latest of those that were not read, or answers `None` where
-    /// each was. The object is the caller's to free. Nothing else changes.
+    /// Reads the name of a released object, the latest of those that were not read, or returns `None` where all were.
+    /// The object is the caller's to free. Nothing else changes.
     ///
     /// A name is read once: it never waits again, and no later object has it.
     pub fn next_gone(&mut self) -> Option<u64>
@@ -28,7 +28,7 @@ impl Desk {
         name
     }
 
-    /// How much there is.
+    /// How many blocks, unread names and objects there are.
     pub fn counts(&self) -> Counts
         ensures { CountsOf self.now result }
     {
@@ -55,8 +55,9 @@ impl Desk {
         })
     }
 
-    /// From now on no more is asked of a heap than is left of this limit, in bytes, as `GpuAllocator::set_heap_limit`
-    /// has it. A limit at or over the heap's size is none. Nothing that is held goes, and nothing else changes.
+    /// Sets a heap's limit, in bytes: from now on no more is asked of it than the limit leaves, as
+    /// `GpuAllocator::set_heap_limit` says. A value at or above the heap's size removes the limit. Nothing that is held
+    /// is released, and nothing else changes.
     ///
     /// `None` exactly where there is no such heap. Nothing has changed then.
     pub fn set_heap_limit(&mut self, heap: u32, limit: u64) -> Option<()>
@@ -73,11 +74,11 @@ impl Desk {
     }
 
     /// The indices of the memory types that would serve a usage, of those whose bit is set in `memory_types` (bit 0 for
-    /// the type with index 0), the best first: those that [`alloc`](Desk::alloc) tries for such a request, in its order.
-    /// There may be none. They are for objects that the caller makes itself.
+    /// the type with index 0), the best first. They are those that [`alloc`](Desk::alloc) tries for such a request, in
+    /// its order. The list may be empty. It is for objects that the caller makes itself.
     ///
-    /// Takes memory for them. Denied are the usage `DEVICE_ADDRESS` without the device's feature, by
-    /// `Fault::NoDeviceAddress`, and want of memory, by `Fault::NoMemory`; nothing else is.
+    /// It takes memory for them. It denies the usage `DEVICE_ADDRESS` without the device's feature, with
+    /// `Fault::NoDeviceAddress`, and want of memory, with `Fault::NoMemory`; nothing else.
     pub fn candidates(&self, usage: UsageFlags, memory_types: u32) -> Result<Vec<u32>, Denial>
         ensures told { IfOk result (λ types. types.items ≡ candidates ((self.now.allocator).properties).memory_types
             (usage_bits usage) memory_types) }
@@ -97,10 +98,10 @@ impl Desk {
         }
     }
 
-    /// From now on this many objects may be held beside those that are.
+    /// Sets how many more objects may be held, on top of those that are.
     ///
-    /// Denied is a number that together with the held objects is not below 2^32, by `Fault::TooManyRemaining`. Nothing
-    /// has changed then.
+    /// It denies a number that together with the held objects is not below 2^32, with `Fault::TooManyRemaining`.
+    /// Nothing has changed then.
     pub fn set_remaining(&mut self, remaining: u32) -> Result<(), Denial>
         ensures set { OnOk result (self.new ≡ record self.old { allocator = record (self.old.allocator) { remaining = remaining } }) }
         ensures denied { IfErr result (λ e. (e ≡ Denial.Fault Fault.TooManyRemaining)
@@ -115,10 +116,10 @@ impl Desk {
         Ok(())
     }
 
-    /// The free ranges of a memory type's shared objects, in the order of their objects and offsets.
+    /// The free ranges of a memory type's shared objects, sorted by object and offset.
     ///
-    /// Takes memory for them. Denied are each memory type that is not there, by `Fault::BadType`, and want of memory, by
-    /// `Fault::NoMemory`; nothing else is.
+    /// It takes memory for them. It denies a memory type that does not exist, with `Fault::BadType`, and want of
+    /// memory, with `Fault::NoMemory`; nothing else.
     pub fn free_ranges(&self, memory_type: u32) -> Result<Vec<FreeRange>, Denial>
         ensures told { IfOk result (λ ranges. IsEachFreeRange self.now.allocator memory_type ranges.items) }
         ensures denied { IfErr result (λ e. (e ≡ Denial.Fault Fault.BadType)

@@ -1,4 +1,4 @@
-//! Calls that grant blocks and take them back.
+//! Calls that grant and free blocks.
 
 ghost use Rattle.std.specs.Prelude.{◌≡◌, ◌<◌, ◌↔◌, ℕ, Bool, true, List, length, Some, Err, IfOk, IfErr, IfSome, IsSome, IsTrue, OnOk, OnErr, vec_len, vec_capacity};
 ghost use Rattle.std.specs.FinMap as map;
@@ -26,7 +26,7 @@ use gpu_answers::{Answer, Answered, AnsweredDevice, ObjectName, Question};
 use gpu_session::{import_fault, request_fault};
 use std::alloc::AllocError;
 
-/// Whether a request goes by whole pages: for an optimal resource, where a page is of more than a byte.
+/// Whether a request goes by whole pages: it is for an optimal resource, and a page has more than one byte.
 #[inline(always)]
 pub(super) fn goes_by_pages(wish: Wish, granularity: u64) -> bool
     ensures { result ≡ goes_by_pages granularity wish }
@@ -34,7 +34,7 @@ pub(super) fn goes_by_pages(wish: Wish, granularity: u64) -> bool
     wish.optimal && granularity != 1
 }
 
-/// Allocates a block, with a hint that it wants an object of its own or none, and by whole pages where it has to.
+/// Allocates a block, perhaps with a hint that it wants an object of its own, and by whole pages where it must.
 fn allocate(
     allocator: &mut GpuAllocator<ObjectName>,
     device: &mut AnsweredDevice,
@@ -73,7 +73,7 @@ fn allocate(
     }
 }
 
-/// Whether the question that is open in the run of a request, if one is, is for an object of the block's own.
+/// Whether the question that is open in a request's run, if there is one, is for an object of the block's own.
 fn asks_own(
     allocator: &GpuAllocator<ObjectName>,
     request: Request,
@@ -98,7 +98,7 @@ fn asks_own(
     }
 }
 
-/// Tells of a block, and of what is kept with it.
+/// A block as a grant, with its tag.
 pub(super) fn grant_of(block: &MemoryBlock<ObjectName>, key: u64, fresh: bool, tag: Tag) -> Grant
     ensures key { result.key ≡ key }
     ensures tells { Tells block.now result }
@@ -129,7 +129,7 @@ pub(super) fn make_room(blocks: &mut Blocks, tags: &mut Vec<Tag>) -> Result<(), 
     tags.reserve(1)
 }
 
-/// Keeps a block under a new key with a tag, and tells of it. There has to be room for both.
+/// Keeps a block under a new key with a tag, and returns it as a grant. There must be room for both.
 pub(super) fn keep(
     blocks: &mut Blocks,
     tags: &mut Vec<Tag>,
@@ -163,22 +163,29 @@ pub(super) fn keep(
 
 impl Desk {
     /// Allocates a block as `GpuAllocator::alloc` does, or with a hint as `alloc_with_dedicated`, in a run with these
-    /// answers. The wish's value stands with the block, with the size that was asked for and whether it is for an optimal
+    /// answers. The wish's value is kept with the block, with the requested size and whether it is for an optimal
     /// resource.
     ///
-    /// The grant tells where the block lies, what stands with it, and whether its object is new: the one that was made last outside. Any other
-    /// object that was made for the request outside is its caller's to free, and so is each where the call is denied.
+    /// The grant says where the block lies, what is kept with it, and whether its object is new: the one that the
+    /// caller's device made last. Any other object that was made for the request is the caller's to free. So is each of
+    /// them where the call is denied.
     ///
-    /// Denied are: a request that is not askable, by the fault that it misses first; `Fault::NoMemory` for want of
-    /// memory for the key or the answers; `Open`, with the question that has no answer; `Strayed`; and `Refused`, as
-    /// the allocator refuses. Nothing has changed then.
+    /// It denies:
     ///
-    /// A request for an optimal resource goes by pages of the desk's granularity (`GpuAllocator::alloc_optimal`), so that
-    /// none of its bytes that were asked for is in a page with a byte of a linear block. With a granularity of 1 it is
-    /// served as any other.
+    /// - a request that is not askable, with its first fault
+    /// - `Fault::NoMemory` for want of memory for the key or the answers
+    /// - `Open`, with the question that has no answer
+    /// - `Strayed`
+    /// - `Refused`, with the allocator's error.
     ///
-    /// A question is open after at most 63 answers: each of at most 32 candidates has at most two, for an object and for
-    /// its mapping.
+    /// Nothing has changed then.
+    ///
+    /// A request for an optimal resource goes by pages of the desk's granularity (`GpuAllocator::alloc_optimal`). So
+    /// none of its requested bytes shares a page with a byte of a linear block. With a granularity of 1 it is served as
+    /// any other.
+    ///
+    /// At most 64 questions are asked: two for each of at most 32 candidates, for an object and for its mapping. So
+    /// none is open after 64 answers.
     #[tactic(auto, unfolding(crate::specs::Calls::AllocationDenied))]
     pub fn alloc(
         &mut self,
@@ -232,13 +239,13 @@ impl Desk {
         }
     }
 
-    /// Takes a range of an object of the caller's as a block, as `GpuAllocator::import_memory` does. The object is not
-    /// mapped, and has `object_size` bytes of the memory type. It is held from then on under the name that the grant
-    /// tells, and goes with its block. The caller's value is 0, the bytes that were asked for are the size, and the block
-    /// counts as a linear one, though it has its object alone.
+    /// Imports a range of the caller's own object as a block, as `GpuAllocator::import_memory` does. The object is not
+    /// mapped, and has `object_size` bytes of the memory type. It is held from then on under the name in the grant, and
+    /// is released with its block. The caller's value is 0, the requested size is the size, and the block counts as
+    /// linear, though it has its object alone.
     ///
-    /// Denied are: an import that misses a condition, by the first that it misses, and `Fault::NoMemory` for want of
-    /// memory. Nothing has changed then, and the object stays the caller's.
+    /// It denies an import that misses a condition, with its first fault, and `Fault::NoMemory` for want of memory.
+    /// Nothing has changed then, and the object stays the caller's.
     pub fn import(
         &mut self,
         memory_type: u32,
@@ -265,7 +272,7 @@ impl Desk {
         if make_room(&mut self.blocks, &mut self.tags).is_err() {
             return Err(Denial::Fault(Fault::NoMemory));
         }
-        // The device is told that its object was made: the caller has done so.
+        // The device takes this as its own answer: the caller has made the object.
         let flags = self.offer.flags();
         let question = Question::Allocate {
             size: object_size,
@@ -304,10 +311,10 @@ impl Desk {
         }
     }
 
-    /// Takes a block back, mapped or not, as `GpuAllocator::dealloc` does. The names of the objects that go with it are
-    /// read by [`next_gone`](Desk::next_gone). The key is refused for ever after. It takes no memory.
+    /// Frees a block, mapped or not, as `GpuAllocator::dealloc` does. The names of the objects that are released with
+    /// it are read by [`next_gone`](Desk::next_gone). The key stays invalid for ever. It allocates nothing.
     ///
-    /// Denied is a key that has no live block, by `Fault::UnknownName`. Nothing has changed then.
+    /// It denies a key that has no live block with `Fault::UnknownName`. Nothing has changed then.
     pub fn free(&mut self, key: u64) -> Result<(), Denial>
         ensures freed { OnOk result (Returns self.old key self.new) }
         ensures denied { IfErr result (IsUnknown self.old key) }
@@ -323,8 +330,9 @@ impl Desk {
         }
     }
 
-    /// Gives back each object that no block needs, as `GpuAllocator::cleanup` does. Their names are read by
-    /// [`next_gone`](Desk::next_gone). Where no block is live nothing is held then. It takes no memory and cannot fail.
+    /// Releases each object that no block needs, as `GpuAllocator::cleanup` does. Their names are read by
+    /// [`next_gone`](Desk::next_gone). Where no block is live, nothing is held then. It allocates nothing and cannot
+    /// fail.
     pub fn cleanup(&mut self)
         ensures cleaned { CleansUp self.old self.new }
         ensures keeps { Keeps self.old self.new }

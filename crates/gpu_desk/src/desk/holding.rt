@@ -1,4 +1,4 @@
-//! Blocks from what is held, for which the device is asked nothing.
+//! Blocks from what is held, without a question to the device.
 
 ghost use Rattle.std.specs.Prelude.{◌≡◌, true, None, Ok, IfErr, IfOk, IfSome, OnErr};
 ghost use Rattle.gpu_alloc_block.specs.Agreement.{Agrees, BlockAgrees, KeepsBlocks};
@@ -20,7 +20,7 @@ use gpu_alloc::{AllocationError, GpuAllocator, MemoryBlock, Request};
 use gpu_answers::{AnsweredDevice, ObjectName};
 use gpu_session::request_fault;
 
-/// The pages that a request goes by, if it does.
+/// The granularity of pages for a request, if it goes by pages.
 fn pages_of(wish: Wish, granularity: u64) -> Option<u64>
     requires page { IsGranularity granularity }
     ensures is { result ≡ pages_of granularity wish }
@@ -33,7 +33,7 @@ fn pages_of(wish: Wish, granularity: u64) -> Option<u64>
     }
 }
 
-/// Allocates a block from what is held, and by whole pages where it has to.
+/// Allocates a block from what is held, by whole pages where it must.
 fn allocate_held(
     allocator: &mut GpuAllocator<ObjectName>,
     device: &mut AnsweredDevice,
@@ -69,12 +69,18 @@ fn allocate_held(
 }
 
 impl Desk {
-    /// Allocates a block as [`alloc`](Desk::alloc) does, but from what is held (`GpuAllocator::alloc_held`): nothing is
-    /// asked, so that no answer is taken and no question is open. The grant's object is not new.
+    /// Allocates a block as [`alloc`](Desk::alloc) does, but only from what is held (`GpuAllocator::alloc_held`): it
+    /// takes no answers and leaves no question open. The grant's object is not new.
     ///
-    /// Denied are: a request that is not askable, by the fault that it misses first; `Fault::NoMemory` for want of
-    /// memory for the key; `WouldAsk` where no memory type of the request has a place for it in a held chunk, which is
-    /// so of each that needs an object of its own; and `Refused`, as the allocator refuses. Nothing has changed then.
+    /// It denies:
+    ///
+    /// - a request that is not askable, with its first fault
+    /// - `Fault::NoMemory` for want of memory for the key
+    /// - `WouldAsk` where no memory type of the request has a place in a held chunk; a type that serves it by an object
+    ///   of its own has none
+    /// - `Refused`, with the allocator's error.
+    ///
+    /// Nothing has changed then.
     #[tactic(auto, unfolding(crate::specs::Calls::HeldDenied))]
     pub fn alloc_held(&mut self, request: Request, wish: Wish) -> Result<Grant, Denial>
         ensures granted { IfOk result (AllocatedHeld self.old request wish self.new) }

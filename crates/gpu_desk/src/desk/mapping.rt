@@ -1,4 +1,4 @@
-//! Calls that map blocks, and tell where they lie.
+//! Calls that map blocks, and that report where they lie.
 
 ghost use Rattle.std.specs.Prelude.{◌≡◌, false, Bool, length, Err, IfOk, IfErr, OnErr};
 ghost use Rattle.gpu_desk.specs.Calls.{IsAsBefore, IsUnknown, Keeps, MapDenied, Maps, RangeDenied, RangeTold, Told};
@@ -25,7 +25,8 @@ fn object_to_unmap(block: &MemoryBlock<ObjectName>) -> Option<u64>
 }
 
 impl Desk {
-    /// Tells where the block of a key lies, and what stands with it. Denied is a key that has no live block, by `Fault::UnknownName`.
+    /// Returns where the block of a key lies, and what is kept with it. It denies a key that has no live block with
+    /// `Fault::UnknownName`.
     pub fn block(&self, key: u64) -> Result<Grant, Denial>
         ensures told { IfOk result (Told self.now key) }
         ensures denied { IfErr result (IsUnknown self.now key) }
@@ -36,16 +37,21 @@ impl Desk {
         }
     }
 
-    /// Maps `size` bytes of a block from `offset` on, in bytes from its start, as `MemoryBlock::map` does, in a run with
-    /// these answers, and tells where they lie in its object.
+    /// Maps `size` bytes of a block from `offset` on, in bytes from its start, as `MemoryBlock::map` does, in a run
+    /// with these answers. It returns where they lie in its object.
     ///
-    /// A block of a shared object asks nothing, since that was mapped whole when it was made. Else the question's range
-    /// covers the bytes in whole atoms.
+    /// A block of a shared object needs no question, since the object was mapped whole when it was made. For any other,
+    /// the question's range covers the bytes in whole atoms.
     ///
-    /// Denied are: `Fault::UnknownName`, `BadSize` for 0 bytes, `BadRange` for a range that passes the block's end, and
-    /// `NoMemory` for want of memory for the answers; `Open`, with the question that has no answer; `Strayed`; and
-    /// `MapRefused`, as the block refuses. Nothing has changed then. At most one question is asked, so none is open after
-    /// an answer.
+    /// It denies:
+    ///
+    /// - `Fault::UnknownName`, `BadSize` for 0 bytes, `BadRange` for a range that ends past the block, and `NoMemory`
+    ///   for want of memory for the answers
+    /// - `Open`, with the question that has no answer
+    /// - `Strayed`
+    /// - `MapRefused`, with the block's error.
+    ///
+    /// Nothing has changed then. At most one question is asked, so none is open after an answer.
     #[tactic(auto, unfolding(crate::specs::Calls::MapDenied))]
     pub fn map(
         &mut self,
@@ -88,10 +94,10 @@ impl Desk {
         }
     }
 
-    /// Ends a block's mapping, if it has one, and names the object that is to be unmapped: none where the block was not
-    /// mapped, or its object is a shared one, which stays so. It takes no memory.
+    /// Unmaps a block, and returns the name of the object to unmap: `None` where the block was not mapped, or its
+    /// object is shared and stays mapped. It allocates nothing.
     ///
-    /// Denied is a key that has no live block, by `Fault::UnknownName`. Nothing has changed then.
+    /// It denies a key that has no live block with `Fault::UnknownName`. Nothing has changed then.
     pub fn unmap(&mut self, key: u64) -> Result<Option<u64>, Denial>
         ensures unmapped { IfOk result (Unmaps self.old key self.new) }
         ensures denied { IfErr result (IsUnknown self.old key) }
@@ -106,12 +112,12 @@ impl Desk {
         Ok(object)
     }
 
-    /// The range to flush once the host wrote `size` bytes of a block from `offset` on, in bytes from its start, or to
-    /// invalidate before it reads them: the block's own rounded range (`MemoryBlock::rounded`). It has 0 bytes where
-    /// nothing has to be: where the memory is coherent, or `size` is 0.
+    /// The range to flush after the host wrote `size` bytes of a block from `offset` on, in bytes from its start, or to
+    /// invalidate before it reads them. It is the block's own rounded range (`MemoryBlock::rounded`), or 0 bytes where
+    /// no flush is needed: the memory is coherent, or `size` is 0.
     ///
-    /// Denied are: `Fault::UnknownName`, `BadRange` for a range that passes the block's end, and
-    /// `MapError::NonHostVisible` where the host does not see the memory.
+    /// It denies `Fault::UnknownName`, `BadRange` for a range that ends past the block, and `MapError::NonHostVisible`
+    /// where the memory is not host-visible.
     pub fn range(&self, key: u64, offset: u64, size: u64) -> Result<ObjectRange, Denial>
         ensures told { IfOk result (RangeTold self.now key offset size) }
         ensures denied { IfErr result (RangeDenied self.now key offset size) }

@@ -1,4 +1,4 @@
-//! What a desk is made of, for whoever reports of it.
+//! The parts of a desk, for reports.
 
 ghost use Rattle.std.specs.Prelude.{◌≡◌};
 

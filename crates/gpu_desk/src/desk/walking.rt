@@ -1,4 +1,4 @@
-//! A walk over the live blocks, and what stands with them for their caller.
+//! A walk over the live blocks, and what is kept with them for their caller.
 
 ghost use Rattle.std.specs.Prelude.{◌≡◌, None, IfErr, IfSome, IsSome, OnErr, OnOk};
 ghost use Rattle.std.specs.FinMap as map;
@@ -12,7 +12,7 @@ use super::{Desk, PLACES, place_of};
 use crate::wish::Tag;
 use crate::{Denial, Fault, Grant};
 
-/// The first place behind that of a key, or place 0 behind the key 0, which is none.
+/// The first place after that of a key. The invalid key 0 is before place 0.
 fn behind(after: u64) -> u64
     ensures { result ≡ behind after }
 {
@@ -20,7 +20,7 @@ fn behind(after: u64) -> u64
 }
 
 impl Desk {
-    /// What is kept with a live block.
+    /// The tag of a live block.
     #[inline(always)]
     pub(super) fn tag(&self, key: u64) -> Tag
         requires { IsSome (map.get self.now.blocks.live key) }
@@ -30,12 +30,12 @@ impl Desk {
         self.tags[place_of(key)]
     }
 
-    /// The live block whose key has the first place behind that of `after`, or `None` where there is none. The place of a
-    /// key is its lower 32 bits, and `after` counts by that alone: its block may be live or freed. 0 stands for none, and
-    /// begins at the first place.
+    /// The live block whose key has the first place after that of `after`, or `None` where there is no more. The place
+    /// of a key is its lower 32 bits, and only that of `after` counts: its block may be live or freed. 0 begins at the
+    /// first place.
     ///
-    /// A walk begins with 0 and goes on with the key of each grant, until there is none. It meets each block exactly once
-    /// that lives all along, whatever calls are made between
+    /// A walk begins with 0 and goes on with the key of each grant, until `None`. It meets each block that lives all
+    /// along exactly once, whatever calls are made between
     /// ([`a_walk_meets_each_block_once`](crate::laws::a_walk_meets_each_block_once)).
     pub fn block_after(&self, after: u64) -> Option<Grant>
         ensures told { IfSome result (λ grant. Told self.now grant.key grant) }
@@ -49,9 +49,9 @@ impl Desk {
         }
     }
 
-    /// Sets the caller's value that stands with a block. Nothing else changes.
+    /// Sets the caller's value of a block. Nothing else changes.
     ///
-    /// Denied is a key that has no live block, by `Fault::UnknownName`. Nothing has changed then.
+    /// It denies a key that has no live block with `Fault::UnknownName`. Nothing has changed then.
     pub fn set_user(&mut self, key: u64, user: u64) -> Result<(), Denial>
         ensures set { OnOk result (SetsUser self.old key user self.new) }
         ensures denied { IfErr result (IsUnknown self.old key) }

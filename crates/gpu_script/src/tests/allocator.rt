@@ -35,7 +35,7 @@ fn take(rt: &impl Abort, bench: &mut Bench, object: u64, size: u64) {
     );
 }
 
-/// Ends a bench, after which nothing is held. The device was asked so often.
+/// Ends a bench, after which nothing is held. The device was asked `asked` times.
 fn end(rt: &impl Abort, mut bench: Bench, asked: u64) {
     bench.give_all_back(rt);
     let counts = Counts {
@@ -54,7 +54,7 @@ fn end(rt: &impl Abort, mut bench: Bench, asked: u64) {
     bench.end(rt);
 }
 
-/// Compares what an allocator and its device tell that gave out a block of 100 bytes.
+/// Compares what an allocator and its device report after a block of 100 bytes was granted.
 fn compare_block(rt: &impl Abort, bench: &Bench) {
     same(
         rt,
@@ -104,7 +104,7 @@ fn a_block_of_another_allocator_may_come_back(rt: HostRuntime) -> Result<(), Fai
     let owns = first.owns_latest_of(&rt, &second);
     same(&rt, "whether a block of another is owned", &owns, &false);
 
-    // The two blocks have the same object name and span, so each allocator takes the other's.
+    // The two blocks have the same object name and span, so each allocator frees the other's.
     first.swap_with_first_of(&rt, &mut second);
     end(&rt, first, 1);
     end(&rt, second, 2);

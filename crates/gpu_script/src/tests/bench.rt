@@ -30,7 +30,7 @@ pub(super) const TYPES: [MemoryType; 1] = [DEVICE_LOCAL];
 /// One heap of 1 MiB.
 pub(super) const HEAPS: [MemoryHeap; 1] = [MemoryHeap { size: 1 << 20 }];
 
-/// What a device offers that has these types and heaps, and no address feature.
+/// A device with these types and heaps, and no address feature.
 pub(super) fn offering<'a>(
     memory_types: &'a [MemoryType],
     memory_heaps: &'a [MemoryHeap],
@@ -45,12 +45,12 @@ pub(super) fn offering<'a>(
     }
 }
 
-/// What a device offers that has one memory type in one heap.
+/// A device with one memory type in one heap.
 pub(super) fn one_type() -> DeviceProperties<'static> {
     offering(&TYPES, &HEAPS)
 }
 
-/// The same properties once more.
+/// A copy of these properties.
 pub(super) fn again<'a>(props: &DeviceProperties<'a>) -> DeviceProperties<'a>
     ensures { properties_of result ≡ properties_of props.now }
 {
@@ -64,14 +64,14 @@ pub(super) fn again<'a>(props: &DeviceProperties<'a>) -> DeviceProperties<'a>
     }
 }
 
-/// An allocator has to be able to stand on these.
+/// An allocator can be built on these properties.
 pub(super) fn are_usable(rt: &impl Abort, props: &DeviceProperties<'_>)
     ensures { IsUsable (properties_of props.now) }
 {
     holds(rt, props.is_usable(), "properties of no use");
 }
 
-/// A request for so many bytes of the first memory type, wherever they start, and without a usage.
+/// A request for `size` bytes of the first memory type, anywhere, and without a usage.
 pub(super) fn bytes(size: u64) -> Request {
     Request {
         size,
@@ -114,19 +114,18 @@ fn place_at(memory_type: u32, spot: Spot) -> Place {
     }
 }
 
-/// What is asked for: so many bytes of the first memory type, wherever they start, and without a usage, where nothing
-/// else is said.
+/// What is asked for: this many bytes of the first memory type, anywhere, and without a usage, unless said otherwise.
 #[derive(Clone, Copy)]
 pub(super) enum Ask {
     Bytes(u64),
 
-    /// From a multiple of the mask and one on.
+    /// At a multiple of the mask plus one.
     Aligned(u64, u64),
 
     /// Of these memory types.
     OfTypes(u64, u32),
 
-    /// For a usage of a bit that has no name.
+    /// For a usage with an unnamed bit.
     Unnamed(u64),
 
     /// For the host to write and read.
@@ -135,7 +134,7 @@ pub(super) enum Ask {
     /// For a short time.
     Transient(u64),
 
-    /// The same from a multiple of the mask and one on.
+    /// The same at a multiple of the mask plus one.
     AlignedTransient(u64, u64),
 
     /// In an object of their own.
@@ -144,7 +143,7 @@ pub(super) enum Ask {
     /// The same of no memory type.
     OwnOfNone(u64),
 
-    /// In an object of their own where they are many enough for a hint.
+    /// In an object of their own where there are enough of them for a hint.
     Preferred(u64),
 }
 
@@ -184,7 +183,7 @@ impl Ask {
     }
 }
 
-/// What was asked of a device so far, and what is held.
+/// What a device was asked so far, and what is held.
 #[derive(Clone, Copy, Debug, PartialEq, Eq)]
 pub(super) struct Counts {
     /// How often the device was asked to allocate.
@@ -221,7 +220,7 @@ impl<A: Allocator + Copy> Model for Bench<A> {
 }
 
 impl<A: Allocator + Copy> Bench<A> {
-    /// One that gave out nothing, by the potato's sizes, over a device that offers this.
+    /// A bench without blocks, with the potato's sizes, over a device that offers these.
     pub(super) fn new(
         rt: &impl Abort,
         alloc: A,
@@ -239,7 +238,7 @@ impl<A: Allocator + Copy> Bench<A> {
         }
     }
 
-    /// One over a fresh device that offers this, with room for blocks.
+    /// A bench over a fresh device that offers these, with room for blocks.
     fn over(
         alloc: A,
         offered: DeviceProperties<'_>,
@@ -259,14 +258,14 @@ impl<A: Allocator + Copy> Bench<A> {
             }),
             Err(_) => {
                 blocks.destroy_empty();
-                // By a call, so that its parts are taken apart in `drop` and not here.
+                // A call, so that its parts are taken apart in `drop` and not here.
                 drop(device);
                 Err(Fail::from("no memory for an allocator"))
             }
         }
     }
 
-    /// Asks for a block. Where it is granted it is kept, for which no memory is taken.
+    /// Asks for a block. If it is granted it is kept, for which no memory is taken.
     pub(super) fn ask(
         &mut self,
         rt: &impl Abort,
@@ -279,12 +278,12 @@ impl<A: Allocator + Copy> Bench<A> {
         Ok(place)
     }
 
-    /// Gives back what free lists keep without a block.
+    /// Releases what free lists keep without a block.
     pub(super) fn cleanup(&mut self) {
         clean(&mut self.allocator, &mut self.device);
     }
 
-    /// Gives back the block of this place in the list, which the latest one takes.
+    /// Returns the block at this place in the list, which the latest one takes.
     fn give_back_at(&mut self, rt: &impl Abort, at: usize) {
         below(rt, at, self.blocks.len(), "no such block");
         let block = self.blocks.swap_remove(at);
@@ -300,12 +299,12 @@ impl<A: Allocator + Copy> Bench<A> {
         }
     }
 
-    /// The size, memory type and flags that the device was asked for last.
+    /// The size, memory type and flags that the device was last asked for.
     pub(super) fn last_allocation(&self) -> Option<(u64, u32, AllocationFlags)> {
         self.device.last_allocation()
     }
 
-    /// Gives all blocks back, the latest first.
+    /// Returns all blocks, the latest first.
     pub(super) fn give_all_back(&mut self, rt: &impl Abort) {
         for _ in 0..self.blocks.len() {
             let latest = self.blocks.len().saturating_sub(1);
@@ -313,7 +312,7 @@ impl<A: Allocator + Copy> Bench<A> {
         }
     }
 
-    /// Gives all blocks back and what free lists keep, and ends the allocator. Nothing is held then.
+    /// Returns all blocks, cleans up, and ends the allocator. Nothing is held then.
     pub(super) fn end(mut self, rt: &impl Abort) {
         self.give_all_back(rt);
         self.cleanup();
@@ -343,7 +342,7 @@ impl<A: Allocator + Copy> Bench<A> {
 }
 
 impl Bench {
-    /// One over a device that refuses its first question of this kind.
+    /// A bench over a device that refuses its first question of this kind.
     pub(super) fn that_refuses(
         rt: &impl Abort,
         alloc: Global,
@@ -366,7 +365,7 @@ impl Bench {
         self.device.refuse(kind, 1, cause)
     }
 
-    /// Gives back the block that starts there.
+    /// Returns the block that starts there.
     pub(super) fn give_back(&mut self, rt: &impl Abort, object: u64, offset: u64) {
         let mut found = None;
         for (at, block) in self.blocks.iter().enumerate() {
@@ -402,7 +401,7 @@ impl Bench {
         swap(&mut self.blocks, &mut other.blocks);
     }
 
-    /// What the latest block tells of its memory type.
+    /// The properties of the latest block's memory type.
     pub(super) fn latest_props(&self, rt: &impl Abort) -> MemoryPropertyFlags {
         match self.blocks.last() {
             Some(block) => block.props(),
@@ -410,7 +409,7 @@ impl Bench {
         }
     }
 
-    /// Swaps its latest block for the first one of another. That becomes the latest of either.
+    /// Swaps its latest block for the first one of another. Each becomes the latest of its bench.
     pub(super) fn swap_with_first_of(&mut self, rt: &impl Abort, other: &mut Bench) {
         below(rt, 0, other.blocks.len(), "no block to swap for");
         let theirs = other.blocks.swap_remove(0);
@@ -421,7 +420,7 @@ impl Bench {
         keep(rt, &mut self.blocks, theirs);
     }
 
-    /// The limit that the device set to the size of an object.
+    /// The device's limit to the size of an object.
     pub(super) fn max_allocation_size(&self) -> u64 {
         self.allocator.max_allocation_size()
     }
@@ -432,7 +431,7 @@ impl Bench {
     }
 }
 
-/// A fresh device that offers this.
+/// A fresh device that offers these.
 fn device_of<A: Allocator + Copy>(
     alloc: A,
     offered: &DeviceProperties<'_>,
@@ -442,7 +441,7 @@ fn device_of<A: Allocator + Copy>(
     Sim::new(alloc, again(offered))
 }
 
-/// Asks for a block, with that hint or none.
+/// Asks for a block, perhaps with a hint.
 fn ask_for<M: MemoryObject, D: MemoryDevice<M>, A: Allocator>(
     rt: &impl Abort,
     allocator: &mut GpuAllocator<M, A>,
@@ -485,7 +484,7 @@ fn keep<M: MemoryObject, A: Allocator>(
     blocks.push_reserved(block);
 }
 
-/// Gives back a block, which the allocator has to own.
+/// Returns a block, which the allocator must own.
 fn give_back<M: MemoryObject, D: MemoryDevice<M>, A: Allocator>(
     rt: &impl Abort,
     allocator: &mut GpuAllocator<M, A>,
@@ -500,7 +499,7 @@ fn give_back<M: MemoryObject, D: MemoryDevice<M>, A: Allocator>(
     allocator.dealloc(device, block);
 }
 
-/// Gives back what free lists keep without a block.
+/// Releases what free lists keep without a block.
 fn clean<M: MemoryObject, D: MemoryDevice<M>, A: Allocator>(
     allocator: &mut GpuAllocator<M, A>,
     device: &mut D,
@@ -532,7 +531,7 @@ fn compare_grant(rt: &impl Abort, bench: &mut Bench, at: usize, ask: Ask, place:
     same_at(rt, "step", &at, &answer, &Ok(place));
 }
 
-/// Compares a refusal, and how often the device is asked for it. What is held stays as it was.
+/// Compares a refusal, and how often the device is asked for it. What is held is unchanged.
 fn compare_refusal(
     rt: &impl Abort,
     bench: &mut Bench,
@@ -570,7 +569,7 @@ fn compare_held(
     same_at(rt, "step", &at, &counts, &wanted);
 }
 
-/// Compares for what the device was asked last.
+/// Compares what the device was last asked for.
 fn compare_asked(
     rt: &impl Abort,
     bench: &Bench,
@@ -583,7 +582,7 @@ fn compare_asked(
     same_at(rt, "step", &at, &bench.last_allocation(), &wanted);
 }
 
-/// What is done with a bench, and what has to come of it.
+/// What is done with a bench, and what must come of it.
 #[derive(Clone, Copy)]
 pub(super) enum Step {
     /// A request is granted there.
@@ -592,23 +591,23 @@ pub(super) enum Step {
     /// A request is granted there in memory of that type.
     GrantOf(u32, Ask, Spot),
 
-    /// A request is refused, and the device is asked so often for it. What is held stays as it was.
+    /// A request is refused, and the device is asked this often for it. What is held is unchanged.
     Refuse(Ask, AllocationError, u64),
 
-    /// The block in that object and at that offset is given back.
+    /// The block in that object and at that offset is returned.
     Return(u64, u64),
 
-    /// What free lists keep without a block is given back.
+    /// What free lists keep without a block is released.
     Cleanup,
 
-    /// The device was last asked for so many bytes of that memory type, with flags of these bits.
+    /// The device was last asked for this many bytes of that memory type, with flags of these bits.
     Asked(u64, u32, u8),
 
-    /// So many objects are held, so many more may be, and so many bytes are held of the first heap.
+    /// How many objects are held, how many more may be, and how many bytes are held of the first heap.
     Held(usize, u32, u128),
 }
 
-/// Takes one step, and compares what comes of it. The number tells which one it is.
+/// Takes one step, and compares what comes of it. The number says which one it is.
 pub(super) fn take_step(rt: &impl Abort, bench: &mut Bench, at: usize, step: Step) {
     match step {
         Step::Grant(ask, spot) => compare_grant(rt, bench, at, ask, place_at(0, spot)),
@@ -640,7 +639,7 @@ pub(super) fn play(rt: &impl Abort, mut bench: Bench, steps: &[Step]) {
     bench.end(rt);
 }
 
-/// Takes the steps with a fresh bench over a device that offers this.
+/// Takes the steps with a fresh bench over a device that offers these.
 pub(super) fn play_on(
     rt: &impl Abort,
     alloc: Global,
@@ -652,7 +651,7 @@ pub(super) fn play_on(
     Ok(())
 }
 
-/// Takes the steps with one whose device refuses its first question of a kind.
+/// Takes the steps with a bench whose device refuses its first question of a kind.
 pub(super) fn play_refused(
     rt: &impl Abort,
     alloc: Global,

@@ -44,7 +44,7 @@ fn a_chunk_is_used_up_first(rt: HostRuntime) -> Result<(), Fail> {
     Ok(())
 }
 
-/// The three are given back in each order of their offsets, and their chunk goes with the last one.
+/// The three are returned in each order of their offsets, and their chunk is released with the last one.
 const RETURNS: [[Step; 6]; 6] = [
     [
         Step::Return(1, 0),
@@ -165,7 +165,7 @@ const TINY_BLOCK: [Step; 2] = [
     Step::Asked(31, 0, 0),
 ];
 
-/// What is in a heap smaller than 32 bytes has an object of its own, since a 32nd part of it is nothing.
+/// A request in a heap smaller than 32 bytes gets an object of its own, since a 32nd part of it is 0.
 #[test]
 fn blocks_of_a_tiny_heap_have_objects_of_their_own(rt: HostRuntime) -> Result<(), Fail> {
     play_on(&rt, rt.alloc(), offering(&TYPES, &TINY), &TINY_BLOCK)
@@ -196,7 +196,7 @@ const LATEST: [Step; 6] = [
     Step::Return(2, 0),
 ];
 
-/// A chunk that was made leaves the next ones as large, also once it is gone.
+/// A chunk that was made keeps the next ones as large, even after it is released.
 #[test]
 fn chunks_stay_as_large_as_the_latest(rt: HostRuntime) -> Result<(), Fail> {
     play_on(&rt, rt.alloc(), one_type(), &LATEST)
@@ -244,7 +244,7 @@ const PASSED: [Step; 4] = [
     Step::Asked(8192, 0, 0),
 ];
 
-/// A memory type that the device refuses is passed, and is asked for again by the next request.
+/// A memory type that the device refuses is passed over, and is asked for again by the next request.
 #[test]
 fn the_next_type_serves_where_the_first_is_refused(rt: HostRuntime) -> Result<(), Fail> {
     play_refused(

@@ -6,17 +6,17 @@ use std::process::Abort;
 use std::test::Fail;
 
 /// The lines of a script for a type that is DEVICE_LOCAL, one that is HOST_VISIBLE and HOST_COHERENT, and one that is
-/// HOST_CACHED besides.
+/// also HOST_CACHED.
 const THREE_TYPES: &str = "type 0 1\ntype 0 6\ntype 0 14\n";
 
-/// A script that is being written, in two parts, with what it has to print.
+/// A script that is being written, in two parts, with what it must print.
 #[derive(Drop)]
 struct Trial {
     setup: String,
     commands: String,
     printed: String,
 
-    /// How often the device is asked so far.
+    /// How often the device has been asked so far.
     questions: u64,
 }
 
@@ -63,8 +63,8 @@ impl Trial {
     }
 }
 
-/// Compares the types that an allocator tries for a request with those that are wanted, in their order. Each request
-/// but the first has one more refusal of the device than the one before, until nothing is left to be tried.
+/// Compares the types that an allocator tries for a request with the expected ones, in their order. Each request but
+/// the first has one more refusal of the device than the one before, until nothing is left to try.
 fn are_tried(
     rt: &impl Abort,
     alloc: Global,

@@ -1,4 +1,4 @@
-//! Each command with its faults and its refusals.
+//! Each command with its faults and its errors.
 
 use super::scripts::compare;
 
@@ -108,7 +108,7 @@ end objects 0 allocations 3
 ",
         0,
     ),
-    // A block is mapped once, and no bytes move meanwhile.
+    // A block is mapped once, and no bytes move while it is.
     (
         "\
 heap 1048576
@@ -161,7 +161,7 @@ end objects 0 allocations 1
 ",
         0,
     ),
-    // The end of a block is as far as bytes go.
+    // Bytes go as far as the end of a block.
     (
         "\
 heap 1048576
@@ -198,7 +198,7 @@ end objects 0 allocations 1
 ",
         0,
     ),
-    // The end of a mapping is as far as the host sees.
+    // The host sees as far as the end of a mapping.
     (
         "\
 heap 1048576
@@ -245,7 +245,7 @@ end objects 0 allocations 1
 ",
         0,
     ),
-    // The host does not see all memory.
+    // Not all memory is host-visible.
     (
         "\
 heap 1048576
@@ -274,7 +274,7 @@ end objects 0 allocations 1
 ",
         0,
     ),
-    // Places that are set serve new objects alone.
+    // A new number of objects serves only new objects.
     (
         "\
 heap 1048576
@@ -323,7 +323,7 @@ end objects 0 allocations 2
 ",
         0,
     ),
-    // No host has room for so many bytes: it is asked for before the device is.
+    // No host has room for these many bytes: memory is asked for before the device is.
     (
         "\
 heap 18446744073709551615
@@ -360,7 +360,7 @@ fn commands_name_the_first_condition_that_they_miss(rt: HostRuntime) {
 
 /// Every command that asks the device, refused for each cause.
 const REFUSALS: [(&str, &str, u8); 7] = [
-    // An object of a block of its own.
+    // An object of a block's own.
     (
         "\
 heap 1048576
@@ -381,7 +381,7 @@ end objects 0 allocations 3
 ",
         0,
     ),
-    // A chunk of buddies, and its mapping. The object that was given back has used its name.
+    // A chunk of buddies, and its mapping. The object that was released has used its name.
     (
         "\
 heap 1048576
@@ -490,7 +490,7 @@ end objects 0 allocations 10
 ",
         0,
     ),
-    // A mapping. A block that is mapped at the end goes back too.
+    // A mapping. A block that is mapped at the end is returned too.
     (
         "\
 heap 1048576

@@ -9,7 +9,7 @@ use std::io::{Error, ErrorKind, Read, Write};
 use std::process::Abort;
 use std::test::Fail;
 
-/// A reader that gives two bytes a read, and fails once it has given so many reads.
+/// A reader that gives two bytes a read, and fails after a number of reads.
 #[derive(Drop)]
 struct BrokenReader<'a> {
     left: &'a [u8],
@@ -51,8 +51,8 @@ impl Read for InterruptedReader<'_> {
     }
 }
 
-/// A writer that takes so many bytes, and fails where it has no room left: at a write or, once all is written, at the
-/// flush.
+/// A writer that takes a number of bytes, and fails where it has no room left: at a write or, once all is written, at
+/// the flush.
 #[derive(Drop)]
 struct BrokenWriter {
     taken: Vec<u8>,
@@ -89,8 +89,8 @@ const ENDS: [(&str, &str, u8); 3] = [
     ("atom 3", "line 2: bad properties\n", 2),
 ];
 
-/// Compares the end of a script whose reader fails at each of its reads in turn, the one that finds its end among them.
-/// Nothing is printed then, not even of a line that is bad and was read.
+/// Compares the end of a script whose reader fails at each of its reads in turn, including the one that finds its end.
+/// Nothing is printed then, not even for a bad line that was read.
 fn compare_reads(rt: &impl Abort, alloc: Global, script: &str, printed: &str, status: u8) {
     let reads = script.len().div_ceil(2).saturating_add(1);
     for good in 0..=reads {

@@ -1,4 +1,4 @@
-//! Extreme configurations, heaps, alignments, atoms and counts, as scripts. The counts tell which chunk was asked for:
+//! Extreme configurations, heaps, alignments, atoms and counts, as scripts. The counts show which chunk was asked for:
 //! they rise by its size.
 
 use super::scripts::compare;
@@ -25,7 +25,7 @@ end objects 0 allocations 3
 ",
         0,
     ),
-    // Each size is the greatest: chunks are half a 16th of the heap, beside which it has no room for all of its size.
+    // Each size is the greatest: chunks are half a 16th of the heap, which has no room for all of its size as well.
     (
         "\
 config 18446744073709551615 18446744073709551615 18446744073709551615 18446744073709551615 \
@@ -49,8 +49,8 @@ end objects 0 allocations 2
 ",
         0,
     ),
-    // The greatest alignment that a buddy chunk serves, in a heap that has no room for that chunk: the next one is not
-    // larger for it.
+    // The greatest alignment that a buddy chunk serves, in a heap that has no room for that chunk. The next chunk is
+    // not larger for it.
     (
         "\
 heap 1048576
@@ -72,7 +72,7 @@ end objects 0 allocations 1
 ",
         0,
     ),
-    // A heap of just such a chunk, and then each piece of it.
+    // A heap of exactly such a chunk, and then each piece of it.
     (
         "\
 heap 9223372036854775808
@@ -130,8 +130,8 @@ end objects 0 allocations 1
 ",
         0,
     ),
-    // An atom that is greater than the heap, which has no room for a chunk then. A flush that is refused copies half of
-    // its range: of 32 bytes 16.
+    // An atom that is greater than the heap, which then has no room for a chunk. A refused flush copies half of its
+    // range: of 32 bytes 16.
     (
         "\
 heap 1024
@@ -290,7 +290,8 @@ end objects 0 allocations 1
     ),
 ];
 
-/// If not, a configuration or a device at an end of its range would be served in other chunks, or a sum would not fit.
+/// If not, a configuration or a device at an end of its range would be served from other chunks, or a sum would not
+/// fit.
 #[test]
 fn extremes_are_served_as_all_else(rt: HostRuntime) {
     compare(&rt, rt.alloc(), &EXTREMES);

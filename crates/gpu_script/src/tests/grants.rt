@@ -19,7 +19,7 @@ fn memory_that_the_host_sees_is_shared(rt: HostRuntime) -> Result<(), Fail> {
     play_on(&rt, rt.alloc(), offering(&types, &HEAPS), &SEEN)
 }
 
-/// A memory type that the host sees and has to flush.
+/// A memory type that is host-visible and must be flushed.
 const NON_COHERENT: [MemoryType; 1] = [MemoryType {
     heap: 0,
     props: MemoryPropertyFlags::HOST_VISIBLE,
@@ -30,7 +30,7 @@ const ATOMS: [Step; 2] = [
     Step::Grant(Ask::ByHost(20), (1, 64, 64)),
 ];
 
-/// Where what the host writes has to be flushed, no two blocks share an atom.
+/// Where the host's writes must be flushed, no two blocks share an atom.
 #[test]
 fn blocks_of_non_coherent_memory_are_whole_atoms(rt: HostRuntime) -> Result<(), Fail> {
     let offered = DeviceProperties {

@@ -1,5 +1,5 @@
-//! Each request for host memory of a whole script refused in turn, the growths and the duplicates of handles among them,
-//! with one command a list: what the command is answered that makes it, and that nothing is changed.
+//! Each request for host memory of a whole script refused in turn, including growths and duplicates of handles, with
+//! one command a list. Compares the reply to the command that makes it, and that nothing is changed.
 
 use super::same::same_at;
 use super::scarce::{Outcome, Refusals, ScarceSession};
@@ -11,7 +11,7 @@ use std::alloc::{AllocError, Allocator, Global};
 use std::process::Abort;
 use std::test::Fail;
 
-/// What is told of what is held before each command of a list, where they are run one by one with ample memory.
+/// What is held before each command of a list, where they are run one by one with ample memory.
 fn told_before<A: Allocator + Copy>(
     alloc: Global,
     session: &mut ScarceSession<'_, A>,
@@ -25,7 +25,7 @@ fn told_before<A: Allocator + Copy>(
     Ok(rows)
 }
 
-/// The same of the commands of a script, with memory that may run out.
+/// The same for the commands of a script, with memory that may run out.
 fn told_of_script<A: Allocator + Copy>(
     rt: &impl Abort,
     alloc: Global,
@@ -40,11 +40,11 @@ fn told_of_script<A: Allocator + Copy>(
     Ok(rows?)
 }
 
-/// A command that was refused memory: its place, and what it came to.
+/// A command that lacked memory: its place, and its outcome.
 type Refusal = Option<(usize, Outcome)>;
 
-/// Runs commands one by one, and tells which one was refused memory, if any was: what is held after it is what was told
-/// before it. Those after it have memory. Before each so many bytes are lost.
+/// Runs commands one by one, and returns which one lacked memory, if any did. What is held after it must be what was
+/// held before it. Those after it have memory. Before each, `lost` bytes are lost.
 fn run<A: Allocator + Copy>(
     rt: &impl Abort,
     alloc: Global,
@@ -66,7 +66,7 @@ fn run<A: Allocator + Copy>(
     Ok(refusal)
 }
 
-/// Compares what is held after a refused command with what was told before it.
+/// Compares what is held after a refused command with what was held before it.
 fn compare_told<A: Allocator + Copy>(
     rt: &impl Abort,
     alloc: Global,
@@ -79,7 +79,7 @@ fn compare_told<A: Allocator + Copy>(
     Ok(())
 }
 
-/// Runs a script where so many bytes are left for its commands, and tells which one was refused memory. At the end the
+/// Runs a script where `room` bytes are left for its commands, and returns which one lacked memory. At the end the
 /// device holds nothing.
 fn run_commands<A: Allocator + Copy>(
     rt: &impl Abort,
@@ -101,7 +101,7 @@ fn run_commands<A: Allocator + Copy>(
     Ok(refusal?)
 }
 
-/// The same with fresh memory. It tells too how many bytes may be left next.
+/// The same with fresh memory. It also returns how many bytes may be left next.
 fn run_in(
     rt: &impl Abort,
     alloc: Global,
@@ -125,8 +125,8 @@ fn mark(met: &mut [Refusals], refusal: Refusal) {
     }
 }
 
-/// Marks which refusals each command of a script comes to: none at first, where more bytes are left than a script takes,
-/// and then each request for memory is refused, the last one first.
+/// Marks which refusals each command of a script meets: none at first, where more bytes are left than a script takes.
+/// Then each request for memory is refused, the last one first.
 fn mark_refusals(
     rt: &impl Abort,
     alloc: Global,
@@ -147,8 +147,8 @@ fn mark_refusals(
     Err(Fail::from("requests without end"))
 }
 
-/// Compares which refusals each command of a script comes to. It is run with 0 and with 8 bytes lost before each
-/// command, since a list of ledgers starts at a multiple of 16 and leaves 8 bytes or none behind.
+/// Compares which refusals each command of a script meets. It is run with 0 and with 8 bytes lost before each command,
+/// since a list of ledgers starts at a multiple of 16 and leaves 8 bytes or none behind.
 fn compare_refusals(
     rt: &impl Abort,
     alloc: Global,
@@ -169,17 +169,17 @@ fn compare_refusals(
 /// No place for the reply, and nothing else: the command itself takes no memory.
 const PLACE: Refusals = [true, false, false];
 
-/// Beside that the session's own memory.
+/// Also the session's own memory.
 const OWN: Refusals = [true, true, false];
 
-/// Beside that the allocator's or the device's memory, a handle's duplicate among it.
+/// Also the allocator's or the device's memory, including a handle's duplicate.
 const ASKED: Refusals = [true, false, true];
 
 /// All three.
 const ALL: Refusals = [true, true, true];
 
-/// Which refusals the commands of a script of pieces come to, of one of runs, and of one of both with bytes and an
-/// import. That finds the room that the block before it left, with the session and with the allocator.
+/// Which refusals the commands of three scripts meet: one of pieces, one of runs, and one of both with bytes and an
+/// import. The import finds the room that the block before it left, with the session and with the allocator.
 const PIECES: [Refusals; 9] = [ALL, ASKED, ASKED, OWN, PLACE, PLACE, OWN, PLACE, OWN];
 
 const RUNS: [Refusals; 12] = [
@@ -197,8 +197,8 @@ fn each_growth_of_a_script_is_refused_in_turn(rt: HostRuntime) -> Result<(), Fai
     compare_refusals(&rt, rt.alloc(), BYTES[3].0, &BOTH)
 }
 
-/// Opens a session over a script's device where so many bytes are left, and runs its commands. Where it was refused its
-/// memory, the device comes back, which serves with ample memory. At the end it holds nothing. It tells whether those
+/// Opens a session over a script's device where `room` bytes are left, and runs its commands. Where its memory is
+/// missing, the device comes back, and serves with ample memory. At the end it holds nothing. Returns whether those
 /// bytes were enough.
 fn open_script<A: Allocator + Copy>(
     rt: &impl Abort,
@@ -215,7 +215,7 @@ fn open_script<A: Allocator + Copy>(
     Ok(enough)
 }
 
-/// The same with fresh memory. It tells too how many bytes may be left next.
+/// The same with fresh memory. It also returns how many bytes may be left next.
 fn open_in(
     rt: &impl Abort,
     alloc: Global,
@@ -227,7 +227,7 @@ fn open_in(
     Ok((enough, memory.less_room(room)))
 }
 
-/// How often a session over a script's device was refused its memory: never at first, where more bytes are left than it
+/// How often a session over a script's device lacked its memory: never at first, where more bytes are left than it
 /// takes, and then at each request, the last one first.
 fn refused_openings(rt: &impl Abort, alloc: Global, text: &str) -> Result<u32, Fail> {
     let mut refused = 0u32;

@@ -1,4 +1,4 @@
-//! A chunk that is full of blocks of one size, of which each half of a pair waits for the other.
+//! A chunk full of blocks of one size, in which each half of a pair waits for the other.
 
 ghost use Rattle.std.specs.Prelude.{◌≤◌};
 
@@ -32,7 +32,7 @@ fn returns(alloc: Global, first: u64) -> Result<String, AllocError>
     Ok(lines)
 }
 
-/// All blocks are taken, those of one half of each pair come back, and then the others.
+/// All blocks are taken, those of one half of each pair are returned, and then the others.
 fn script_of(alloc: Global) -> Result<String, AllocError> {
     let takes = takes(alloc)?;
     let second = returns(alloc, 2)?;
@@ -60,7 +60,7 @@ fn ranges(alloc: Global) -> Result<String, AllocError> {
     Ok(line)
 }
 
-/// What is printed of the script.
+/// What the script prints.
 fn printed_of(alloc: Global) -> Result<String, AllocError> {
     let blocks = blocks(alloc)?;
     let oks = "ok\n".repeat(alloc, 32)?;

@@ -1,9 +1,9 @@
-//! Chunks of which each is one block, so that it is wholly free as soon as that block is back.
+//! Chunks that each hold one block, so that a chunk is wholly free as soon as its block is returned.
 
 use super::scripts::compare_bytes;
 use std::test::Fail;
 
-/// Three transient blocks that are whole chunks: the second comes back, then the first, then the third.
+/// Three transient blocks that are whole chunks: the second is returned, then the first, then the third.
 const SCRIPT: &str = "\
 heap 4194304
 type 0 1
@@ -46,7 +46,7 @@ counts remaining 4096 held 0 used 0
 end objects 0 allocations 3
 ";
 
-/// If not, a chunk would go of which the next request takes a block, or one would stay for which nobody asks.
+/// If not, a chunk would be released from which the next request takes a block, or one would stay that nobody asks for.
 #[test]
 fn the_last_runs_chunk_alone_is_kept(rt: HostRuntime) -> Result<(), Fail> {
     compare_bytes(

@@ -1,11 +1,11 @@
-//! Blocks that come back to an allocator that has them under other keys, since another one made them.
+//! Blocks that are returned to an allocator that has them under other keys, since another one made them.
 
 use super::bench::{Ask, Bench, Step, one_type, take_steps};
 use super::same::same_at;
 use std::process::Abort;
 use std::test::Fail;
 
-/// Blocks of one kind, made in a row, and the same ones by an allocator that gave others back before: there each key is
+/// Blocks of one kind, made in a row, and the same ones by an allocator that freed others before: there each key is
 /// another block's.
 #[derive(Clone, Copy)]
 struct Row {
@@ -64,7 +64,7 @@ const OWN: Row = Row {
     ],
 };
 
-/// Each allocator takes the other's blocks back, and holds nothing then.
+/// Each allocator frees the other's blocks, and holds nothing then.
 #[test]
 fn blocks_under_other_keys_come_back(rt: HostRuntime) -> Result<(), Fail> {
     for (at, row) in [BUDDIES, TAILS, OWN].iter().enumerate() {

@@ -11,7 +11,7 @@ const EMPTY: &str = "end objects 0 allocations 0\n";
 /// What `counts` alone prints.
 const NOTHING: &str = "counts remaining 4096 held 0 used\nend objects 0 allocations 0\n";
 
-/// What a command prints alone whose block is missing.
+/// What a command whose block is missing prints alone.
 const UNKNOWN: &str = "fault 2 UnknownName\nend objects 0 allocations 0\n";
 
 /// Setup lines, and what is wrong with them.
@@ -159,7 +159,7 @@ const FIELDS: [&str; 9] = [
     " x x x x x x x x",
 ];
 
-/// Compares what a line of this word prints with each number of fields that is not wanted.
+/// Compares what a line of this word prints with each invalid number of fields.
 fn compare_fields(
     rt: &impl Abort,
     alloc: Global,
@@ -193,7 +193,7 @@ const ANY_TEXT: [(&str, &str, u8); 5] = [
     ("\u{feff}counts", "line 1: unknown word\n", 2),
 ];
 
-/// What stands before a last byte, what is printed where that is one of these, and what where it is any other.
+/// What stands before a last byte, what is printed where that is one of these, and what is printed for any other.
 const LAST_BYTES: [(&str, &[(&[u8], &str)], &str); 4] = [
     ("", &[(b"\n\r\t #", EMPTY)], "line 1: unknown word\n"),
     ("counts", &[(b"\n\r\t ", NOTHING)], "line 1: unknown word\n"),
@@ -212,7 +212,7 @@ const LAST_BYTES: [(&str, &[(&[u8], &str)], &str); 4] = [
     ),
 ];
 
-/// Compares what scripts print that end with each byte. A line that is bad has the status 2.
+/// Compares what scripts print that end with each byte. A bad line has the status 2.
 fn compare_last_bytes(
     rt: &impl Abort,
     alloc: Global,
@@ -247,13 +247,13 @@ fn printed_for<'a>(known: &[(&[u8], &'a str)], other: &'a str, byte: u8) -> &'a 
     other
 }
 
-/// A line of one word and 100000 digits, the last of which is another than 0.
+/// A line of one word and 100000 digits: `first`, zeros, and a 1 at the end.
 fn long_number(alloc: Global, first: char) -> Result<String, AllocError> {
     let zeros = "0".repeat(alloc, 99_998)?;
     format!(in alloc; "heap {first}{zeros}1")
 }
 
-/// Compares what a script prints that is such a line.
+/// Compares what a script with such a line prints.
 fn compare_long(
     rt: &impl Abort,
     alloc: Global,
@@ -277,7 +277,7 @@ fn any_bytes_are_a_script_or_have_a_bad_line(rt: HostRuntime) -> Result<(), Fail
     Ok(())
 }
 
-/// Blank lines, blanks about fields, ends of lines, and setup lines that are said again.
+/// Blank lines, blanks around fields, ends of lines, and repeated setup lines.
 const BLANKS: [(&str, &str, u8); 11] = [
     ("", EMPTY, 0),
     ("\n\n\n", EMPTY, 0),

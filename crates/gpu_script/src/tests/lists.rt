@@ -1,4 +1,4 @@
-//! Lists of commands drawn from a fixed seed, with refusals that are drawn too: what each `Read` gives is compared with
+//! Lists of commands drawn from a fixed seed, with refusals that are drawn too. What each `Read` gives is compared with
 //! what was written, and what a script of the same list prints with the replies.
 
 mod printed;
@@ -25,10 +25,10 @@ const COMMANDS: u64 = 60;
 /// More than the greatest name that is drawn.
 const NAMES: usize = 7;
 
-/// How many bytes are kept of each block: no command that is drawn moves a byte beyond.
+/// How many bytes are kept of each block: no command that is drawn moves a byte past them.
 const BLOCK: usize = 40;
 
-/// What commands a script has.
+/// The commands of a script.
 #[derive(Clone, Copy, Debug, PartialEq, Eq)]
 enum Kind {
     Alloc,
@@ -67,7 +67,7 @@ const KINDS: [(Kind, &str, usize); 15] = [
     (Kind::Counts, "counts", 0),
 ];
 
-/// How often kinds are drawn, by their places in `KINDS`: what moves bytes the most.
+/// How often kinds are drawn, by their places in `KINDS`: those that move bytes the most.
 const DRAWN: [usize; 32] = [
     0, 0, 0, 0, 1, 2, 3, 3, 4, 5, 5, 5, 6, 7, 7, 7, 7, 7, 8, 8, 8, 8, 8, 8, 9, 9, 10, 11, 12, 13,
     14, 6,
@@ -76,7 +76,7 @@ const DRAWN: [usize; 32] = [
 /// What often follows a kind, on the same name: so a put is often followed by an unmap, a write and a read.
 const NEXT: [usize; 15] = [7, 7, 7, 7, 0, 9, 7, 8, 5, 6, 9, 7, 7, 7, 7];
 
-/// Numbers that look like chance, the same in each run.
+/// Pseudorandom numbers, the same in each run.
 #[derive(Drop)]
 struct Chance {
     state: u64,
@@ -206,7 +206,7 @@ fn cause_of(question: Question, nth: u64) -> &'static str {
     }
 }
 
-/// One type of non-coherent memory that the host sees, and questions that are refused.
+/// One type of non-coherent host-visible memory, and questions that are refused.
 fn draw_plan(alloc: Global, chance: &mut Chance) -> Result<Plan, AllocError> {
     let mut text = String::new(alloc);
     let mut refused = Vec::new(alloc);
@@ -350,8 +350,8 @@ fn commands_of(alloc: Global, lines: &[Line]) -> Result<Vec<Command>, AllocError
     Ok(commands)
 }
 
-/// What was written to the blocks of each name, a number for each byte: it has the bit `v` where the byte may have the
-/// value `v`, and none where no write has covered the byte since the block was granted.
+/// What was written to the blocks of each name, as a number for each byte. It has the bit `v` where the byte may have
+/// the value `v`, and no bit where no write has covered the byte since the block was granted.
 #[derive(Drop)]
 struct Written {
     values: Vec<u64>,
@@ -379,7 +379,7 @@ impl Written {
         }
     }
 
-    /// The values of a byte, none where it is not kept.
+    /// The values of a byte, 0 where it is not kept.
     fn bits(&mut self, name: u64, byte: u64) -> u64 {
         match self.at(name, byte) {
             Some(bits) => *bits,
@@ -406,7 +406,7 @@ impl Written {
         }
     }
 
-    /// These bytes are the values from an offset on; where they only may be, they are so beside those that there are.
+    /// These bytes are the values from an offset on. Where they only may be, they are added to those that there are.
     fn cover(&mut self, name: u64, offset: u64, bytes: &[u8], is_sure: bool) {
         let mut byte = offset;
         for value in bytes {
@@ -461,7 +461,7 @@ impl Written {
         }
     }
 
-    /// After a command: whether its reply gives no byte a value that it may not have.
+    /// After a command: whether its reply gives no byte a value that it cannot have.
     fn after(&mut self, line: &Line, reply: &Reply) -> bool {
         let [name, offset, ..] = line.numbers;
         match reply {
@@ -484,16 +484,16 @@ impl Written {
     }
 }
 
-/// Whether a write that was refused so may have moved bytes.
+/// Whether a write with this error may have moved bytes.
 fn may_have_moved(error: MapError) -> bool {
     error != MapError::AlreadyMapped && error != MapError::MapFailed
 }
 
-/// After how many commands what is told of each byte is compared.
+/// After how many commands the possible values of each byte are compared.
 const PART: usize = 20;
 
-/// Compares each reply with what was written, and what is told of each byte after each part of the list; counts what
-/// occurs.
+/// Compares each reply with what was written, and the possible values of each byte after each part of the list; counts
+/// what occurs.
 fn check_replies(
     rt: &impl Abort,
     alloc: Global,
@@ -527,8 +527,8 @@ fn bits_of(values: &[u8]) -> u64 {
     bits
 }
 
-/// Compares what is told of each byte by the commands and their replies with what was written, and counts the bytes
-/// that have values.
+/// Compares the possible values of each byte, from the commands and their replies, with what was written, and counts
+/// the bytes that have values.
 fn compare_told(
     rt: &impl Abort,
     alloc: Global,
@@ -559,7 +559,7 @@ pub(super) fn session_of(
     Ok(scripts::open_session(rt, alloc, &script.setup)?)
 }
 
-/// Runs commands as one list: the replies, and the device at the end.
+/// Runs commands as one list. Returns the replies, and the device at the end.
 fn run_list(
     mut session: SimSession<Global>,
     commands: &[Command],
@@ -568,7 +568,7 @@ fn run_list(
     (replies, session.finish())
 }
 
-/// The replies to a list, and what a script of it has to print.
+/// The replies to a list, and what a script of it must print.
 fn answers(
     rt: &impl Abort,
     alloc: Global,

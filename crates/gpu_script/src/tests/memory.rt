@@ -1,4 +1,4 @@
-//! Host memory that is refused: to the program, and to single commands of which each request is refused in turn.
+//! Host memory that is refused: to the program, and to single commands, each of whose requests is refused in turn.
 
 use super::same::{same, same_at};
 use super::scarce::{Outcome, Refusals, ScarceSession};
@@ -11,7 +11,7 @@ use std::alloc::{AllocError, Allocator, Global};
 use std::process::Abort;
 use std::test::Fail;
 
-/// Runs a command where so many bytes are left. Where that was refused, what is held has to be as before.
+/// Runs a command where `room` bytes are left. Where they are too few, what is held must be as before.
 fn outcome_in<A: Allocator + Copy>(
     rt: &impl Abort,
     alloc: Global,
@@ -34,7 +34,7 @@ fn compare_held(rt: &impl Abort, outcome: Outcome, after: &[String], before: &[S
     same_at(rt, "held after", &outcome, &after, &before);
 }
 
-/// Runs the earlier commands with ample memory, and then one command where so many bytes are left. At the end the device
+/// Runs the earlier commands with ample memory, and then one command where `room` bytes are left. At the end the device
 /// holds nothing.
 fn outcome_of<A: Allocator + Copy>(
     rt: &impl Abort,
@@ -68,7 +68,7 @@ fn outcome_of_script(
     outcome_of(rt, alloc, &memory, host, earlier, command, room)
 }
 
-/// Which refusals a command comes to, as more bytes are left until it is served.
+/// Which refusals a command meets, as more bytes are left until it is served.
 fn refusals(
     rt: &impl Abort,
     alloc: Global,
@@ -92,7 +92,7 @@ const BASE: &str = "heap 1048576\ntype 0 1\n";
 /// A buddy block and a mapped object of its own are held.
 const HELD: &str = "heap 1048576\ntype 0 6\nalloc 1 64 0 2 1\nrequired 2 64 0 2 1\nmap 2 0 64\n";
 
-/// Commands, and which refusals they come to. Those that take no memory only find no place for their reply.
+/// Commands, and which refusals they meet. Those that take no memory only lack a place for their reply.
 const WANTS: [(&str, &str, Refusals); 17] = [
     (BASE, "required 1 100 0 0 1", [true, true, true]),
     (BASE, "preferred 1 1024 0 0 1", [true, true, true]),
@@ -122,12 +122,12 @@ fn each_request_for_memory_is_refused_in_turn(rt: HostRuntime) -> Result<(), Fai
     Ok(())
 }
 
-/// Two blocks. The second is an object of its own of so many bytes that the rest runs where they are refused.
+/// Two blocks. The second is an object of its own, with so many bytes that the rest runs where they are refused.
 const SCRIPT: &str =
     "heap 1048576\ntype 0 6\nrefuse map 3 failed\nrequired 1 8 0 2 1\nwrite 1 0 00\nread 1 0 8\n\
 required 2 4096 0 2 1\nranges 0\nfree 1";
 
-/// How a script ends, and what it prints, where so many bytes are left.
+/// How a script ends, and what it prints, where `room` bytes are left.
 fn script_in(alloc: Global, room: usize) -> Result<(u8, Vec<u8>), Fail> {
     let memory = ScarceMemory::new(alloc)?;
     memory.leave(room)?;
@@ -145,7 +145,7 @@ fn ample_script(alloc: Global) -> (u8, Vec<u8>) {
     (status, output)
 }
 
-/// How many lines are printed. There are none where it is no text.
+/// How many lines are printed, 0 where it is not a text.
 fn lines_of(printed: &[u8]) -> usize {
     match str::from_utf8(printed) {
         Ok(text) => text.lines().count(),
@@ -166,7 +166,7 @@ enum Ended {
     Whole,
 }
 
-/// How a script ends where so many bytes are left. What is printed then is compared.
+/// How a script ends where `room` bytes are left. What it then prints is compared.
 fn ended_in(rt: &impl Abort, alloc: Global, whole: &[u8], room: usize) -> Result<Ended, Fail> {
     let (status, printed) = script_in(alloc, room)?;
     let printed = printed.as_slice();
@@ -194,7 +194,7 @@ fn ended_in(rt: &impl Abort, alloc: Global, whole: &[u8], room: usize) -> Result
     Ok(Ended::Refused)
 }
 
-/// Each request of the program's own for memory is refused in turn. Then it says so alone, by its status too. Those that
+/// Each request of the program's own for memory is refused in turn. Then it says only so, by its status too. Those that
 /// its commands make are answered by a line each, and the rest runs.
 #[test]
 fn a_program_without_memory_says_so_alone(rt: HostRuntime) -> Result<(), Fail> {
@@ -218,7 +218,7 @@ fn a_program_without_memory_says_so_alone(rt: HostRuntime) -> Result<(), Fail> {
     Err(Fail::from("never printed whole"))
 }
 
-/// What is printed of each fault.
+/// The text of each fault.
 pub(super) const FAULTS: [(Fault, &str); 12] = [
     (Fault::NameInUse, "fault 1 NameInUse"),
     (Fault::UnknownName, "fault 2 UnknownName"),

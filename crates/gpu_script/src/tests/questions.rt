@@ -12,16 +12,16 @@ use std::alloc::{AllocError, Allocator, Global};
 use std::process::Abort;
 use std::test::Fail;
 
-/// What is answered for want of device memory.
+/// The answer for want of device memory.
 const DEVICE: &str = "refused: Device memory exhausted";
 
-/// What is answered for want of host memory.
+/// The answer for want of host memory.
 const HOST: &str = "refused: Host memory exhausted";
 
 /// The script has blocks of each kind in two equal types, each in a heap of its own. It asks the device for four
-/// allocations, two mappings, two flushes and two invalidates: each of them with the causes for which it is refused,
-/// the place of the command that asks it and what that is answered, and how many allocations are asked for in all. A
-/// type that is passed leaves the request to the other one.
+/// allocations, two mappings, two flushes and two invalidates. A row has one of them with a cause for which it is
+/// refused, the place of the command that asks it and its answer, and how many allocations are asked for in all. A type
+/// that is passed over leaves the request to the other one.
 const REFUSED: [(&str, usize, &str, u64); 22] = [
     (
         "allocate 1 device",
@@ -67,8 +67,8 @@ const REFUSED: [(&str, usize, &str, u64); 22] = [
     ("invalidate 2 host", 6, HOST, 4),
 ];
 
-/// What is told of what is held: the counts, and the free ranges of the first two types. It is asked and printed with the
-/// session's own memory.
+/// What is held: the counts, and the free ranges of the first two types. It is asked and printed with the session's own
+/// memory.
 pub(super) fn told<A: Allocator + Copy>(
     alloc: Global,
     host: A,
@@ -86,7 +86,7 @@ pub(super) fn told<A: Allocator + Copy>(
     Ok(told)
 }
 
-/// What is printed of a reply with the session's own memory.
+/// The text of a reply, with the session's own memory.
 fn printed_in<A: Allocator + Copy>(
     alloc: Global,
     host: A,
@@ -97,19 +97,19 @@ fn printed_in<A: Allocator + Copy>(
     String::from_str(alloc, line.as_str())
 }
 
-/// The ledger of a heap, by what is told of the counts: it follows six words.
+/// The ledger of a heap, from the text of the counts: it follows six words.
 fn ledger_of(counts: &str, heap: usize) -> Option<&str> {
     counts.split(' ').nth(heap.saturating_add(6))
 }
 
-/// The ledger of a type's heap and its free ranges, by what is told.
+/// The ledger of a type's heap and its free ranges, from these texts.
 fn of_type(told: &[String], memory_type: usize) -> Option<(&str, &str)> {
     let ledger = ledger_of(told.first()?.as_str(), memory_type)?;
     let ranges = told.get(memory_type.saturating_add(1))?;
     Some((ledger, ranges.as_str()))
 }
 
-/// Compares what is told of a type before and after a command that changes nothing of it.
+/// Compares the texts of a type before and after a command that changes nothing of it.
 fn compare_type(rt: &impl Abort, memory_type: usize, before: &[String], after: &[String]) {
     let held = of_type(before, memory_type);
     same_at(
@@ -128,8 +128,8 @@ fn compare_type(rt: &impl Abort, memory_type: usize, before: &[String], after: &
     );
 }
 
-/// Compares what is told before and after a command that is answered so: a grant changes no type but its own, and what
-/// is neither granted nor done changes nothing.
+/// Compares the texts before and after a command with this reply. A grant changes no type but its own, and what is
+/// neither granted nor done changes nothing.
 fn compare_told(rt: &impl Abort, reply: &Reply, before: &[String], after: &[String]) {
     match reply {
         Reply::Granted { memory_type, .. } => {
@@ -149,7 +149,7 @@ fn compare_told(rt: &impl Abort, reply: &Reply, before: &[String], after: &[Stri
     }
 }
 
-/// Runs each command as a list of its own, and adds what it is answered. What it may not change is compared.
+/// Runs each command as a list of its own, and adds its reply. What it may not change is compared.
 fn run_apart(
     rt: &impl Abort,
     alloc: Global,
@@ -176,7 +176,7 @@ fn add_reply(printed: &mut String, reply: &Reply) -> Result<(), AllocError> {
     printed.push('\n')
 }
 
-/// What a script prints whose commands are run so.
+/// What a script prints whose commands are run that way.
 fn printed_apart(rt: &impl Abort, alloc: Global, text: &str) -> Result<String, Fail> {
     let script = good_script(alloc, text)?;
     let mut session = session_of(rt, alloc, text)?;
@@ -197,8 +197,8 @@ fn ended(session: SimSession<Global>) -> (usize, u64) {
     counts
 }
 
-/// Compares what the script prints with a refused question, by one list a command and by the program, with what the
-/// command is answered that asks it and with how it ends.
+/// Compares what the script prints with a refused question, by one list a command and by the program, with the reply to
+/// the command that asks it and with how it ends.
 fn compare_refused(
     rt: &impl Abort,
     alloc: Global,

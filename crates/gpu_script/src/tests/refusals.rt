@@ -1,4 +1,4 @@
-//! Refused requests: which refusal it is, what the device is asked, and that nothing is left behind.
+//! Refused requests: which error it is, what the device is asked, and that nothing is left behind.
 
 use super::bench::{
     Ask, Bench, Counts, DEVICE_LOCAL, HEAPS, Step, TYPES, offering, one_type, play_on,
@@ -10,7 +10,7 @@ use std::alloc::{Allocator, Global};
 use std::process::Abort;
 use std::test::Fail;
 
-/// Requests of no memory type, how many objects the device allows, and the refusals.
+/// Requests of no memory type, how many objects the device allows, and the errors.
 const ORDERED: [(u32, [Step; 1]); 4] = [
     (
         4096,
@@ -42,7 +42,7 @@ const ORDERED: [(u32, [Step; 1]); 4] = [
     ),
 ];
 
-/// A request that is too large comes before the count of objects, and that before the memory types.
+/// A request that is too large is refused before the count of objects is tested, and that before the memory types.
 #[test]
 fn refusals_come_in_their_order(rt: HostRuntime) -> Result<(), Fail> {
     for (count, steps) in &ORDERED {
@@ -97,7 +97,7 @@ fn a_device_without_memory_types_serves_nothing(rt: HostRuntime) -> Result<(), F
     play_on(&rt, rt.alloc(), offering(&[], &HEAPS), &NO_TYPES)
 }
 
-/// What a device offers that has these memory types in one heap, and allows one object.
+/// A device with these memory types in one heap, which allows one object.
 fn one_object(types: &'static [MemoryType]) -> DeviceProperties<'static> {
     DeviceProperties {
         max_memory_allocation_count: 1,
@@ -124,13 +124,13 @@ const NOT_PASSED: [Step; 3] = [
     Step::Refuse(Ask::OfTypes(100, 3), AllocationError::TooManyObjects, 0),
 ];
 
-/// A memory type for which no more objects may be held is not passed, though a later one has a free piece.
+/// A memory type for which no more objects may be held is not passed over, though a later one has a free piece.
 #[test]
 fn a_lack_of_objects_is_not_passed(rt: HostRuntime) -> Result<(), Fail> {
     play_on(&rt, rt.alloc(), one_object(&TWO_TYPES), &NOT_PASSED)
 }
 
-/// How far a request came where few bytes were left.
+/// How far a request got where few bytes were left.
 #[derive(Clone, Copy)]
 enum Reached {
     /// The device was not asked.
@@ -139,14 +139,14 @@ enum Reached {
     /// The device was asked, and found no memory.
     Question,
 
-    /// The device made an object, which went back for want of a second handle.
+    /// The device made an object, which was released for want of a second handle.
     Object,
 
-    /// There was memory enough.
+    /// There was enough memory.
     Block,
 }
 
-/// A request that takes a new chunk of so many bytes, and those that are granted before it.
+/// A request that takes a new chunk of `chunk` bytes, and those that are granted before it.
 #[derive(Clone, Copy)]
 struct Growth {
     before: &'static [Ask],
@@ -163,7 +163,7 @@ fn compare_kept(rt: &impl Abort, room: usize, before: Counts, counts: Counts) {
     same_at(rt, "what is held in", &room, &held, &before);
 }
 
-/// Asks once more with ample memory, for which the device is asked for such a chunk. The name of its object.
+/// Asks once more with ample memory, for which the device is asked for such a chunk. Returns the name of its object.
 fn ask_again<A: Allocator + Copy>(
     rt: &impl Abort,
     bench: &mut Bench<A>,
@@ -186,8 +186,8 @@ fn ask_again<A: Allocator + Copy>(
     }
 }
 
-/// How far such a request came that was refused. No more is held than before, and the same request is granted with
-/// ample memory: its object's name tells whether there was one in between.
+/// How far such a refused request got. No more is held than before, and the same request is granted with ample memory:
+/// its object's name tells whether there was one in between.
 fn how_far<A: Allocator + Copy>(
     rt: &impl Abort,
     bench: &mut Bench<A>,
@@ -207,7 +207,7 @@ fn how_far<A: Allocator + Copy>(
     }
 }
 
-/// Takes what is granted before a growth.
+/// Allocates what is granted before a growth.
 fn take_before<A: Allocator + Copy>(rt: &impl Abort, bench: &mut Bench<A>, growth: Growth) {
     for ask in growth.before {
         let answer = bench.ask(rt, ask.request(), None);
@@ -215,7 +215,7 @@ fn take_before<A: Allocator + Copy>(rt: &impl Abort, bench: &mut Bench<A>, growt
     }
 }
 
-/// How far a request comes where so many bytes are left.
+/// How far a request gets where `room` bytes are left.
 fn ask_in<A: Allocator + Copy>(
     rt: &impl Abort,
     memory: &ScarceMemory,
@@ -253,8 +253,9 @@ fn reached_in(
     Ok(ask_in(rt, &memory, bench, growth, room))
 }
 
-/// Each request for host memory is refused in turn, as 8 bytes more are left until the block is granted. Once there is an
-/// object only its second handle is wanted, so one room at most comes that far: all else was made before the question.
+/// Each request for host memory is refused in turn, as 8 bytes more are left until the block is granted. Once there is
+/// an object, only its second handle is still needed, so at most one room gets that far: all else was made before the
+/// question.
 fn compare_wants(rt: &impl Abort, alloc: Global, growth: Growth) -> Result<(), Fail> {
     let mut nothing = 0u32;
     let mut question = 0u32;
@@ -303,8 +304,8 @@ fn a_want_of_host_memory_leaves_nothing(rt: HostRuntime) -> Result<(), Fail> {
     Ok(())
 }
 
-/// A second chunk, for which the pieces of a buddy allocator grow, a fifth one of it, for which its chunks alone grow,
-/// and a fifth one of a free list, for which all its lists grow.
+/// A second chunk, for which the pieces of a buddy allocator grow, its fifth one, for which only its chunks grow, and a
+/// fifth one of a free list, for which all its lists grow.
 const LATER: [Growth; 3] = [
     Growth {
         before: &[Ask::Bytes(100)],

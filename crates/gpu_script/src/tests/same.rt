@@ -1,17 +1,17 @@
-//! Comparisons that say what they compare. Tests call these, since the words of a failed comparison are slow to prove.
-//! Each crate of tests has this file: tests of two crates share no code.
+//! Comparisons with a message. Tests call these, since the words of a failed comparison are slow to prove. Each crate
+//! of tests has this file: tests of two crates share no code.
 
 ghost use Rattle.std.specs.Prelude.{◌≡◌, ◌<◌, IsTrue};
 
 use std::fmt::Debug;
 use std::process::Abort;
 
-/// What came has to be what is wanted.
+/// The actual value must be the expected one.
 pub(super) fn same<T: PartialEq + Debug>(rt: &impl Abort, what: &str, came: &T, wanted: &T) {
     assert_eq!(rt; *came, *wanted, "{what}");
 }
 
-/// The same in a row or a step, of which the message tells the number or the name.
+/// The same in a row or a step, whose number or name is in the message.
 pub(super) fn same_at<T: PartialEq + Debug>(
     rt: &impl Abort,
     what: &str,
@@ -22,14 +22,14 @@ pub(super) fn same_at<T: PartialEq + Debug>(
     assert_eq!(rt; *came, *wanted, "{what} {at:?}");
 }
 
-/// That has to hold, which the proof of what comes after may rest on. If not, the message says what is wrong.
+/// The condition must hold, and proofs of what comes after may use it. If not, the message says what is wrong.
 pub(super) fn holds(rt: &impl Abort, is_so: bool, wrong: &str)
     ensures { IsTrue is_so }
 {
     assert!(rt; is_so, "{wrong}");
 }
 
-/// A number has to be below another. If not, the message says what is wrong.
+/// A number must be below another. If not, the message says what is wrong.
 pub(super) fn below(rt: &impl Abort, number: usize, bound: usize, wrong: &str)
     ensures { number < bound }
 {

@@ -1,4 +1,4 @@
-//! A session over host memory that runs out, and what a command comes to there.
+//! A session over host memory that runs out, and how a command ends there.
 
 ghost use Rattle.std.specs.Prelude.{◌≡◌, IfOk, IfErr};
 ghost use Rattle.gpu_alloc_types.specs.Properties.{IsUsable};
@@ -16,28 +16,28 @@ use std::marker::Model;
 use std::process::Abort;
 use std::test::Fail;
 
-/// What one command came to.
+/// How one command ended.
 #[derive(Clone, Copy, Debug, PartialEq, Eq)]
 pub(super) enum Outcome {
-    /// It met no refusal of memory.
+    /// It lacked no memory.
     Served,
 
-    /// No place for its reply.
+    /// There was no place for its reply.
     NothingRan,
 
-    /// The session's own memory was refused.
+    /// The session lacked memory.
     NoMemory,
 
-    /// The allocator's memory, or the device's, was refused.
+    /// The allocator or the device lacked memory.
     Refused,
 }
 
-/// Which refusals a command comes to: no place for its reply, no memory for the session, none for the allocator or the
+/// Which refusals a command meets: no place for its reply, no memory for the session, none for the allocator or the
 /// device.
 pub(super) type Refusals = [bool; 3];
 
 impl Outcome {
-    /// What one command was answered by.
+    /// The outcome of one command with these replies.
     pub(super) fn of<A: Allocator>(replies: &Result<Vec<Reply<A>, A>, AllocError>) -> Outcome {
         let Ok(replies) = replies else {
             return Outcome::NothingRan;
@@ -76,7 +76,7 @@ impl<'a, A: Allocator + Copy> Model for ScarceSession<'a, A> {
 }
 
 impl<'a, A: Allocator + Copy> ScarceSession<'a, A> {
-    /// One over the device that a script describes. Its memory is that which runs out.
+    /// A session over the device that a script describes. Its own memory runs out.
     pub(super) fn new(
         rt: &impl Abort,
         memory: &'a ScarceMemory,
@@ -91,8 +91,8 @@ impl<'a, A: Allocator + Copy> ScarceSession<'a, A> {
         })
     }
 
-    /// The same where so many bytes are left once the device is made. Where that was refused it is opened over the
-    /// device that came back, with ample memory. It tells whether those bytes were enough.
+    /// The same where `room` bytes are left once the device is made. Where those are too few, it is opened over the
+    /// device that came back, with ample memory. Returns whether those bytes were enough.
     pub(super) fn in_room(
         rt: &impl Abort,
         memory: &'a ScarceMemory,
@@ -122,23 +122,23 @@ impl<'a, A: Allocator + Copy> ScarceSession<'a, A> {
         self.session.run(commands)
     }
 
-    /// What commands come to that are run as one list.
+    /// The outcome of commands that are run as one list.
     pub(super) fn outcome(&mut self, commands: &[Command<A>]) -> Outcome {
         Outcome::of(&self.session.run(commands))
     }
 
-    /// From now on so many bytes are left.
+    /// From now on `room` bytes are left.
     pub(super) fn leave(&self, rt: &impl Abort, room: usize) {
         let left = self.memory.leave(room).is_ok();
         same_at(rt, "left are", &room, &left, &true);
     }
 
-    /// Loses so many bytes, if they are left.
+    /// Loses `count` bytes, if they are left.
     pub(super) fn lose(&self, count: usize) {
         let _lost: Result<Vec<u8, A>, AllocError> = Vec::with_capacity(self.host, count);
     }
 
-    /// What is told of what is held. From now on memory is ample.
+    /// What is held. From now on memory is ample.
     pub(super) fn told(&mut self, alloc: Global) -> Result<Vec<String>, AllocError> {
         self.memory.lift();
         told(alloc, self.host, &mut self.session)
@@ -165,7 +165,7 @@ fn device_of<A: Allocator + Copy>(host: A, setup: &Setup<A>) -> Result<Sim<A>, A
     Sim::new(host, setup.properties())
 }
 
-/// A session over it, or the device where that is refused its memory.
+/// A session over it, or the device where the session lacks memory.
 fn open_over<A: Allocator + Copy>(
     host: A,
     setup: &Setup<A>,

@@ -1,4 +1,4 @@
-//! Scripts and what they print: small ones over one object or two.
+//! Scripts and what they print: small ones over one or two objects.
 
 ghost use Rattle.gpu_alloc_types.specs.Properties.{IsUsable};
 ghost use Rattle.gpu_script_language.specs.Setup.{offered};
@@ -40,7 +40,7 @@ pub(super) fn compare(rt: &impl Abort, alloc: Global, rows: &[(&str, &str, u8)])
     }
 }
 
-/// An allocator has to be able to stand on what setup lines describe.
+/// An allocator can be built on what setup lines describe.
 pub(super) fn are_usable<A: Allocator + Copy>(rt: &impl Abort, setup: &Setup<A>)
     ensures { IsUsable (offered setup.now) }
 {
@@ -57,7 +57,7 @@ pub(super) fn open_session<A: Allocator + Copy>(
     open(alloc, setup)
 }
 
-/// The script of lines that are good.
+/// The script in valid lines.
 pub(super) fn good_script<A: Allocator + Copy>(alloc: A, text: &str) -> Result<Script<A>, Fail> {
     match parse(alloc, text.as_bytes()) {
         Ok(script) => Ok(script),
@@ -67,7 +67,7 @@ pub(super) fn good_script<A: Allocator + Copy>(alloc: A, text: &str) -> Result<S
 
 /// Blocks that are objects of their own, and requests for such that are refused.
 const OWN_OBJECTS: [(&str, &str, u8); 13] = [
-    // Nothing remains: nothing is asked.
+    // No more objects may be held: nothing is asked.
     (
         "heap 1048576\ntype 0 1\nlimits 1 1073741824\nrequired 1 10 0 0 1\nrequired 2 32768 0 0 1\ncounts",
         "block type 0 object 1 offset 0 size 10\nrefused: Reached limit on allocated memory objects count\ncounts remaining 0 held 1 used 10\nend objects 0 allocations 1\n",
@@ -108,7 +108,7 @@ const OWN_OBJECTS: [(&str, &str, u8); 13] = [
         "refused: Reached limit on allocated memory objects count\nrefused: Device memory exhausted\nend objects 0 allocations 0\n",
         0,
     ),
-    // Heaps that are as small as the request, or smaller, and no types at all.
+    // Heaps as small as the request, or smaller, and no types at all.
     (
         "heap 31\ntype 0 1\nrequired 1 31 0 0 1\nrequired 2 32 0 0 1",
         "block type 0 object 1 offset 0 size 31\nrefused: Device memory exhausted\nend objects 0 allocations 1\n",

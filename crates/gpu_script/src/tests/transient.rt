@@ -1,4 +1,4 @@
-//! Transient requests: from which free run a block is taken, which chunk is asked for, and which chunks go back.
+//! Transient requests: from which free run a block is taken, which chunk is asked for, and which chunks are released.
 
 use super::bench::{
     Ask, Bench, HEAPS, Step, TYPES, offering, one_type, play, play_on, play_refused, take_step,
@@ -23,8 +23,8 @@ const TAILS: [Step; 7] = [
     Step::Asked(131072, 0, 0),
 ];
 
-/// A block is the tail of the last run with room, and a chunk has twice as much as the one before it, or more where it
-/// has to.
+/// A block is the tail of the last run with room, and a chunk is twice as large as the one before it, or larger where
+/// it must be.
 #[test]
 fn blocks_are_tails_of_the_last_run(rt: HostRuntime) -> Result<(), Fail> {
     play_on(&rt, rt.alloc(), offering(&TYPES, &LARGE), &TAILS)
@@ -41,7 +41,7 @@ const JOINED: [Step; 8] = [
     Step::Grant(Ask::Transient(2000), (1, 6192, 2000)),
 ];
 
-/// A block that comes back is joined with the run before it and with the one after it.
+/// A returned block is joined with the run before it and with the one after it.
 #[test]
 fn what_comes_back_is_joined(rt: HostRuntime) -> Result<(), Fail> {
     play_on(&rt, rt.alloc(), one_type(), &JOINED)
@@ -57,7 +57,7 @@ const CLEANED: [Step; 7] = [
     Step::Held(0, 4096, 0),
 ];
 
-/// The chunk in which nothing is live stays as long as the last run lies in it, and a cleanup gives it back.
+/// The chunk in which nothing is live stays as long as the last run lies in it, and a cleanup releases it.
 #[test]
 fn a_cleanup_gives_back_what_returns_keep(rt: HostRuntime) -> Result<(), Fail> {
     play_on(&rt, rt.alloc(), one_type(), &CLEANED)
@@ -77,7 +77,7 @@ const KEPT: [Step; 11] = [
     Step::Held(0, 4096, 0),
 ];
 
-/// A return gives back what is wholly free but for the last run's chunk, and a return of another kind does not.
+/// A return releases what is wholly free except the last run's chunk, and a return of another kind does not.
 #[test]
 fn the_last_runs_chunk_is_kept(rt: HostRuntime) -> Result<(), Fail> {
     play_on(&rt, rt.alloc(), one_type(), &KEPT)
@@ -92,21 +92,21 @@ const LARGER: [Step; 6] = [
     Step::Asked(32768, 0, 0),
 ];
 
-/// A chunk has as many times the next one's size as it has to, by a power of two, and the one after it as much as may
+/// A chunk is the next one's size times a power of two, as small as suffices, and the one after it is as large as may
 /// be.
 #[test]
 fn a_large_request_makes_a_larger_chunk(rt: HostRuntime) -> Result<(), Fail> {
     play_on(&rt, rt.alloc(), one_type(), &LARGER)
 }
 
-/// A memory type that the host sees and has to flush.
+/// A memory type that is host-visible and must be flushed.
 const NON_COHERENT: [MemoryType; 1] = [MemoryType {
     heap: 0,
     props: MemoryPropertyFlags::HOST_VISIBLE,
 }];
 
-/// Heaps over memory that has to be flushed by atoms of 64 bytes, and blocks of them: one that an object of its own has,
-/// one that is the whole of the least chunk, and some that share one.
+/// Heaps over memory that must be flushed by atoms of 64 bytes, and blocks of them. One has an object of its own, one
+/// is the whole of the least chunk, and some share one.
 const ATOMS: [([MemoryHeap; 1], &[Step]); 3] = [
     (
         [MemoryHeap { size: 3200 }],
@@ -193,7 +193,7 @@ const RETURNS: [Step; 4] = [
     Step::Return(2, 8384),
 ];
 
-/// What is held after these, in whichever order, and what later requests get.
+/// What is held after these, in any order, and what later requests get.
 const LATER: [Step; 4] = [
     Step::Held(1, 4095, 16384),
     Step::Grant(Ask::Transient(2000), (2, 14384, 2000)),

@@ -37,7 +37,7 @@ fn an_allocator_is_opened_used_and_closed(rt: HostRuntime) -> Result<(), Fail> {
 
 type Cache = TextureCache<SimMemory, Sim>;
 
-/// A texture of so many bytes, which may be asked for.
+/// A valid request for a texture of `size` bytes.
 fn texture(rt: &impl Abort, size: u64) -> Request
     ensures { IsAskable false result }
 {
@@ -52,8 +52,8 @@ fn found(cache: &Cache) -> [Option<u64>; 4] {
     [at(1), at(2), at(3), at(4)]
 }
 
-/// Three textures of a third of the heap and one more, for which the oldest goes; one that is larger than the heap, for
-/// which none goes; and one that is taken out by its key.
+/// Three textures of a third of the heap and one more, for which the oldest is evicted. One that is larger than the
+/// heap, for which none is. And one that is evicted by its key.
 fn cache_textures(rt: &impl Abort, cache: &mut Cache) {
     let third = 340 << 10;
     for key in 1..5 {

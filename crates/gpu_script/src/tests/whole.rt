@@ -250,7 +250,7 @@ fn bytes_stay_in_their_blocks(rt: HostRuntime) {
     compare(&rt, rt.alloc(), &BYTES);
 }
 
-/// Commands that miss a condition, and a candidate that is passed.
+/// Commands that miss a condition, and a candidate that is passed over.
 const CONDITIONS: [(&str, &str, u8); 3] = [
     (
         "\
@@ -355,7 +355,7 @@ fn what_is_not_served_changes_nothing(rt: HostRuntime) {
     compare(&rt, rt.alloc(), &CONDITIONS);
 }
 
-/// Heaps that have room for some requests and for others not, beside imports that they are not asked for.
+/// Heaps with room for some requests and not for others, next to imports that they are not asked for.
 const BUDGETS: [(&str, &str, u8); 4] = [
     // As much as a heap has is granted, and a byte more is not. A place is used whatever is held.
     (
@@ -388,7 +388,7 @@ end objects 0 allocations 4
 ",
         0,
     ),
-    // The next type's heap has room, and it alone is asked.
+    // The next type's heap has room, and only that type is asked.
     (
         "\
 heap 100
@@ -407,7 +407,8 @@ end objects 0 allocations 2
 ",
         0,
     ),
-    // Where nothing remains either, that is told, of a chunk of each kind and of an object of a block's own.
+    // Where no more objects may be held either, that is the error, for a chunk of each kind and for an object of a
+    // block's own.
     (
         "\
 heap 10000
@@ -437,7 +438,7 @@ end objects 0 allocations 1
 ",
         0,
     ),
-    // What is held and what is wanted are together more than 64 bits hold.
+    // What is held and what is requested together exceed 64 bits.
     (
         "\
 heap 18446744073709551615

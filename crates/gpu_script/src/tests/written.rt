@@ -1,4 +1,4 @@
-//! What `values_of` tells of bytes, by the commands of a script and their replies.
+//! What `values_of` returns for bytes, from the commands of a script and their replies.
 
 use super::lists::session_of;
 use super::same::{same, same_at};
@@ -13,7 +13,7 @@ use std::test::Fail;
 /// first.
 type Told = (u32, u64, &'static [u8]);
 
-/// What a table tells of a byte.
+/// What a table says of a byte.
 fn row_of(rows: &[Told], name: u32, byte: u64) -> &'static [u8] {
     for (of, at, values) in rows {
         if *of == name && *at == byte {
@@ -43,8 +43,8 @@ fn answered(
     Ok(replies)
 }
 
-/// Compares what is told of the first bytes of four blocks by commands and their replies: of the bytes of a table that,
-/// and of all others nothing.
+/// Compares the values of the first bytes of four blocks, from commands and their replies. Bytes of a table have the
+/// table's values, and all others none.
 fn compare_told(
     rt: &impl Abort,
     alloc: Global,
@@ -69,7 +69,7 @@ fn compare_told(
     Ok(())
 }
 
-/// Compares what is told after the commands of a script, run as one list and as two.
+/// Compares the values after the commands of a script, run as one list and as two.
 fn compare(rt: &impl Abort, alloc: Global, text: &str, rows: &[Told]) -> Result<(), Fail> {
     let script = good_script(alloc, text)?;
     let commands = script.commands.as_slice();
@@ -80,7 +80,7 @@ fn compare(rt: &impl Abort, alloc: Global, text: &str, rows: &[Told]) -> Result<
     Ok(())
 }
 
-/// Puts and refused writes over bytes that were written, and blocks that go and come again.
+/// Puts and refused writes over bytes that were written, and blocks that are freed and granted again.
 const PUTS: &str = "\
 heap 1048576
 type 0 2
@@ -111,13 +111,13 @@ write 2 0 77
 write 2 0 88
 ";
 
-/// A refused write alone gives its bytes no value.
+/// A refused write alone gives its bytes no values.
 const AFTER_A_REFUSAL: [Told; 3] = [(1, 3, &[0x61]), (1, 4, &[0x62]), (1, 5, &[0x63])];
 
-/// A put alone tells nothing, since the device may see any byte there.
+/// A put alone gives no values, since the device may see any byte there.
 const AFTER_A_PUT: [Told; 2] = [(1, 0, &[0xaa]), (1, 1, &[0xbb])];
 
-/// A write that is refused since its block is mapped, or by a mapping that failed, gives no byte a value.
+/// A write gives no byte a value if it is refused because its block is mapped, or because the mapping failed.
 const AFTER_PUTS: [Told; 3] = [
     (1, 4, &[0xee, 0xaa]),
     (1, 5, &[0x11, 0xff, 0xff, 0xdd]),

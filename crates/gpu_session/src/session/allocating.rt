@@ -1,4 +1,4 @@
-//! Commands that grant blocks and give them back.
+//! Commands that grant and free blocks.
 
 ghost use Rattle.std.specs.Prelude.{◌≡◌, ◌<◌, nat_eq, None};
 ghost use Rattle.std.specs.FinMap as map;
@@ -15,7 +15,7 @@ use gpu_alloc::{AllocationError, Dedicated, MemoryBlock, Request};
 use gpu_alloc_types::{MemoryDevice, MemoryObject};
 use std::alloc::Allocator;
 
-/// Keeps a block under a name that has none, and tells of it. There has to be room for its entry.
+/// Keeps a block under a free name, and describes it in the reply. Room for its entry was made.
 fn keep<M: MemoryObject, A: Allocator + Copy>(
     blocks: &mut Blocks<M, A>,
     name: u32,
@@ -90,7 +90,7 @@ impl<M: MemoryObject, D: MemoryDevice<M>, A: Allocator + Copy> Session<M, D, A> 
     }
 
     /// Answers `Import`. Room for the block's entry is made before the device is asked; where the allocator then finds
-    /// no memory, the object goes back.
+    /// no memory, the object is released.
     pub(super) fn import(
         &mut self,
         name: u32,

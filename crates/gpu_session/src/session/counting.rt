@@ -1,4 +1,4 @@
-//! Commands that tell and set counts.
+//! Commands that read and set counts.
 
 ghost use Rattle.std.specs.Prelude.{◌≡◌, IfOk};
 ghost use Rattle.gpu_session.specs.Does.{IsEachLedger};

@@ -1,4 +1,4 @@
-//! What a session tells of itself beside its replies.
+//! What a session reports of itself apart from its replies.
 
 ghost use Rattle.std.specs.Prelude.{◌≡◌, ◌↔◌, Contains, IfOk};
 ghost use Rattle.gpu_session.specs.Listing.{IsNamed};
@@ -34,9 +34,9 @@ impl<M: MemoryObject, D: MemoryDevice<M>, A: Allocator + Copy> Session<M, D, A> 
         &self.allocator
     }
 
-    /// The live blocks by name, each once, in no order that is told.
+    /// The live blocks by name, each once, in no particular order.
     ///
-    /// `alloc` gives the memory of the list, and the only refusal is want of it. Nothing changes.
+    /// The list takes its memory from `alloc`, and the only error is want of it. Nothing changes.
     pub fn named_spans<B: Allocator>(&self, alloc: B) -> Result<Vec<NamedSpan, B>, AllocError>
         ensures exact { IfOk result (λ rows. (row : Row) → Contains rows.items row ↔ IsNamed self.now.books row) }
         ensures sound { IsSound (D.properties self.now.device) (D.objects self.now.device) self.now.books }

@@ -138,7 +138,7 @@ impl<M: MemoryObject, D: MemoryDevice<M>, A: Allocator + Copy> Session<M, D, A> 
     }
 }
 
-/// So many bytes, all 0.
+/// As many bytes, all 0.
 fn zeros<A: Allocator + Copy>(alloc: A, len: u64) -> Result<Vec<u8, A>, AllocError>
     ensures { IfOk result (λ bytes. length bytes.items ≡ len) }
 {

@@ -26,7 +26,7 @@ pub(super) enum Part {
 }
 
 impl Part {
-    /// How many bytes of a range of this size.
+    /// How many bytes of a range of this size are copied.
     pub(super) fn of(self, size: u64) -> u64
         ensures value { result ≡ size_of_part self size }
         ensures within { result ≤ size }
@@ -38,15 +38,15 @@ impl Part {
     }
 }
 
-/// The byte that the host's list of a new object is full of. It isn't 00 where the memory isn't coherent, so that a
-/// missing flush or invalidate shows.
+/// The byte that fills the host's list of a new object. It isn't 00 where the memory isn't coherent, so that a missing
+/// flush or invalidate shows.
 pub(super) fn first_byte(coherent: bool) -> u8
     ensures { result ≡ cond coherent 0 238 }
 {
     if coherent { 0 } else { 0xee }
 }
 
-/// So many bytes, all of them this one. Fails for want of memory, as where there are 2^63 or more.
+/// `size` bytes, each of them `byte`. Fails for want of memory, as it does for 2^63 or more.
 pub(super) fn filled<A: Allocator>(alloc: A, size: u64, byte: u8) -> Result<Vec<u8, A>, AllocError>
     ensures { IfOk result (λ bytes. bytes.items ≡ replicate size byte) }
 {

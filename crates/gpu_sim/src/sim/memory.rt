@@ -6,9 +6,9 @@ use gpu_alloc_types::MemoryObject;
 use std::alloc::{AllocError, Allocator, Global};
 use std::marker::Model;
 
-/// A handle of an object of a [`Sim`](crate::Sim), seen in contracts as the object's name.
+/// A handle of an object of a [`Sim`](crate::Sim), which contracts see as the object's name.
 ///
-/// The name stands on the heap, so that the making of each further handle can find no memory.
+/// The name is on the heap, so that making another handle can fail for want of memory.
 #[derive(Drop)]
 pub struct SimMemory<A: Allocator + Copy = Global> {
     name: Box<u64, A>,

@@ -10,7 +10,7 @@ use std::alloc::{AllocError, Allocator, Global};
 use std::hash::{BuildHasherDefault, FoldHasher};
 use std::marker::Model;
 
-/// Values under numbers, seen as the finite map. A call takes a number of steps that hangs on no count, on average.
+/// Values under numbers, which contracts see as a finite map. A call takes constant time on average.
 #[derive(Drop)]
 pub(super) struct Numbered<V, A: Allocator + Copy = Global> {
     entries: IndexMap<u64, V, BuildHasherDefault<FoldHasher>, A>,
@@ -31,7 +31,7 @@ impl<V, A: Allocator + Copy> Model for Numbered<V, A> {
 impl<V: Drop, A: Allocator + Copy> Numbered<V, A> {
     ghost use Rattle.gpu_sim.specs.Numbered.{lends_value};
 
-    /// No values. It takes no memory.
+    /// No values. It allocates nothing.
     pub(super) fn new(alloc: A) -> Numbered<V, A>
         ensures { result ≡ map.empty }
     {
@@ -54,7 +54,7 @@ impl<V: Drop, A: Allocator + Copy> Numbered<V, A> {
         self.entries.get(&number)
     }
 
-    /// The value under a number, to write.
+    /// The value under a number, for writing.
     pub(super) fn get_mut(&mut self, number: u64) -> Option<&mut V>
         ensures* writes_back { sem 𝓛 (lends_value V.row A.row A.Allocator self.entry number result) }
         ensures value { option_copied_mut result ≡ map.get self.old number }
@@ -62,7 +62,7 @@ impl<V: Drop, A: Allocator + Copy> Numbered<V, A> {
         self.entries.get_mut(&number)
     }
 
-    /// Puts a value under a number, in the place of one that is there. Without memory all is as before.
+    /// Puts a value under a number, and replaces one that is there. Without memory nothing changes.
     pub(super) fn insert(&mut self, number: u64, value: V) -> Result<(), AllocError>
         ensures ok { OnOk result (self.new ≡ map.insert self.old number value) }
         ensures err { OnErr result (self.new ≡ self.old) }
@@ -71,7 +71,7 @@ impl<V: Drop, A: Allocator + Copy> Numbered<V, A> {
         Ok(())
     }
 
-    /// Takes the value under a number away, if there is one.
+    /// Removes the value under a number, if there is one.
     pub(super) fn remove(&mut self, number: u64)
         ensures { self.new ≡ map.remove self.old number }
     {

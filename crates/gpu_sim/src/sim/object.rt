@@ -15,10 +15,10 @@ use gpu_alloc_types::{MappedMemoryRange, MemoryObject};
 use std::alloc::{AllocError, Allocator, Global};
 use std::marker::Model;
 
-/// An object that is held: contracts see it as every device shows its objects.
+/// A held object, in the form in which every device shows its objects to contracts.
 ///
-/// The host and the device see a list of bytes each, where the memory type is one that the host sees. Else both are
-/// empty and take no memory, however long the object is.
+/// In host-visible memory the host and the device see a list of bytes each. In other memory both lists are empty and
+/// take no memory, however long the object is.
 #[derive(Drop)]
 pub(super) struct SimObject<A: Allocator + Copy = Global> {
     memory_type: u32,
@@ -55,7 +55,7 @@ impl<A: Allocator + Copy> Model for SimObject<A> {
 }
 
 impl<A: Allocator + Copy> SimObject<A> {
-    /// A new object of so many bytes of a memory type. Fails for want of memory for its bytes.
+    /// A new object of `size` bytes of a memory type. Fails for want of memory for its bytes.
     pub(super) fn new(
         alloc: A,
         properties: &OwnedProperties<A>,
@@ -90,14 +90,14 @@ impl<A: Allocator + Copy> SimObject<A> {
         self.memory_type
     }
 
-    /// How many bytes long it is.
+    /// Its size, in bytes.
     pub(super) fn size(&self) -> u64
         ensures { result ≡ self.now.size }
     {
         self.size
     }
 
-    /// Maps a range of it, or none.
+    /// Sets its mapped range, or none.
     fn set_mapped(&mut self, mapped: Option<MappedRange>)
         ensures { self.new ≡ mapped_as (option_map offset_and_size mapped) self.old }
     {
@@ -149,7 +149,7 @@ impl<A: Allocator + Copy> SimObject<A> {
 }
 
 impl<A: Allocator + Copy> Numbered<SimObject<A>, A> {
-    /// Maps a range of the object of that name, or none.
+    /// Sets the mapped range of the object of that name, or none.
     pub(super) fn set_mapped(&mut self, name: u64, mapped: Option<MappedRange>)
         requires { HeldWith (finite.get self.old) name (HasBytes (option_map offset_and_size mapped)) }
         ensures { let range = option_map offset_and_size mapped in

@@ -7,7 +7,7 @@ use gpu_alloc_types::{DeviceProperties, MemoryHeap, MemoryPropertyFlags, MemoryT
 use std::alloc::{AllocError, Allocator, Global};
 use std::marker::Model;
 
-/// What a device offers, with its own memory.
+/// What a device offers, in memory of its own.
 #[derive(Drop)]
 pub(super) struct OwnedProperties<A: Allocator + Copy = Global> {
     memory_types: Vec<MemoryType, A>,
@@ -34,7 +34,7 @@ impl<A: Allocator + Copy> Model for OwnedProperties<A> {
 }
 
 impl<A: Allocator + Copy> OwnedProperties<A> {
-    /// A copy of these.
+    /// A copy of these properties.
     pub(super) fn new(
         alloc: A,
         props: DeviceProperties<'_>,
@@ -51,7 +51,7 @@ impl<A: Allocator + Copy> OwnedProperties<A> {
         })
     }
 
-    /// Whether the host sees memory of that type. It sees none where there is no such type.
+    /// Whether memory of that type is host-visible. False where there is no such type.
     pub(super) fn is_host_visible(&self, memory_type: u32) -> bool
         ensures { result ≡ is_host_visible self.now memory_type }
     {
@@ -61,7 +61,7 @@ impl<A: Allocator + Copy> OwnedProperties<A> {
         }
     }
 
-    /// Whether memory of that type is coherent. It isn't where there is no such type.
+    /// Whether memory of that type is coherent. False where there is no such type.
     pub(super) fn is_coherent(&self, memory_type: u32) -> bool
         ensures { result ≡ is_coherent self.now memory_type }
     {

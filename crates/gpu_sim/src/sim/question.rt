@@ -7,7 +7,7 @@ use crate::sim::numbered::Numbered;
 use gpu_alloc_types::{DeviceMapError, OutOfMemory};
 use std::alloc::{AllocError, Allocator};
 
-/// A kind of question to a device that may be refused.
+/// A kind of question to a device, one that may be refused.
 #[derive(Clone, Copy, Debug, PartialEq, Eq, Hash)]
 pub enum Question {
     /// To allocate.
@@ -32,13 +32,13 @@ pub enum Cause {
     /// The host's memory is exhausted.
     Host,
 
-    /// The mapping failed for a reason of the device's own. For [`Question::Map`] alone.
+    /// The mapping failed for a reason of the device's own. Only for [`Question::Map`].
     Failed,
 }
 
 impl Cause {
-    /// The answer where memory is asked for. The device's is named where the cause is `Failed`, which is planned for no
-    /// such question.
+    /// The answer to a question for memory. `Failed`, which is never planned for such a question, counts as the
+    /// device's.
     pub(super) fn out_of_memory(self) -> OutOfMemory
         ensures { result ≡ refusal_of self }
     {
@@ -48,7 +48,7 @@ impl Cause {
         }
     }
 
-    /// The answer where a mapping is asked for.
+    /// The answer to a question to map.
     pub(super) fn map_error(self) -> DeviceMapError
         ensures { result ≡ map_refusal_of self }
     {
@@ -84,7 +84,7 @@ impl<T> ByKind<T> {
 }
 
 impl<A: Allocator + Copy> ByKind<Numbered<Cause, A>> {
-    /// Plans a refusal of the `nth` question of a kind, unless it has one. Without memory all is as before.
+    /// Plans a refusal of the `nth` question of a kind, unless one is planned already. Without memory nothing changes.
     pub(super) fn plan(&mut self, kind: Question, nth: u64, cause: Cause) -> Result<(), AllocError>
         ensures ok { OnOk result (self.new ≡ with_plan self.old kind nth cause) }
         ensures err { OnErr result (self.new ≡ self.old) }

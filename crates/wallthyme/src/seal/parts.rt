@@ -1,4 +1,4 @@
-//! A `Box` with its fields in sight of the module above.
+//! A `Box` with its fields visible to the module above.
 
 ghost use Rattle.std.specs.Prelude.{◌≡◌};
 ghost use Rattle.std.specs.Box.Ownership.{box_owns};
@@ -31,7 +31,7 @@ impl<T, A: Allocator> Parts<T, A> {
         ensures { result.value ≡ self.value }
     {
         let Parts { ptr, alloc } = self;
-        // The pointer came out of a box with this allocator in `of`, and nothing else has it: that is what parts own.
+        // The pointer came out of a box with this allocator in `of`, and nothing else has it: parts own it.
         unsafe { Box::from_raw(alloc, ptr) }
     }
 }

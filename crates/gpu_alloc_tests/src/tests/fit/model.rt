@@ -1,4 +1,4 @@
-//! What a session with fit chunks has to answer, and what it holds, by plain lists of chunks and live blocks.
+//! What a session with fit chunks must answer, and what it holds, by plain lists of chunks and live blocks.
 
 use super::{Ask, HEAPS, Plan};
 use crate::tests::exact::lies_in;
@@ -9,10 +9,10 @@ use gpu_alloc::{AllocationError, Dedicated, MemoryForUsage};
 use std::alloc::{AllocError, Global};
 use std::process::Abort;
 
-/// How often the drawn lists came to something: rows of [`CASES`].
+/// How often each case occurred in the drawn lists: rows of [`CASES`].
 pub(super) type Tally = [u64; 29];
 
-/// What lists have to come to.
+/// The cases that must occur in the lists.
 pub(super) const CASES: [&str; 29] = [
     "a block in a gap",
     "a whole gap",
@@ -75,20 +75,20 @@ pub(super) struct Block {
     range: Range,
 }
 
-/// What a request has to come to.
+/// How a request must be served.
 #[derive(Clone, Copy, Debug)]
 enum Wanted {
-    /// So many bytes at a multiple of the mask and one, anywhere in the gaps of a memory type's fit chunks.
+    /// This many bytes at a multiple of the mask plus one, anywhere in the gaps of a memory type's fit chunks.
     InGap(u32, u64, u64),
 
-    /// Just these bytes.
+    /// Exactly these bytes.
     At(u32, Way, Range),
 
     Refused(AllocationError),
 }
 
-/// What is held and live of a session, how often the device was asked to make and to map an object, which of these
-/// questions it refuses, and what the lists came to.
+/// What a session holds and has live, how often the device was asked to make and to map an object, which of these
+/// questions it refuses, and which cases the lists met.
 #[derive(Drop)]
 pub(super) struct Model {
     alloc: Global,
@@ -120,17 +120,17 @@ fn heap_of(memory_type: u32) -> (usize, u64) {
     }
 }
 
-/// Whether the host sees a memory type.
+/// Whether a memory type is host-visible.
 fn is_visible(memory_type: u32) -> bool {
     memory_type == 1 || memory_type == 2
 }
 
-/// A size, rounded up to a multiple of the mask and one.
+/// A size, rounded up to a multiple of the mask plus one.
 fn up(size: u64, mask: u64) -> u64 {
     size.saturating_add(mask) & !mask
 }
 
-/// A size that is configured: at most the 32nd part of a heap, in multiples of the mask and one, one at least.
+/// A configured size: at most the 32nd part of a heap, in multiples of the mask plus one, and at least one.
 fn cut(size: u64, heap: u64, mask: u64) -> u64 {
     let whole = size.min(heap / 32) & !mask;
     if whole == 0 {
@@ -141,7 +141,7 @@ fn cut(size: u64, heap: u64, mask: u64) -> u64 {
 }
 
 impl Model {
-    /// Nothing is held of a device with this atom that allows so many objects.
+    /// Nothing is held of a device with this atom that allows this many objects.
     pub(super) fn new(
         alloc: Global,
         ranks: MemoryForUsage,
@@ -224,7 +224,7 @@ impl Model {
         }
     }
 
-    /// The size up to which a request is served by a chunk: by any of a free list, and by a first fit chunk.
+    /// The size up to which a request is served from a chunk: any chunk of a free list, or the first fit chunk.
     fn most(&self, memory_type: u32, way: Way) -> u64 {
         let (_, heap) = heap_of(memory_type);
         match way {
@@ -233,7 +233,7 @@ impl Model {
         }
     }
 
-    /// The chunks of a memory type that are held so, or, where it is not said how, all of them.
+    /// The chunks of a memory type of this kind, or all of them where no kind is given.
     fn ranges(&self, memory_type: u32, way: Option<Way>) -> Result<Vec<Range>, AllocError> {
         let mut ranges = Vec::new(self.alloc);
         for chunk in &self.chunks {
@@ -258,7 +258,7 @@ impl Model {
         runs_of(self.alloc, ranges.as_slice(), live.as_slice())
     }
 
-    /// What a request has to come to. What is asked of the device for it is counted, and what is made is held.
+    /// How a request must be served. What is asked of the device for it is counted, and what is made is held.
     fn decide(&mut self, ask: &Ask) -> Result<Wanted, AllocError> {
         if ask.hint == Some(Dedicated::Required) && self.remaining == 0 {
             count(&mut self.tally[22]);
@@ -287,7 +287,7 @@ impl Model {
         Ok(Wanted::Refused(AllocationError::OutOfDeviceMemory))
     }
 
-    /// What a request comes to at a memory type; nothing where that is passed.
+    /// How a memory type serves a request, or nothing where it is passed over.
     fn try_type(&mut self, ask: &Ask, memory_type: u32) -> Result<Option<Wanted>, AllocError> {
         let (_, heap) = heap_of(memory_type);
         if ask.size > heap {
@@ -320,7 +320,8 @@ impl Model {
         self.begin(memory_type, way, length, size, align_mask)
     }
 
-    /// Asks for an object of so many bytes, for a block of this size. Nothing comes of it where the memory type is passed.
+    /// Asks for an object of this many bytes, for a block of this size. Returns nothing where the memory type is passed
+    /// over.
     fn begin(
         &mut self,
         memory_type: u32,
@@ -372,7 +373,7 @@ impl Model {
         Ok(Some(Wanted::At(memory_type, way, block)))
     }
 
-    /// One more object is held. Of a chunk, the next one is to be twice as large.
+    /// One more object is held. After a chunk, the next one is twice as large.
     fn hold(&mut self, memory_type: u32, way: Way, range: Range) -> Result<(), AllocError> {
         let next = range
             .end
@@ -397,7 +398,7 @@ impl Model {
         Ok(())
     }
 
-    /// Counts a new fit chunk of so many bytes.
+    /// Counts a new fit chunk of this many bytes.
     fn count_chunk(&mut self, memory_type: u32, size: u64) -> Result<(), AllocError> {
         let held = self.ranges(memory_type, Some(Way::Fit))?;
         if held.is_empty() {
@@ -418,8 +419,8 @@ impl Model {
         Ok(())
     }
 
-    /// Takes in what a request came to, a block by its memory type and its range, which has to be right. The block is live
-    /// then.
+    /// Takes in the result of a request, a block by its memory type and its range, which must be right. The block is
+    /// then live.
     pub(super) fn take(
         &mut self,
         rt: &impl Abort,
@@ -447,7 +448,7 @@ impl Model {
         }
     }
 
-    /// A block lies in a gap of a fit chunk, exactly as long as it is wanted.
+    /// A block lies in a gap of a fit chunk, exactly as long as requested.
     fn take_in_gap(
         &mut self,
         rt: &impl Abort,
@@ -477,7 +478,7 @@ impl Model {
         Ok(())
     }
 
-    /// Counts why a block has an object of its own, or that it is one of a free list beside fit chunks.
+    /// Counts why a block has an object of its own, or that it is one of a free list next to fit chunks.
     fn count_way(&mut self, ask: &Ask, memory_type: u32, way: Way) -> Result<(), AllocError> {
         match way {
             Way::Fit => {}
@@ -525,8 +526,8 @@ impl Model {
         Ok(())
     }
 
-    /// Takes back the block at this place. Of fit chunks, its own goes if it is wholly free then and another one is too; of
-    /// a free list's, each goes that is, but for that of the last run. An object of its own goes.
+    /// Returns the block at this place. Of fit chunks, its own is released if it is then wholly free and another one is
+    /// too. Of a free list's, each wholly free one is, except that of the last run. An object of its own is released.
     pub(super) fn take_back(&mut self, rt: &impl Abort, at: usize) -> Result<(), AllocError> {
         holds(rt, at < self.live.len(), "no such block");
         let Block {
@@ -570,7 +571,7 @@ impl Model {
         }
     }
 
-    /// A block of this fit chunk came back.
+    /// A block of this fit chunk was returned.
     fn return_to_fit(
         &mut self,
         rt: &impl Abort,
@@ -602,7 +603,7 @@ impl Model {
         Ok(unused)
     }
 
-    /// Lets a chunk go.
+    /// Releases a chunk.
     fn let_go(&mut self, object: u64) {
         let mut gone = None;
         for chunk in &self.chunks {
@@ -616,14 +617,14 @@ impl Model {
         self.chunks.retain(|chunk| chunk.range.object != object);
     }
 
-    /// So many bytes are not held any more, nor their object.
+    /// This many bytes are no longer held, nor their object.
     fn give(&mut self, memory_type: u32, size: u64) {
         let (heap, _) = heap_of(memory_type);
         self.used[heap % 3] = self.used[heap % 3].saturating_sub(u128::from(size));
         self.remaining = self.remaining.saturating_add(1);
     }
 
-    /// Gives back each chunk in which nothing is live.
+    /// Releases each chunk in which nothing is live.
     pub(super) fn clean(&mut self) -> Result<(), AllocError> {
         for memory_type in 0..4 {
             for object in self.unused(memory_type, Way::Fit)? {
@@ -646,8 +647,8 @@ impl Model {
         (self.remaining, held, self.used)
     }
 
-    /// Of the fit chunks of a memory type: how many they are, how many blocks are live in them, of how many bytes, and how
-    /// many bytes are free.
+    /// The fit chunks of a memory type: how many there are, how many blocks are live in them, of how many bytes, and
+    /// how many bytes are free.
     pub(super) fn sums(&self, memory_type: u32) -> Result<(u64, u64, u128, u128), AllocError> {
         let chunks = self.ranges(memory_type, Some(Way::Fit))?.len() as u64;
         let mut blocks = 0;

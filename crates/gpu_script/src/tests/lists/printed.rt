@@ -1,5 +1,5 @@
-//! What a script prints for replies, by patterns: written apart from the program's own printer, but for the texts of
-//! errors, which contracts say.
+//! What a script prints for replies, by patterns. This is written apart from the program's own printer, except for the
+//! texts of errors, which contracts state.
 
 use super::add_bytes;
 use crate::tests::memory::FAULTS;
@@ -88,7 +88,7 @@ fn add_reply(text: &mut String, reply: &Reply) -> Result<(), AllocError> {
     }
 }
 
-/// What a script prints that is answered so, and then holds so many objects and has asked to allocate so often.
+/// What a script with these replies prints, which then holds `objects` objects and has asked to allocate `asked` times.
 pub(super) fn printed(
     alloc: Global,
     replies: &[Reply],

@@ -34,10 +34,10 @@ fn count_one(counts: &mut Vec<u64>, index: usize) {
     }
 }
 
-/// A block was granted in a buddy chunk, behind its front.
+/// A block was granted in a buddy chunk, not at its front.
 const IN_BUDDY_CHUNK: usize = 0;
 
-/// A block was granted in a free list's chunk, behind its front.
+/// A block was granted in a free list's chunk, not at its front.
 const IN_FREE_LIST: usize = 1;
 
 /// A flush was asked for that the plan refuses.
@@ -61,13 +61,13 @@ const SEVERAL_READ: usize = 7;
 /// A write over bytes that have values was refused, and may have moved some.
 const MAY_BE_WRITTEN: usize = 8;
 
-/// It was refused since the block is mapped.
+/// It was refused because the block is mapped.
 const NOT_WRITTEN_AS_MAPPED: usize = 9;
 
-/// It was refused by a mapping that failed.
+/// It was refused because the mapping failed.
 const NOT_WRITTEN_AS_MAP_FAILED: usize = 10;
 
-/// Bytes with values were read of a block in a shared chunk, behind its front.
+/// Bytes with values were read of a block in a shared chunk, not at its front.
 const SHARED_READ: usize = 11;
 
 /// They were read of a block that is an object of its own.
@@ -76,7 +76,7 @@ const OWN_READ: usize = 12;
 /// They were read of an import.
 const IMPORT_READ: usize = 13;
 
-/// What else has to occur in the lists, by these numbers.
+/// What else must occur in the lists, by these numbers.
 const EVENTS: [&str; 14] = [
     "block in a buddy chunk",
     "block in a free list's chunk",
@@ -97,7 +97,7 @@ const EVENTS: [&str; 14] = [
 /// How often each thing occurred in the lists.
 #[derive(Drop)]
 pub(super) struct Tally {
-    /// How often each kind of command was served to some effect, by the places of `KINDS`.
+    /// How often each kind of command was served with an effect, by the places of `KINDS`.
     served: Vec<u64>,
 
     /// How often each kind of reply came.
@@ -106,7 +106,7 @@ pub(super) struct Tally {
     /// How often each of `EVENTS` occurred.
     events: Vec<u64>,
 
-    /// Which event a read of the block of each name is, none if it is beyond them.
+    /// Which event a read of the block of each name is; an index past the last means none.
     reads: Vec<usize>,
 }
 
@@ -144,7 +144,8 @@ impl Tally {
         count_one(&mut self.events, cause);
     }
 
-    /// Counts a block that starts so in its object: behind the front it lies in a shared chunk, but for an import.
+    /// Counts a block with this start in its object: a block that is not at the front lies in a shared chunk, unless it
+    /// is an import.
     fn count_granted(&mut self, line: &Line, start: u64) {
         let [name, _, _, usage, _] = line.numbers;
         let event = match line.kind {
@@ -180,7 +181,7 @@ impl Tally {
         }
     }
 
-    /// Counts a command with its reply, by what was written before it.
+    /// Counts a command with its reply, given what was written before it.
     pub(super) fn count(&mut self, line: &Line, reply: &Reply, written: &mut Written) {
         let Some(index) = reply_index(reply) else {
             return;
@@ -204,7 +205,7 @@ impl Tally {
         }
     }
 
-    /// Counts the planned refusals that the device came to.
+    /// Counts the planned refusals that the device met.
     pub(super) fn count_refused(&mut self, plan: &Plan, device: &Sim<Global>) {
         for (question, nth) in &plan.refused {
             if *nth <= device.asked(*question) {
@@ -217,7 +218,7 @@ impl Tally {
         }
     }
 
-    /// Each thing has to have occurred.
+    /// Each thing must have occurred.
     pub(super) fn has_all(&self, rt: &impl Abort) {
         for ((_, word, _), count) in KINDS.iter().zip(&self.served) {
             same_at(rt, "it was served:", word, &(*count > 0), &true);

@@ -1,12 +1,7 @@
 use Rattle.std.proofs.Common.{[], ◌∷◌}
 use Rattle.gpu_uses.proofs.buffers.two_buffers.Goals as goal
 
--- both are in hand
-pub dealloc-requires-clause-owned : goal.dealloc-requires-clause-owned
-dealloc-requires-clause-owned g c =
-    (c.in-Ok.ensures.added.all (c.in_ok-vertices.vertices ∷ []) (c.in_ok-vertices.ensures.added.all [] tt)).0
-
--- and of those the first goes
+-- both are in hand, and of those the first goes
 pub dealloc-requires-in-Ok-clause-owned : goal.dealloc-requires-in-Ok-clause-owned
 dealloc-requires-in-Ok-clause-owned g c =
     (c.dealloc.ensures.removed.first (c.in-Ok.indices ∷ []) (c.in-Ok.ensures.added.all (c.in_ok-vertices.vertices ∷ []) (c.in_ok-vertices.ensures.added.all [] tt))).0
