@@ -20,7 +20,7 @@ ghost use Rattle.gpu_alloc_fits.specs.Space.{with_chunk, with_slot, without_chun
 ghost use Rattle.gpu_alloc_fits.specs.Tiles.{KeepsElsewhere, KeepsLive, tile_in};
 
 use crate::block::{FitBlock, into_parts};
-use crate::classes::{Classes, file, unfile};
+use crate::classes::{Classes, class_of, file, unfile};
 use crate::cut::cut_out;
 use crate::join::put_back;
 use crate::search::{Known, find_place, last_start};
@@ -186,12 +186,12 @@ impl<M: MemoryObject, A: Allocator> Fits<M, A> {
         let memory = self.chunks[run.chunk].memory.duplicate()?;
         let start = last_start(run.end, size, align_mask);
         let end = start + size;
-        cut_out(
+        let block = cut_out(
             &mut self.tiles,
             &mut self.classes,
             &self.chunks,
             key,
-            run.chunk,
+            run,
             start,
             end,
         );
@@ -202,7 +202,7 @@ impl<M: MemoryObject, A: Allocator> Fits<M, A> {
             offset: start,
             size,
         };
-        Ok(Some(FitBlock::new(memory, slot, key)))
+        Ok(Some(FitBlock::new(memory, slot, block)))
     }
 
     /// Holds a new chunk of `memory_size` bytes, and makes a block of its first `size` bytes. `memory` and `handle` are
@@ -231,13 +231,18 @@ impl<M: MemoryObject, A: Allocator> Fits<M, A> {
             free: true,
         };
         let key = self.tiles.insert_reserved(unlisted(whole, NONE, NONE));
-        file(&mut self.tiles, &mut self.classes, key);
-        cut_out(
+        file(
+            &mut self.tiles,
+            &mut self.classes,
+            key,
+            class_of(memory_size),
+        );
+        let block = cut_out(
             &mut self.tiles,
             &mut self.classes,
             &self.chunks,
             key,
-            chunk,
+            whole,
             0,
             size,
         );
@@ -248,7 +253,7 @@ impl<M: MemoryObject, A: Allocator> Fits<M, A> {
             offset: 0,
             size,
         };
-        FitBlock::new(handle, slot, key)
+        FitBlock::new(handle, slot, block)
     }
 
     /// Takes a live block back, and joins it with the free runs beside it. Where its chunk is then wholly free and another
@@ -282,7 +287,8 @@ impl<M: MemoryObject, A: Allocator> Fits<M, A> {
         ) else {
             unreachable!();
         };
-        let joint = put_back(&mut self.tiles, &mut self.classes, &self.chunks, key, looks);
+        let (joint, joint_key) =
+            put_back(&mut self.tiles, &mut self.classes, &self.chunks, key, looks);
         self.known.full = None;
         let whole = self.chunks[joint.chunk].size;
         if !is_whole(joint, whole) {
@@ -293,11 +299,11 @@ impl<M: MemoryObject, A: Allocator> Fits<M, A> {
                 &mut self.chunks,
                 &mut self.tiles,
                 &mut self.classes,
-                key,
+                joint_key,
                 joint.chunk,
             )),
             None => {
-                self.spare = Some(key);
+                self.spare = Some(joint_key);
                 None
             }
         }
@@ -432,9 +438,9 @@ fn end<M: MemoryObject, A: Allocator>(
     ensures row { get chunks.old chunk ≡ Some (record { memory = result.0; size = result.1 }) }
     ensures updates { Updates chunks.old chunks.new chunk None }
 {
-    unfile(tiles, classes, key);
-    let _ = tiles.remove(key);
     let Chunk { memory, size } = chunks.remove(chunk);
+    unfile(tiles, classes, key, class_of(size));
+    let _ = tiles.remove(key);
     (memory, size)
 }
 

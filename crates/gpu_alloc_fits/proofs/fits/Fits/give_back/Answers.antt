@@ -19,14 +19,14 @@ unreachable-requires g c =
 
 pub index-requires : goal.index-requires
 index-requires g c =
-    row_there c.self.inside.chunks c.put_back-joint.new.nodes c.in-Some.key c.put_back-joint.result c.put_back-joint.ensures.kept (c.put_back-joint.ensures.joint c.in-Some.ensures.0 c.in-Some.ensures.1.0).at
+    row_there c.self.inside.chunks c.put_back-joint_key.new.nodes c.put_back-joint_key.result.1 c.put_back-joint_key.result.0 c.put_back-joint_key.ensures.kept (c.put_back-joint_key.ensures.joint c.in-Some.ensures.0 c.in-Some.ensures.1.0).at
 
 -- Other blocks of its chunk are live.
 
-partly : (g : Over) (c : goal.Then-not-is_whole g) → IsReturned g.M.MemoryObject.object c.self.inside.chunks c.put_back-joint.new.nodes c.self.inside.spare c.args.self.now.space c.args.block
+partly : (g : Over) (c : goal.Then-not-is_whole g) → IsReturned g.M.MemoryObject.object c.self.inside.chunks c.put_back-joint_key.new.nodes c.self.inside.spare c.args.self.now.space c.args.block
 partly g c =
-    returned_partly g.M.MemoryObject.object c.self.inside.chunks c.self.inside.tiles c.put_back-joint.new.nodes c.self.inside.spare c.self.inside.known.full c.self.invariant c.args.self.now.space (ap (λ (s : Store). s.space) c.self.view_is) c.args.block
-    c.into_parts-hint.result.1 c.into_parts-hint.ensures.slot c.requires.live c.in-Some.key c.in-Some.ensures c.put_back-joint.result c.put_back-joint.ensures.back c.put_back-joint.ensures.joint c.put_back-joint.ensures.elsewhere c.put_back-joint.ensures.kept
+    returned_partly g.M.MemoryObject.object c.self.inside.chunks c.self.inside.tiles c.put_back-joint_key.new.nodes c.self.inside.spare c.self.inside.known.full c.self.invariant c.args.self.now.space (ap (λ (s : Store). s.space) c.self.view_is) c.args.block
+    c.into_parts-hint.result.1 c.into_parts-hint.ensures.slot c.requires.live c.in-Some.key c.in-Some.ensures c.put_back-joint_key.result.0 c.put_back-joint_key.ensures.back c.put_back-joint_key.result.1 c.put_back-joint_key.ensures.joint c.put_back-joint_key.ensures.elsewhere c.put_back-joint_key.ensures.kept
     c.index.result.now c.index.ensures
     (λ h. let yes' = c.is_whole.ensures.1 h in let no' = c.if-not-is_whole.true in cc)
 
@@ -41,11 +41,11 @@ returns-then-not-is_whole-clause-removed g c = block_removes c.args.self.now.spa
 
 -- It is the first wholly free chunk.
 
-first : (g : Over) (c : goal.After-self-in-None-1 g) → IsReturned g.M.MemoryObject.object c.self.inside.chunks c.put_back-joint.new.nodes (Some c.in-Some.key) c.args.self.now.space c.args.block
+first : (g : Over) (c : goal.After-self-in-None-1 g) → IsReturned g.M.MemoryObject.object c.self.inside.chunks c.put_back-joint_key.new.nodes (Some c.put_back-joint_key.result.1) c.args.self.now.space c.args.block
 first g c =
     let all = c.is_whole.ensures.0 c.if-not-is_whole.false in
-    returned_first g.M.MemoryObject.object c.self.inside.chunks c.self.inside.tiles c.put_back-joint.new.nodes c.self.inside.spare c.self.inside.known.full c.self.invariant c.args.self.now.space (ap (λ (s : Store). s.space) c.self.view_is) c.args.block
-    c.into_parts-hint.result.1 c.into_parts-hint.ensures.slot c.requires.live c.in-Some.key c.in-Some.ensures c.put_back-joint.result c.put_back-joint.ensures.back c.put_back-joint.ensures.joint c.put_back-joint.ensures.elsewhere c.put_back-joint.ensures.kept
+    returned_first g.M.MemoryObject.object c.self.inside.chunks c.self.inside.tiles c.put_back-joint_key.new.nodes c.self.inside.spare c.self.inside.known.full c.self.invariant c.args.self.now.space (ap (λ (s : Store). s.space) c.self.view_is) c.args.block
+    c.into_parts-hint.result.1 c.into_parts-hint.ensures.slot c.requires.live c.in-Some.key c.in-Some.ensures c.put_back-joint_key.result.0 c.put_back-joint_key.ensures.back c.put_back-joint_key.result.1 c.put_back-joint_key.ensures.joint c.put_back-joint_key.ensures.elsewhere c.put_back-joint_key.ensures.kept
     c.index.result.now c.index.ensures
     all.0 all.1 c.in-None.is
 
@@ -65,8 +65,8 @@ other g c =
     let all = c.is_whole.ensures.0 c.if-not-is_whole.false in
     let row : c.index.result.now ≡ record { memory = c.end.result.0; size = c.end.result.1 } = (let e : Some c.index.result.now ≡ Some (record { memory = c.end.result.0; size = c.end.result.1 }) = sym c.index.ensures ∙ c.end.ensures.row in cc) in
     subst (λ (r : Row g.row.M.Denot). IsReturnedWith g.M.MemoryObject.object c.end.new.chunks c.end.new.tiles c.self.inside.spare c.args.self.now.space c.args.block (chunk_of g.M.MemoryObject.object r)) row
-    (returned_with g.M.MemoryObject.object c.self.inside.chunks c.self.inside.tiles c.put_back-joint.new.nodes c.self.inside.spare c.self.inside.known.full c.self.invariant c.args.self.now.space (ap (λ (s : Store). s.space) c.self.view_is) c.args.block
-    c.into_parts-hint.result.1 c.into_parts-hint.ensures.slot c.requires.live c.in-Some.key c.in-Some.ensures c.put_back-joint.result c.put_back-joint.ensures.back c.put_back-joint.ensures.joint c.put_back-joint.ensures.elsewhere c.put_back-joint.ensures.kept
+    (returned_with g.M.MemoryObject.object c.self.inside.chunks c.self.inside.tiles c.put_back-joint_key.new.nodes c.self.inside.spare c.self.inside.known.full c.self.invariant c.args.self.now.space (ap (λ (s : Store). s.space) c.self.view_is) c.args.block
+    c.into_parts-hint.result.1 c.into_parts-hint.ensures.slot c.requires.live c.in-Some.key c.in-Some.ensures c.put_back-joint_key.result.0 c.put_back-joint_key.ensures.back c.put_back-joint_key.result.1 c.put_back-joint_key.ensures.joint c.put_back-joint_key.ensures.elsewhere c.put_back-joint_key.ensures.kept
     c.index.result.now c.index.ensures
     all.0 all.1 c.in-Some-spare.field-0 c.in-Some-spare.is c.end.new.chunks c.end.new.tiles c.end.ensures.updates c.end.ensures.lives c.end.ensures.elsewhere c.end.ensures.kept)
 
