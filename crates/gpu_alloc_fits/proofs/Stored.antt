@@ -17,16 +17,17 @@ use Rattle.gpu_alloc_base.proofs.ListedRanges.{told_object}
 use Rattle.gpu_alloc_base.proofs.SlabViews.{found_by_key, get_by_key}
 use Rattle.gpu_alloc_base.proofs.Slots.{slot_inserted, slot_removed}
 use Rattle.gpu_alloc_fits.specs.Fits.{TakesPlace}
-use Rattle.gpu_alloc_fits.specs.Inside.{IsAtKey, IsBlock, IsLiveTile, IsSpareTile, IsStillFull, IsStored, IsTheWhole, IsWholeTile, IsWithout, chunk_of, chunks_in, live_in, live_slot, made_of, size_in, size_of, slot_of, space_in}
+use Rattle.gpu_alloc_fits.specs.Inside.{IsAtKey, IsBlock, IsLiveTile, IsPlace, IsSpareTile, IsStillFull, IsStored, IsTheWhole, IsWholeTile, IsWithout, chunk_of, chunks_in, live_in, live_slot, made_of, size_in, size_of, slot_of, space_in}
 use Rattle.gpu_alloc_fits.specs.Links.{IsKept, after_of, before_of}
 use Rattle.gpu_alloc_fits.specs.Space.{HasPlace, IsFitting, IsFreeIn, IsLiveSlot, IsLiveSpan, IsSoundSpace, IsSpare, IsWhollyFree, LiesInChunk, Space, with_slot, without_slot, without_chunk}
 use Rattle.gpu_alloc_fits.specs.Tiles.{GivesBack, HasRoomAt, HasRoomIn, IsFreeOf, IsLiveAt, IsUnused, KeepsElsewhere, KeepsOthers, tile_in}
 use Rattle.gpu_alloc_fits.specs.declared.fits.Chunk.{Chunk as Row}
 use Rattle.gpu_alloc_fits.specs.declared.search.Full.{Full}
 use Rattle.gpu_alloc_fits.specs.declared.tile.Node.{Node}
+use Rattle.gpu_alloc_fits.specs.declared.tile.Place.{Place}
 use Rattle.gpu_alloc_fits.specs.declared.tile.Tile.{Tile}
 use Rattle.gpu_alloc_fits.proofs.Live.{in_live, live_less, live_more}
-use Rattle.gpu_alloc_fits.proofs.Nodes.{keeps_kept, tile_of}
+use Rattle.gpu_alloc_fits.proofs.Nodes.{keeps_kept, tile_of, tile_of_node}
 use Rattle.gpu_alloc_fits.proofs.Runs.{held_chunk, held_row, in_place}
 use Rattle.gpu_alloc_fits.proofs.Tiles.{one_tile, unused_whole, whole_unused}
 
@@ -170,6 +171,10 @@ module _ {M : Type 0} (object : M → ℕ) (rows : Slab (Row M)) (nodes : Slab N
       let start : at.0.start ≡ h.1.start = at.1.1.tile.starts ∙ sym (ap (λ (s : Slot). s.offset) h.3) in
       let key = kept.tiled.apart k h.0 at.0 h.1 at.1.0 h.2.0 chunk (omega (arith, start, some_h)) (omega (arith, start, some)) in
       ap (slot_of chunks) (one_tile (tile_in nodes) k h.0 at.0 h.1 at.1.0 h.2.0 key) ∙ h.3
+
+-- the tile of a place stands under its key
+abbrev pub at_place : {M : Type 0} {name : M → ℕ} {rows : Slab (Row M)} {nodes : Slab Node} {object offset size : ℕ} {p : Place} → IsPlace name rows nodes object offset size p → IsAtKey (chunks_in name rows) (tile_in nodes) object offset size p.key
+at_place {M} {name} {rows} {nodes} {object} {offset} {size} {p} is = (p.node.tile, (tile_of_node nodes p.key p.node is.at, is.block))
 
 -- A block is taken out of a free tile.
 

@@ -10,8 +10,8 @@ ghost use Rattle.gpu_alloc_base.specs.AlignMasks.{IsAlignMask};
 ghost use Rattle.gpu_alloc_base.specs.RangeOrder.{AreInOrder};
 ghost use Rattle.gpu_alloc_base.specs.declared.free_list_block.Slot.{Slot as LiveSlot};
 ghost use Rattle.gpu_alloc_fits.specs.Fits.{HasRooms, TakesPlace};
-ghost use Rattle.gpu_alloc_fits.specs.Inside.{IsAtKey, IsBlock, IsLiveTile, IsWholeTile, IsWithout, chunks_in};
-ghost use Rattle.gpu_alloc_fits.specs.Inside.{free_range, listed, live_row, size_in};
+ghost use Rattle.gpu_alloc_fits.specs.Inside.{IsAtKey, IsBlock, IsLiveTile, IsPlace, IsWholeTile, IsWithout};
+ghost use Rattle.gpu_alloc_fits.specs.Inside.{chunks_in, free_range, listed, live_row, size_in};
 ghost use Rattle.gpu_alloc_fits.specs.Links.{IsKept};
 ghost use Rattle.gpu_alloc_fits.specs.Listed.{AddsSlots, ListsChunks};
 ghost use Rattle.gpu_alloc_fits.specs.Space.{Adds, BeginsChunk, HasPlace, IsLiveSlot, IsLiveSpan, IsNoLiveSpan, IsRunOf};
@@ -24,7 +24,7 @@ use crate::classes::{Classes, class_of, file, unfile};
 use crate::cut::cut_out;
 use crate::join::put_back;
 use crate::search::{Known, find_place, last_start};
-use crate::tile::{NONE, Node, Tile, unlisted};
+use crate::tile::{NONE, Node, Place, Tile, unlisted};
 use gpu_alloc_base::buddy_block::Leaf;
 use gpu_alloc_base::free_list_block::Slot;
 use gpu_alloc_base::range_order::put_in_order;
@@ -277,7 +277,7 @@ impl<M: MemoryObject, A: Allocator> Fits<M, A> {
         ensures few { looks.new ≤ looks.old + 2 }
     {
         let (_, slot, hint) = into_parts(block);
-        let Some(key) = key_of(
+        let Some(place) = place_of(
             &self.chunks,
             &self.tiles,
             hint,
@@ -287,11 +287,15 @@ impl<M: MemoryObject, A: Allocator> Fits<M, A> {
         ) else {
             unreachable!();
         };
-        let (joint, joint_key) =
-            put_back(&mut self.tiles, &mut self.classes, &self.chunks, key, looks);
+        let (joint, key) = put_back(
+            &mut self.tiles,
+            &mut self.classes,
+            &self.chunks,
+            place,
+            looks,
+        );
         self.known.full = None;
-        let whole = self.chunks[joint.chunk].size;
-        if !is_whole(joint, whole) {
+        if !is_whole(joint, place.whole) {
             return None;
         }
         match self.spare {
@@ -299,11 +303,11 @@ impl<M: MemoryObject, A: Allocator> Fits<M, A> {
                 &mut self.chunks,
                 &mut self.tiles,
                 &mut self.classes,
-                joint_key,
+                key,
                 joint.chunk,
             )),
             None => {
-                self.spare = Some(joint_key);
+                self.spare = Some(key);
                 None
             }
         }
@@ -346,14 +350,14 @@ impl<M: MemoryObject, A: Allocator> Fits<M, A> {
         ensures exact { (slot : LiveSlot) → IsLiveSpan (self.now).space object offset size slot
             → IfSome result (λ found. found.0 ≡ slot) }
     {
-        let key = key_of(&self.chunks, &self.tiles, key, object, offset, size)?;
+        let place = place_of(&self.chunks, &self.tiles, key, object, offset, size)?;
         let slot = Slot {
             object,
-            chunk: self.tiles[key].tile.chunk as u64,
+            chunk: place.node.tile.chunk as u64,
             offset,
             size,
         };
-        Some((slot, key))
+        Some((slot, place.key))
     }
 
     /// The held chunks, each once, by rising key.
@@ -444,25 +448,38 @@ fn end<M: MemoryObject, A: Allocator>(
     (memory, size)
 }
 
-/// The key of the tile that is the live block of this span: this one where it is, and else the one that a search finds.
+/// Where the tile stands that is the live block of this span: under this key if it is there, and else where a search finds
+/// it.
 #[inline(always)]
-fn key_of<M: MemoryObject, A: Allocator>(
+fn place_of<M: MemoryObject, A: Allocator>(
     chunks: &Slab<Chunk<M>, A>,
     tiles: &Slab<Node, A>,
     key: usize,
     object: u64,
     offset: u64,
     size: u64,
-) -> Option<usize>
+) -> Option<Place>
     requires kept { IsKept (size_in chunks.now) tiles.now }
     ensures { MatchOption result
         ((k : ℕ) → IsAtKey (chunks_in M.object chunks.now) (tile_in tiles.now) object offset size k → ⊥)
-        (IsAtKey (chunks_in M.object chunks.now) (tile_in tiles.now) object offset size) }
+        (IsPlace M.object chunks.now tiles.now object offset size) }
 {
-    match tiles.get(key) {
-        Some(node) if is_of(chunks, node.tile, object, offset, size) => Some(key),
-        _ => search(chunks, tiles, object, offset, size),
+    if let Some(node) = tiles.get(key) {
+        if is_of(chunks, node.tile, object, offset, size) {
+            return Some(Place {
+                key,
+                node: *node,
+                whole: chunks[node.tile.chunk].size,
+            });
+        }
     }
+    let found = search(chunks, tiles, object, offset, size)?;
+    let node = tiles[found];
+    Some(Place {
+        key: found,
+        node,
+        whole: chunks[node.tile.chunk].size,
+    })
 }
 
 /// The key of the tile that is the live block of this span, by a search of all tiles.

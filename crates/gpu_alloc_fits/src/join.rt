@@ -3,13 +3,13 @@
 ghost use Rattle.std.specs.Prelude.{◌≡◌, ◌≤◌, ◌+◌, ◌↔◌, ℕ, Some, true, false, IsTrue};
 ghost use Rattle.slab.specs.Slab.{ContainsKey, get};
 ghost use Rattle.gpu_alloc_fits.specs.Inside.{size_in};
-ghost use Rattle.gpu_alloc_fits.specs.Links.{IsBeside, IsKept};
-ghost use Rattle.gpu_alloc_fits.specs.Tiles.{GivesBack, IsFirst, IsFreeOf, IsLiveAt, KeepsElsewhere, KeepsLive, tile_in};
+ghost use Rattle.gpu_alloc_fits.specs.Links.{IsBeside, IsKept, with_free};
+ghost use Rattle.gpu_alloc_fits.specs.Tiles.{GivesBack, IsFirst, IsFreeOf, KeepsElsewhere, KeepsLive, tile_in};
 ghost use Rattle.gpu_alloc_fits.specs.declared.tile.Tile.{Tile as TileOf};
 
 use crate::classes::{Classes, class_of, refile, unfile};
 use crate::fits::Chunk;
-use crate::tile::{NONE, Node, Tile, bytes_of, set_before, set_end, set_free};
+use crate::tile::{NONE, Node, Place, Tile, bytes_of, set_before, set_end, set_free};
 use gpu_alloc_base::steps::Steps;
 use gpu_alloc_types::MemoryObject;
 use slab::Slab;
@@ -30,22 +30,22 @@ pub(crate) fn put_back<M: MemoryObject, A: Allocator, L: Ledger>(
     nodes: &mut Slab<Node, A>,
     classes: &mut Classes,
     chunks: &Slab<Chunk<M>, A>,
-    key: usize,
+    place: Place,
     looks: &mut Steps<L>,
 ) -> (Tile, usize)
     requires kept { IsKept (size_in chunks.now) nodes.old }
-    requires live { (a : TileOf) × IsLiveAt (tile_in nodes.old) key a }
+    requires at { get nodes.old place.key ≡ Some place.node }
+    requires live { place.node.tile.free ≡ false }
+    requires whole { size_in chunks.now place.node.tile.chunk ≡ place.whole }
     ensures kept { IsKept (size_in chunks.now) nodes.new }
-    ensures back { GivesBack (tile_in nodes.old) (tile_in nodes.new) key }
-    ensures joint { (a : TileOf) → tile_in nodes.old key ≡ Some a → IsFreeOf a.chunk (tile_in nodes.new) result.1 result.0 }
-    ensures elsewhere { (a : TileOf) → tile_in nodes.old key ≡ Some a
-        → KeepsElsewhere a.chunk (tile_in nodes.old) (tile_in nodes.new) }
+    ensures back { GivesBack (tile_in nodes.old) (tile_in nodes.new) place.key }
+    ensures joint { IsFreeOf place.node.tile.chunk (tile_in nodes.new) result.1 result.0 }
+    ensures elsewhere { KeepsElsewhere place.node.tile.chunk (tile_in nodes.old) (tile_in nodes.new) }
     ensures few { looks.new ≤ looks.old + 2 }
 {
-    let whole = chunks[nodes[key].tile.chunk].size;
-    set_free(nodes, key, true);
-    let joint = join_before(nodes, chunks, key, whole, looks);
-    let tile = join_after(nodes, classes, chunks, joint.key, whole, looks);
+    set_free(nodes, place.key, true);
+    let joint = join_before(nodes, chunks, place, looks);
+    let tile = join_after(nodes, classes, chunks, joint.key, place.whole, looks);
     refile(nodes, classes, joint.key, joint.class, class_of(bytes_of(tile)));
     (tile, joint.key)
 }
@@ -61,27 +61,25 @@ fn look<A: Allocator, L: Ledger>(nodes: &Slab<Node, A>, other: usize, looks: &mu
     nodes[other]
 }
 
-/// Joins a free tile with the free one before it, if there is one, under the key of that one.
+/// Joins a tile that was freed with the free one before it, if there is one, under the key of that one.
 #[inline(always)]
 fn join_before<M: MemoryObject, A: Allocator, L: Ledger>(
     nodes: &mut Slab<Node, A>,
     chunks: &Slab<Chunk<M>, A>,
-    key: usize,
-    whole: u64,
+    place: Place,
     looks: &mut Steps<L>,
 ) -> Joint
-    requires beside { IsBeside (size_in chunks.now) key nodes.old }
-    requires whole { (a : TileOf) → tile_in nodes.old key ≡ Some a → size_in chunks.now a.chunk ≡ whole }
+    requires beside { IsBeside (size_in chunks.now) place.key nodes.old }
+    requires at { get nodes.old place.key ≡ Some (with_free true place.node) }
+    requires whole { size_in chunks.now place.node.tile.chunk ≡ place.whole }
     ensures beside { IsBeside (size_in chunks.now) result.key nodes.new }
     ensures first { IsFirst result.key (tile_in nodes.new) }
     ensures lives { KeepsLive (tile_in nodes.old) (tile_in nodes.new) }
-    ensures joint { (a : TileOf) → tile_in nodes.old key ≡ Some a
-        → (b : TileOf) × IsFreeOf a.chunk (tile_in nodes.new) result.key b }
-    ensures elsewhere { (a : TileOf) → tile_in nodes.old key ≡ Some a
-        → KeepsElsewhere a.chunk (tile_in nodes.old) (tile_in nodes.new) }
+    ensures joint { (b : TileOf) × IsFreeOf place.node.tile.chunk (tile_in nodes.new) result.key b }
+    ensures elsewhere { KeepsElsewhere place.node.tile.chunk (tile_in nodes.old) (tile_in nodes.new) }
     ensures few { looks.new ≤ looks.old + 1 }
 {
-    let node = nodes[key];
+    let Place { key, node, whole } = place;
     if node.tile.start == 0 {
         return Joint { key, class: NONE };
     }

@@ -50,6 +50,14 @@ pub(crate) struct Node {
     pub(crate) down: usize,
 }
 
+/// Where a tile stands: its key, its node, and the size of its chunk in bytes.
+#[derive(Clone, Copy)]
+pub(crate) struct Place {
+    pub(crate) key: usize,
+    pub(crate) node: Node,
+    pub(crate) whole: u64,
+}
+
 /// A node that stands in no list of a class.
 #[inline(always)]
 pub(crate) fn unlisted(tile: Tile, before: usize, after: usize) -> Node
