@@ -46,7 +46,13 @@ pub(crate) fn put_back<M: MemoryObject, A: Allocator, L: Ledger>(
     set_free(nodes, place.key, true);
     let joint = join_before(nodes, chunks, place, looks);
     let tile = join_after(nodes, classes, chunks, joint.key, place.whole, looks);
-    refile(nodes, classes, joint.key, joint.class, class_of(bytes_of(tile)));
+    refile(
+        nodes,
+        classes,
+        joint.key,
+        joint.class,
+        class_of(bytes_of(tile)),
+    );
     (tile, joint.key)
 }
 

@@ -88,12 +88,7 @@ pub(crate) fn set_free<A: Allocator>(nodes: &mut Slab<Node, A>, key: usize, free
 
 /// Writes where a tile ends, and which one starts there.
 #[inline(always)]
-pub(crate) fn set_end<A: Allocator>(
-    nodes: &mut Slab<Node, A>,
-    key: usize,
-    end: u64,
-    after: usize,
-)
+pub(crate) fn set_end<A: Allocator>(nodes: &mut Slab<Node, A>, key: usize, end: u64, after: usize)
     requires { ContainsKey nodes.old key }
     ensures updates { Updates nodes.old nodes.new key (option_map (with_end end after) (get nodes.old key)) }
     ensures len { slab_len nodes.new ≡ slab_len nodes.old }
