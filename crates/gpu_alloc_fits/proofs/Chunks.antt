@@ -107,9 +107,6 @@ module _ (old new : ℕ → ℕ) (chunk size : ℕ) (s0 s1 : Slab Node) (x : ℕ
   pub begun_else : (k : ℕ) (c : Tile) → tile_in s0 k ≡ Some c → c.chunk ≢ chunk
   begun_else k c is = elsewhere k c is
 
-  pub begun_at : tile_in s1 x ≡ Some whole_tile
-  begun_at = sets.changed
-
 -- A wholly free chunk goes, with its tile.
 module _ (old new : ℕ → ℕ) (s0 z s1 : Slab Node) (x chunk : ℕ) (kept_0 : IsKept old s0) (k0 : Keeps s0 z) (whole : IsWholeTile old (tile_in s0) x chunk) (resizes : Resizes old new chunk 0) (goes : Updates z s1 x None) where
   kept : IsKept old z

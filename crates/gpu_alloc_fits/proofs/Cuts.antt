@@ -1,33 +1,41 @@
--- A free tile is taken, and what a block leaves of it is free again.
-use Rattle.std.proofs.Common.{◌≡◌, ◌≢◌, inl, inr, ℕ, ◌<◌, ◌≤◌, Bool, true, false, Option, Some, None, IsSome, refl, sym, ◌∙◌, ap, subst, arith}
+-- The end of a free tile is taken, and what a block leaves behind it is free again.
+use Rattle.std.proofs.Common.{◌≡◌, ◌≢◌, inl, inr, ℕ, ◌<◌, Bool, true, false, Option, Some, None, IsSome, option_map, refl, sym, ◌∙◌, ap, subst, arith}
 use Rattle.std.proofs.lemmas.Bool.{cases_eq}
 use Rattle.slab.specs.Slab.{Slab, ContainsKey, Updates, get}
 use Rattle.gpu_alloc_fits.specs.Inside.{size_in, size_of}
-use Rattle.gpu_alloc_fits.specs.Links.{AreLinked, IsKept, Keeps, SetsAfter, SetsBefore, after_in, after_of, before_in, before_of}
-use Rattle.gpu_alloc_fits.specs.Tiles.{AreNeighbours, HasFree, IsFreeLeft, IsFreeRight, IsLiveAt, IsTiled, KeepsElsewhere, KeepsOthers, Sets, tile_in}
+use Rattle.gpu_alloc_fits.specs.Links.{AreLinked, IsKept, Keeps, SetsBefore, after_in, after_of, before_in, before_of, with_end, with_free}
+use Rattle.gpu_alloc_fits.specs.Tiles.{AreNeighbours, IsFreeRight, IsLiveAt, IsTiled, IsUnused, KeepsElsewhere, KeepsOthers, Sets, tile_in}
 use Rattle.gpu_alloc_fits.specs.declared.fits.Chunk.{Chunk as Row}
 use Rattle.gpu_alloc_fits.specs.declared.tile.Node.{Node}
 use Rattle.gpu_alloc_fits.specs.declared.tile.Tile.{Tile}
-use Rattle.gpu_alloc_fits.proofs.Links.{ends_before, key_after, key_before, retiled_linked, starts_behind}
-use Rattle.gpu_alloc_fits.proofs.Nodes.{after_left, before_left, has_tile, keeps_kept, other_after, other_before, other_tile, put_after, put_before, puts, tile_of, tile_of_node, with_tiles}
-use Rattle.gpu_alloc_fits.proofs.Splits.{back_calm, back_elsewhere, back_tiled, front_calm, front_elsewhere, front_right, front_tiled, others_cut, split_linked}
+use Rattle.gpu_alloc_fits.proofs.Links.{ends_before, key_after, retiled_linked}
+use Rattle.gpu_alloc_fits.proofs.Nodes.{before_left, has_tile, keeps_kept, node_of_tile, other_after, other_before, other_tile, put_after, put_before, puts, tile_of, tile_of_node, with_tiles, written}
+use Rattle.gpu_alloc_fits.proofs.Splits.{back_calm, calm_end, cut_tiled, others_cut, others_end, right_end, split_elsewhere, split_linked}
 use Rattle.gpu_alloc_fits.proofs.Tiles.{IsJoint, Splits, came, not_both, one_tile, retiled}
 
 -- A free tile is taken whole.
 
-module _ (size : ℕ → ℕ) (s0 z s1 : Slab Node) (x chunk : ℕ) (n m : Node) (kept : IsKept size s0) (k0 : Keeps s0 z) (at : get z x ≡ Some n) (free : n.tile.free ≡ true) (of_chunk : n.tile.chunk ≡ chunk) (puts_m : Updates z s1 x (Some m))
-    (tile : m.tile ≡ record { chunk = chunk; start = n.tile.start; end = n.tile.end; free = false }) (before : m.before ≡ n.before) (after : m.after ≡ n.after) where
+module _ (size : ℕ → ℕ) (s0 z s1 : Slab Node) (x : ℕ) (run : Tile) (kept : IsKept size s0) (at_run : tile_in s0 x ≡ Some run) (free : run.free ≡ true) (k0 : Keeps s0 z) (writes : Updates z s1 x (option_map (with_free false) (get z x))) where
   abbrev taken_tile : Tile
-  taken_tile = record { chunk = chunk; start = n.tile.start; end = n.tile.end; free = false }
+  taken_tile = record { chunk = run.chunk; start = run.start; end = run.end; free = false }
+
+  at_t : tile_in z x ≡ Some run
+  at_t = k0.tiles x ∙ at_run
+
+  node : (n : Node) × (get z x ≡ Some n) × (n.tile ≡ run)
+  node = node_of_tile z x run at_t
+
+  puts_m : Updates z s1 x (Some (with_free false node.0))
+  puts_m = written z s1 x node.0 (with_free false) node.1 writes
+
+  same_tile : record node.0.tile { free = false } ≡ taken_tile
+  same_tile = ap (λ (t : Tile). record { chunk = t.chunk; start = t.start; end = t.end; free = false }) node.2
 
   sets : Sets (tile_in z) (tile_in s1) x (Some taken_tile)
-  sets = subst (λ t. Sets (tile_in z) (tile_in s1) x (Some t)) tile (puts z s1 x m puts_m)
+  sets = subst (λ t. Sets (tile_in z) (tile_in s1) x (Some t)) same_tile (puts z s1 x (with_free false node.0) puts_m)
 
   kept_z : IsKept size z
   kept_z = keeps_kept s0 z k0 size kept
-
-  at_t : tile_in z x ≡ Some n.tile
-  at_t = tile_of_node z x n at
 
   -- what is free then was free before, under another key
   old : (k : ℕ) (c : Tile) → tile_in s1 k ≡ Some c → c.free ≡ true → (k ≢ x) × (tile_in z k ≡ Some c)
@@ -38,35 +46,33 @@ module _ (size : ℕ → ℕ) (s0 z s1 : Slab Node) (x chunk : ℕ) (n m : Node)
 
   same_before : (k : ℕ) → before_in s1 k ≡ before_in z k
   same_before k = elim (cases_eq k x) [
-    | inl here ↦ ap (before_in s1) here ∙ put_before z s1 x m puts_m ∙ before ∙ sym (ap before_of at) ∙ sym (ap (before_in z) here)
-    | inr other ↦ other_before z s1 x (Some m) puts_m k other
+    | inl here ↦ ap (before_in s1) here ∙ put_before z s1 x (with_free false node.0) puts_m ∙ sym (ap before_of node.1) ∙ sym (ap (before_in z) here)
+    | inr other ↦ other_before z s1 x (Some (with_free false node.0)) puts_m k other
   ]
 
   same_after : (k : ℕ) → after_in s1 k ≡ after_in z k
   same_after k = elim (cases_eq k x) [
-    | inl here ↦ ap (after_in s1) here ∙ put_after z s1 x m puts_m ∙ after ∙ sym (ap after_of at) ∙ sym (ap (after_in z) here)
-    | inr other ↦ other_after z s1 x (Some m) puts_m k other
+    | inl here ↦ ap (after_in s1) here ∙ put_after z s1 x (with_free false node.0) puts_m ∙ sym (ap after_of node.1) ∙ sym (ap (after_in z) here)
+    | inr other ↦ other_after z s1 x (Some (with_free false node.0)) puts_m k other
   ]
 
   pub taken : IsKept size s1
   taken = record {
-    tiled = retiled size (tile_in z) (tile_in s1) x n.tile taken_tile kept_z.tiled at_t (record { chunk = of_chunk; start = refl; end = refl }) sets;
+    tiled = retiled size (tile_in z) (tile_in s1) x run taken_tile kept_z.tiled at_t (record { chunk = refl; start = refl; end = refl }) sets;
     calm = λ j k c d is_c is_d both. kept_z.calm j k c d (old j c is_c both.left).1 (old k d is_d both.right).1 both;
-    linked = retiled_linked (tile_in z) (tile_in s1) (before_in z) (after_in z) (before_in s1) (after_in s1) kept_z.linked x n.tile taken_tile at_t (record { chunk = of_chunk; start = refl; end = refl }) sets same_before same_after;
+    linked = retiled_linked (tile_in z) (tile_in s1) (before_in z) (after_in z) (before_in s1) (after_in s1) kept_z.linked x run taken_tile at_t (record { chunk = refl; start = refl; end = refl }) sets same_before same_after;
   }
 
-  pub taken_live : IsLiveAt (tile_in s1) x taken_tile
-  taken_live = (sets.changed, refl)
-
-  pub taken_left : IsFreeLeft x (tile_in s1)
-  taken_left k c t is_c c_free is_t near =
-      let e = one_tile (tile_in s1) x x t taken_tile is_t sets.changed refl in
-      kept_z.calm k x c n.tile (old k c is_c c_free).1 at_t (record { chunk = near.chunk ∙ ap (λ (q : Tile). q.chunk) e ∙ sym of_chunk; meet = near.meet ∙ ap (λ (q : Tile). q.start) e; left = c_free; right = free })
+  pub taken_live : (at : ℕ) → at ≡ run.start → IsLiveAt (tile_in s1) x (record { chunk = run.chunk; start = at; end = run.end; free = false })
+  taken_live at e = let same : taken_tile ≡ record { chunk = run.chunk; start = at; end = run.end; free = false } = (λ i. record { chunk = run.chunk; start = sym e i; end = run.end; free = false }) in (sets.changed ∙ ap Some same, refl)
 
   pub taken_right : IsFreeRight x (tile_in s1)
   taken_right k c t is_c c_free is_t near =
       let e = one_tile (tile_in s1) x x t taken_tile is_t sets.changed refl in
-      kept_z.calm x k n.tile c at_t (old k c is_c c_free).1 (record { chunk = of_chunk ∙ sym (ap (λ (q : Tile). q.chunk) e) ∙ near.chunk; meet = sym (ap (λ (q : Tile). q.end) e) ∙ near.meet; left = free; right = c_free })
+      kept_z.calm x k run c at_t (old k c is_c c_free).1 (record { chunk = sym (ap (λ (q : Tile). q.chunk) e) ∙ near.chunk; meet = sym (ap (λ (q : Tile). q.end) e) ∙ near.meet; left = free; right = c_free })
+
+  pub taken_unused : IsUnused (tile_in s0) x
+  taken_unused c live = not_both run c (one_tile (tile_in s0) x x run c at_run live.0 refl) free live.1
 
   pub taken_others : KeepsOthers (tile_in s0) (tile_in s1) x
   taken_others = record {
@@ -74,35 +80,14 @@ module _ (size : ℕ → ℕ) (s0 z s1 : Slab Node) (x chunk : ℕ) (n m : Node)
     was = λ k c ne live. (sym (k0.tiles k) ∙ sym (sets.others k ne) ∙ live.0, live.1);
   }
 
-  pub taken_elsewhere : KeepsElsewhere chunk (tile_in s0) (tile_in s1)
+  pub taken_elsewhere : KeepsElsewhere run.chunk (tile_in s0) (tile_in s1)
   taken_elsewhere k a is other =
       let is_z = k0.tiles k ∙ is in
-      sets.others k (λ same. other (ap (λ (t : Tile). t.chunk) (one_tile (tile_in z) k x a n.tile is_z at_t same) ∙ of_chunk)) ∙ is_z
+      sets.others k (λ same. other (ap (λ (t : Tile). t.chunk) (one_tile (tile_in z) k x a run is_z at_t same))) ∙ is_z
 
--- what is there to take
-module _ (s0 z : Slab Node) (x chunk start end : ℕ) (n : Node) (inside : HasFree (tile_in s0) x chunk start end) (k0 : Keeps s0 z) (at : get z x ≡ Some n) where
-  pub the_free : inside.tile ≡ n.tile
-  the_free = one_tile (tile_in z) x x inside.tile n.tile (k0.tiles x ∙ inside.at) (tile_of_node z x n at) refl
-
-  pub is_free : n.tile.free ≡ true
-  is_free = sym (ap (λ (t : Tile). t.free) the_free) ∙ inside.free
-
-  pub is_of_chunk : n.tile.chunk ≡ chunk
-  is_of_chunk = sym (ap (λ (t : Tile). t.chunk) the_free) ∙ inside.chunk_is
-
-  pub starts_before : n.tile.start ≤ start
-  starts_before = subst (λ (t : Tile). t.start ≤ start) the_free inside.from
-
-  pub ends_behind : end ≤ n.tile.end
-  ends_behind = subst (λ (t : Tile). end ≤ t.end) the_free inside.to
-
--- The steps of a cut: a new tile comes under y, the rest is put under x, and the neighbour on the side of the new one has
--- its key.
-module _ (size : ℕ → ℕ) (s0 s1 s2 : Slab Node) (x y : ℕ) (n o q : Node) (m : Tile) (kept : IsKept size s0) (at : get s0 x ≡ Some n) (live : IsLiveAt (tile_in s0) x m) (vacant : get s0 y ≡ None)
-    (comes : Updates s0 s1 y (Some o)) (puts_q : Updates s1 s2 x (Some q)) where
-  at_m : tile_in s0 x ≡ Some m
-  at_m = live.0
-
+-- The steps of a cut: the end comes under y, the front is put under x, and the tile behind has the key of the end.
+module _ (size : ℕ → ℕ) (s0 s1 s2 : Slab Node) (x y cut : ℕ) (n o : Node) (m : Tile) (kept : IsKept size s0) (at : get s0 x ≡ Some n) (at_m : tile_in s0 x ≡ Some m) (vacant : get s0 y ≡ None)
+    (comes : Updates s0 s1 y (Some o)) (writes : Updates s1 s2 x (option_map (with_end cut y) (get s1 x))) where
   fresh : tile_in s0 y ≡ None
   fresh = ap tile_of vacant
 
@@ -111,6 +96,15 @@ module _ (size : ℕ → ℕ) (s0 s1 s2 : Slab Node) (x y : ℕ) (n o q : Node) 
 
   not_new : (k : ℕ) (a : Tile) → tile_in s0 k ≡ Some a → k ≢ y
   not_new k a is same = let none : None ≡ Some a = sym fresh ∙ ap (tile_in s0) (sym same) ∙ is in cc
+
+  abbrev q : Node
+  q = with_end cut y n
+
+  puts_q : Updates s1 s2 x (Some q)
+  puts_q = written s1 s2 x n (with_end cut y) (comes.others x (λ e. ne (sym e)) ∙ at) writes
+
+  rest_tile : q.tile ≡ record { chunk = m.chunk; start = m.start; end = cut; free = m.free }
+  rest_tile = ap (λ (t : Tile). record { chunk = t.chunk; start = t.start; end = cut; free = t.free }) (one_tile (tile_in s0) x x n.tile m (tile_of_node s0 x n at) at_m refl)
 
   tile_2 : (k : ℕ) → k ≢ x → k ≢ y → tile_in s2 k ≡ tile_in s0 k
   tile_2 k ne_x ne_y = other_tile s1 s2 x (Some q) puts_q k ne_x ∙ other_tile s0 s1 y (Some o) comes k ne_y
@@ -135,82 +129,14 @@ module _ (size : ℕ → ℕ) (s0 s1 s2 : Slab Node) (x y : ℕ) (n o q : Node) 
     others = λ k ne_x ne_y. same k ∙ tile_2 k ne_x ne_y;
   }
 
-  -- The front comes off.
-  module _ (s3 s4 : Slab Node) (cut : ℕ) (from : m.start < cut) (to : cut < m.end) (new_tile : o.tile ≡ record { chunk = m.chunk; start = m.start; end = cut; free = true }) (rest_tile : q.tile ≡ record { chunk = m.chunk; start = cut; end = m.end; free = false })
-      (o_before : o.before ≡ n.before) (o_after : o.after ≡ x) (q_before : q.before ≡ y) (q_after : q.after ≡ n.after)
-      (behind : Bool) (yes' : 0 < m.start → behind ≡ true) (some : behind ≡ true → 0 < m.start) (sets : SetsAfter s2 s3 behind n.before y) (files : Keeps s3 s4) where
-    abbrev front_tile : Tile
-    front_tile = record { chunk = m.chunk; start = m.start; end = cut; free = true }
-
-    abbrev front_rest : Tile
-    front_rest = record { chunk = m.chunk; start = cut; end = m.end; free = false }
-
-    front_splits : Splits (tile_in s0) (tile_in s3) x y front_rest front_tile
-    front_splits = split_in s3 front_rest front_tile rest_tile new_tile sets.tiles
-
-    front_joint : IsJoint front_tile front_rest m
-    front_joint = record { chunk = refl; meet = refl; in_chunk = refl; start = refl; end = refl }
-
-    key_x : behind ≡ true → (a : Tile) × (tile_in s0 n.before ≡ Some a) × AreNeighbours a m × (after_in s0 n.before ≡ x) × (n.before ≢ x)
-    key_x h =
-        let k = key_before size (tile_in s0) kept.tiled x m at_m (before_in s0) (after_in s0) kept.linked (some h) in
-        let same : before_in s0 x ≡ n.before = ap before_of at in
-        (k.0, ap (tile_in s0) (sym same) ∙ k.1, k.2, ap (after_in s0) (sym same) ∙ k.3, (λ e. k.4 (same ∙ e)))
-
-    front_linked : AreLinked (tile_in s3) (before_in s3) (after_in s3)
-    front_linked = split_linked size (tile_in s0) (tile_in s3) x y y x front_tile front_rest front_rest front_tile m kept.tiled at_m front_splits front_joint from to front_splits.new front_splits.rest (inr (refl, refl))
-        (before_in s0) (after_in s0) (before_in s3) (after_in s3) kept.linked
-        (after_left s2 s3 behind n.before y sets y (λ h same. let w = key_x h in not_new n.before w.0 w.1 (sym same)) ∙ new_after ∙ o_after)
-        (sets.before x ∙ put_before s1 s2 x q puts_q ∙ q_before)
-        (λ j a at_j first.
-        let keys = kept.linked j x a m at_j at_m first in
-        let is : n.before ≡ j = sym (ap before_of at) ∙ keys.1 in
-        let h = yes' (starts_behind size (tile_in s0) kept.tiled x m at_m j a at_j first) in
-        let ne_x : j ≢ x = λ same. (key_x h).4 (is ∙ same) in
-        let held : ContainsKey s2 n.before = subst (ContainsKey s2) (sym is) (has_tile s2 j a (tile_2 j ne_x (not_new j a at_j) ∙ at_j)) in
-        (ap (after_in s3) (sym is) ∙ sets.written h held, sets.before y ∙ new_before ∙ o_before ∙ is))
-        (λ k b at_k last.
-        let keys = kept.linked x k m b at_m at_k last in
-        let ne_x : k ≢ x = λ same. (let e = one_tile (tile_in s0) k x b m at_k at_m same in omega (arith, last.meet, ap (λ (t : Tile). t.start) e, from, to)) in (
-          after_left s2 s3 behind n.before y sets x (λ h same. (key_x h).4 (sym same)) ∙ put_after s1 s2 x q puts_q ∙ q_after ∙ sym (ap after_of at) ∙ keys.0,
-          sets.before k ∙ before_2 k ne_x (not_new k b at_k) ∙ keys.1,
-        ))
-        (λ j k a b j_x k_x at_j at_k both. (
-          after_left s2 s3 behind n.before y sets j (λ h same. k_x (sym (kept.linked j k a b at_j at_k both).0 ∙ ap (after_in s0) same ∙ (key_x h).3)) ∙ after_2 j j_x (not_new j a at_j),
-          sets.before k ∙ before_2 k k_x (not_new k b at_k),
-        ))
-
-    front_kept_3 : IsFreeLeft x (tile_in s0) → IsKept size s3
-    front_kept_3 left = record {
-      tiled = front_tiled size (tile_in s0) (tile_in s3) x y front_rest front_tile m kept.tiled kept.calm at_m refl refl front_splits to from front_joint;
-      calm = front_calm size (tile_in s0) (tile_in s3) x y front_rest front_tile m kept.tiled kept.calm at_m refl refl front_splits to from front_joint left;
-      linked = front_linked;
-    }
-
-    pub front_kept : IsFreeLeft x (tile_in s0) → IsKept size s4
-    front_kept left = keeps_kept s3 s4 files size (front_kept_3 left)
-
-    pub front_then_right : IsFreeRight x (tile_in s0) → IsFreeRight x (tile_in s4)
-    front_then_right right = with_tiles s3 s4 files (IsFreeRight x) (front_right size (tile_in s0) (tile_in s3) x y front_rest front_tile m kept.tiled kept.calm at_m refl refl front_splits to from front_joint right)
-
-    pub front_live : IsLiveAt (tile_in s4) x front_rest
-    front_live = (files.tiles x ∙ front_splits.rest, refl)
-
-    pub front_others : KeepsOthers (tile_in s0) (tile_in s4) x
-    front_others = with_tiles s3 s4 files (λ T. KeepsOthers (tile_in s0) T x) (others_cut size (tile_in s0) (tile_in s3) x y front_rest front_tile m kept.tiled kept.calm at_m refl refl front_splits to from)
-
-    pub front_off : KeepsElsewhere m.chunk (tile_in s0) (tile_in s4)
-    front_off = with_tiles s3 s4 files (KeepsElsewhere m.chunk (tile_in s0)) (front_elsewhere size (tile_in s0) (tile_in s3) x y front_rest front_tile m kept.tiled kept.calm at_m refl refl front_splits to from front_joint)
-
-  -- The back comes off.
-  module _ (s3 s4 : Slab Node) (cut : ℕ) (from : m.start < cut) (to : cut < m.end) (new_tile : o.tile ≡ record { chunk = m.chunk; start = cut; end = m.end; free = true }) (rest_tile : q.tile ≡ record { chunk = m.chunk; start = m.start; end = cut; free = false })
-      (o_before : o.before ≡ x) (o_after : o.after ≡ n.after) (q_before : q.before ≡ n.before) (q_after : q.after ≡ y)
+  -- Each of the two may be free.
+  module _ (s3 s4 : Slab Node) (from : m.start < cut) (to : cut < m.end) (new_free : Bool) (new_tile : o.tile ≡ record { chunk = m.chunk; start = cut; end = m.end; free = new_free }) (o_before : o.before ≡ x) (o_after : o.after ≡ n.after)
       (less : Bool) (yes' : m.end < size m.chunk → less ≡ true) (some : less ≡ true → m.end < size m.chunk) (sets : SetsBefore s2 s3 less n.after y) (files : Keeps s3 s4) where
     abbrev back_tile : Tile
-    back_tile = record { chunk = m.chunk; start = cut; end = m.end; free = true }
+    back_tile = record { chunk = m.chunk; start = cut; end = m.end; free = new_free }
 
     abbrev back_rest : Tile
-    back_rest = record { chunk = m.chunk; start = m.start; end = cut; free = false }
+    back_rest = record { chunk = m.chunk; start = m.start; end = cut; free = m.free }
 
     back_splits : Splits (tile_in s0) (tile_in s3) x y back_rest back_tile
     back_splits = split_in s3 back_rest back_tile rest_tile new_tile sets.tiles
@@ -227,13 +153,13 @@ module _ (size : ℕ → ℕ) (s0 s1 s2 : Slab Node) (x y : ℕ) (n o q : Node) 
     back_linked : AreLinked (tile_in s3) (before_in s3) (after_in s3)
     back_linked = split_linked size (tile_in s0) (tile_in s3) x y x y back_rest back_tile back_rest back_tile m kept.tiled at_m back_splits back_joint from to back_splits.rest back_splits.new (inl (refl, refl))
         (before_in s0) (after_in s0) (before_in s3) (after_in s3) kept.linked
-        (sets.after x ∙ put_after s1 s2 x q puts_q ∙ q_after)
+        (sets.after x ∙ put_after s1 s2 x q puts_q)
         (before_left s2 s3 less n.after y sets y (λ h same. let w = key_behind h in not_new n.after w.0 w.1 (sym same)) ∙ new_before ∙ o_before)
         (λ j a at_j first.
         let keys = kept.linked j x a m at_j at_m first in
         let ne_x : j ≢ x = λ same. (let e = one_tile (tile_in s0) j x a m at_j at_m same in omega (arith, first.meet, ap (λ (t : Tile). t.end) e, from, to)) in (
           sets.after j ∙ after_2 j ne_x (not_new j a at_j) ∙ keys.0,
-          before_left s2 s3 less n.after y sets x (λ h same. (key_behind h).4 (sym same)) ∙ put_before s1 s2 x q puts_q ∙ q_before ∙ sym (ap before_of at) ∙ keys.1,
+          before_left s2 s3 less n.after y sets x (λ h same. (key_behind h).4 (sym same)) ∙ put_before s1 s2 x q puts_q ∙ sym (ap before_of at) ∙ keys.1,
         ))
         (λ k b at_k last.
         let keys = kept.linked x k m b at_m at_k last in
@@ -247,32 +173,53 @@ module _ (size : ℕ → ℕ) (s0 s1 s2 : Slab Node) (x y : ℕ) (n o q : Node) 
           before_left s2 s3 less n.after y sets k (λ h same. j_x (sym (kept.linked j k a b at_j at_k both).1 ∙ ap (before_in s0) same ∙ (key_behind h).3)) ∙ before_2 k k_x (not_new k b at_k),
         ))
 
-    back_kept_3 : IsFreeRight x (tile_in s0) → IsKept size s3
-    back_kept_3 right = record {
-      tiled = back_tiled size (tile_in s0) (tile_in s3) x y back_rest back_tile m kept.tiled kept.calm at_m refl refl back_splits from to back_joint;
-      calm = back_calm size (tile_in s0) (tile_in s3) x y back_rest back_tile m kept.tiled kept.calm at_m refl refl back_splits from to back_joint right;
-      linked = back_linked;
-    }
+    cut_all : IsTiled size (tile_in s3)
+    cut_all = cut_tiled size (tile_in s0) (tile_in s3) x y x y back_rest back_tile back_rest back_tile m kept.tiled at_m back_splits back_joint from to back_splits.rest back_splits.new (inl (refl, refl))
 
-    pub back_kept : IsFreeRight x (tile_in s0) → IsKept size s4
-    back_kept right = keeps_kept s3 s4 files size (back_kept_3 right)
+    pub cut_off : KeepsElsewhere m.chunk (tile_in s0) (tile_in s4)
+    cut_off = with_tiles s3 s4 files (KeepsElsewhere m.chunk (tile_in s0)) (split_elsewhere size (tile_in s0) (tile_in s3) x y x y back_rest back_tile back_rest back_tile m kept.tiled at_m back_splits back_joint from to back_splits.rest back_splits.new (inl (refl, refl)))
 
-    pub back_live : IsLiveAt (tile_in s4) x back_rest
-    back_live = (files.tiles x ∙ back_splits.rest, refl)
+    -- The end of a live tile comes free.
+    module _ (live : m.free ≡ false) (free : new_free ≡ true) where
+      pub back_kept : IsFreeRight x (tile_in s0) → IsKept size s4
+      back_kept right = keeps_kept s3 s4 files size (record {
+        tiled = cut_all;
+        calm = back_calm size (tile_in s0) (tile_in s3) x y back_rest back_tile m kept.tiled kept.calm at_m live free back_splits from to back_joint right;
+        linked = back_linked;
+      })
 
-    pub back_others : KeepsOthers (tile_in s0) (tile_in s4) x
-    back_others = with_tiles s3 s4 files (λ T. KeepsOthers (tile_in s0) T x) (others_cut size (tile_in s0) (tile_in s3) x y back_rest back_tile m kept.tiled kept.calm at_m refl refl back_splits from to)
+      pub back_live : IsLiveAt (tile_in s4) x (record m { end = cut })
+      back_live = (files.tiles x ∙ back_splits.rest, live)
 
-    pub back_off : KeepsElsewhere m.chunk (tile_in s0) (tile_in s4)
-    back_off = with_tiles s3 s4 files (KeepsElsewhere m.chunk (tile_in s0)) (back_elsewhere size (tile_in s0) (tile_in s3) x y back_rest back_tile m kept.tiled kept.calm at_m refl refl back_splits from to back_joint)
+      pub back_others : KeepsOthers (tile_in s0) (tile_in s4) x
+      back_others = with_tiles s3 s4 files (λ T. KeepsOthers (tile_in s0) T x) (others_cut size (tile_in s0) (tile_in s3) x y back_rest back_tile m kept.tiled kept.calm at_m live free back_splits from to)
+
+    -- That of a free one is taken.
+    module _ (was_free : m.free ≡ true) (live : new_free ≡ false) where
+      pub end_kept : IsKept size s4
+      end_kept = keeps_kept s3 s4 files size (record {
+        tiled = cut_all;
+        calm = calm_end size (tile_in s0) (tile_in s3) x y back_rest back_tile m kept.tiled kept.calm at_m was_free was_free live back_splits from to back_joint;
+        linked = back_linked;
+      })
+
+      pub end_live : IsLiveAt (tile_in s4) y (record { chunk = m.chunk; start = cut; end = m.end; free = false })
+      end_live = (files.tiles y ∙ back_splits.new ∙ ap (λ b. Some (record { chunk = m.chunk; start = cut; end = m.end; free = b })) live, refl)
+
+      pub end_right : IsFreeRight y (tile_in s4)
+      end_right = with_tiles s3 s4 files (IsFreeRight y) (right_end size (tile_in s0) (tile_in s3) x y back_rest back_tile m kept.tiled kept.calm at_m was_free was_free live back_splits from to back_joint)
+
+      pub end_others : KeepsOthers (tile_in s0) (tile_in s4) y
+      end_others = with_tiles s3 s4 files (λ T. KeepsOthers (tile_in s0) T y) (others_end size (tile_in s0) (tile_in s3) x y back_rest back_tile m kept.tiled kept.calm at_m was_free was_free live back_splits from to back_joint)
+
+-- no tile stands under a vacant key
+pub vacant_unused : (s : Slab Node) (y : ℕ) → get s y ≡ None → IsUnused (tile_in s) y
+vacant_unused s y vacant c live = let none : None ≡ Some c = sym (ap tile_of vacant) ∙ live.0 in cc
 
 -- Where nothing comes off.
 
-pub with_start : (T : ℕ → Option Tile) (x : ℕ) (a : Tile) (at : ℕ) → IsLiveAt T x a → at ≡ a.start → IsLiveAt T x (record a { start = at })
-with_start T x a at live e = let same : a ≡ record a { start = at } = (λ i. record a { start = sym e i }) in (live.0 ∙ ap Some same, live.1)
-
-pub with_end : (T : ℕ → Option Tile) (x : ℕ) (a : Tile) (at : ℕ) → IsLiveAt T x a → at ≡ a.end → IsLiveAt T x (record a { end = at })
-with_end T x a at live e = let same : a ≡ record a { end = at } = (λ i. record a { end = sym e i }) in (live.0 ∙ ap Some same, live.1)
+pub same_end : (T : ℕ → Option Tile) (x : ℕ) (a : Tile) (at : ℕ) → IsLiveAt T x a → at ≡ a.end → IsLiveAt T x (record a { end = at })
+same_end T x a at live e = let same : a ≡ record a { end = at } = (λ i. record a { end = sym e i }) in (live.0 ∙ ap Some same, live.1)
 
 pub same_others : (T : ℕ → Option Tile) (x : ℕ) → KeepsOthers T T x
 same_others T x = record { stays = λ k a ne live. live; was = λ k a ne live. live }

@@ -14,12 +14,12 @@ use Rattle.gpu_alloc_base.proofs.Slots.{slot_inserted}
 use Rattle.gpu_alloc_fits.specs.Inside.{IsSpareTile, IsStillFull, IsStored, IsWholeTile, chunk_of, chunks_in, live_in, size_in, size_of, slot_of, space_in}
 use Rattle.gpu_alloc_fits.specs.Links.{IsKept, Keeps}
 use Rattle.gpu_alloc_fits.specs.Space.{BeginsChunk, IsFreeIn, IsLiveSlot, IsUnheld, IsWhollyFree, Space, with_chunk, with_slot, without_chunk}
-use Rattle.gpu_alloc_fits.specs.Tiles.{IsLiveAt, KeepsElsewhere, KeepsLive, KeepsOthers, tile_in}
+use Rattle.gpu_alloc_fits.specs.Tiles.{IsLiveAt, IsUnused, KeepsElsewhere, KeepsLive, KeepsOthers, tile_in}
 use Rattle.gpu_alloc_fits.specs.declared.fits.Chunk.{Chunk as Row}
 use Rattle.gpu_alloc_fits.specs.declared.search.Full.{Full}
 use Rattle.gpu_alloc_fits.specs.declared.tile.Node.{Node}
 use Rattle.gpu_alloc_fits.specs.declared.tile.Tile.{Tile}
-use Rattle.gpu_alloc_fits.proofs.Chunks.{Resizes, begun, begun_at, begun_else, begun_keeps, begun_lives, resized}
+use Rattle.gpu_alloc_fits.proofs.Chunks.{Resizes, begun, begun_else, begun_keeps, begun_lives, resized}
 use Rattle.gpu_alloc_fits.proofs.Live.{in_live, live_elsewhere, live_more, live_same}
 use Rattle.gpu_alloc_fits.proofs.Nodes.{keeps_kept, with_tiles}
 use Rattle.gpu_alloc_fits.proofs.Stored.{block_slot}
@@ -110,7 +110,7 @@ module _ {M : Type 0} (object : M → ℕ) (old new : Slab (Row M)) (n1 n2 : Sla
 
 module _ {M : Type 0} (object : M → ℕ) (old new : Slab (Row M)) (n0 n1 n2 : Slab Node) (spare : Option ℕ) (full : Option Full) (stored : IsStored object old n0 spare full) (chunk : ℕ) (row : Row M) (vacant : get old chunk ≡ None)
     (comes : Updates old new chunk (Some row)) (lives : KeepsLive (tile_in n0) (tile_in n1)) (others_0 : (k : ℕ) (c : Tile) → tile_in n0 k ≡ Some c → tile_in n1 k ≡ Some c) (else_0 : (k : ℕ) (c : Tile) → tile_in n0 k ≡ Some c → c.chunk ≢ chunk)
-    (x : ℕ) (a b : Tile) (at : tile_in n1 x ≡ Some a) (free : a.free ≡ true) (live : IsLiveAt (tile_in n2) x b) (of_chunk : b.chunk ≡ chunk) (others : KeepsOthers (tile_in n1) (tile_in n2) x)
+    (x : ℕ) (b : Tile) (unused : IsUnused (tile_in n1) x) (live : IsLiveAt (tile_in n2) x b) (of_chunk : b.chunk ≡ chunk) (others : KeepsOthers (tile_in n1) (tile_in n2) x)
     (elsewhere_1 : KeepsElsewhere chunk (tile_in n1) (tile_in n2)) (kept : IsKept (size_in new) n2) where
   abbrev first : Space
   first = space_in (chunks_in object old) n0
@@ -129,7 +129,7 @@ module _ {M : Type 0} (object : M → ℕ) (old new : Slab (Row M)) (n0 n1 n2 : 
 
   live_with : live_in (chunks_in object new) n2 ≡ set.insert (live_in (chunks_in object old) n0) block
   live_with =
-      live_more (chunks_in object new) n1 n2 x a b at free live others
+      live_more (chunks_in object new) n1 n2 x b unused live others
       ∙ ap (λ l. set.insert l block)
       (live_same (chunks_in object new) n0 n1 lives
       ∙ live_elsewhere (chunks_in object old) (chunks_in object new) n0 (λ k c l. held_other c.chunk (else_0 k c l.0)))
@@ -194,7 +194,7 @@ module _ {M : Type 0} (object : M → ℕ) (old new : Slab (Row M)) (n0 s1 n1 n2
   abbrev come_block : Tile
   come_block = record { chunk = chunk; start = 0; end = size; free = false }
 
-  module _ (live : IsLiveAt (tile_in n2) x come_block) (others : KeepsOthers (tile_in n1) (tile_in n2) x) (elsewhere_1 : KeepsElsewhere chunk (tile_in n1) (tile_in n2)) (kept : IsKept (size_in new) n2) where
+  module _ (y : ℕ) (unused : IsUnused (tile_in n1) y) (live : IsLiveAt (tile_in n2) y come_block) (others : KeepsOthers (tile_in n1) (tile_in n2) y) (elsewhere_1 : KeepsElsewhere chunk (tile_in n1) (tile_in n2)) (kept : IsKept (size_in new) n2) where
     come_lives : KeepsLive (tile_in n0) (tile_in n1)
     come_lives = with_tiles s1 n1 files (λ T. KeepsLive (tile_in n0) T) (begun_lives (size_in old) (size_in new) chunk row.size n0 s1 x node stored.kept unheld_size some_row first_size vacant_tile comes_tile tile)
 
@@ -204,12 +204,9 @@ module _ {M : Type 0} (object : M → ℕ) (old new : Slab (Row M)) (n0 s1 n1 n2
     come_else : (k : ℕ) (c : Tile) → tile_in n0 k ≡ Some c → c.chunk ≢ chunk
     come_else k c is = begun_else (size_in old) (size_in new) chunk row.size n0 s1 x node stored.kept unheld_size some_row first_size vacant_tile comes_tile tile k c is
 
-    come_at : tile_in n1 x ≡ Some (record { chunk = chunk; start = 0; end = row.size; free = true })
-    come_at = files.tiles x ∙ begun_at (size_in old) (size_in new) chunk row.size n0 s1 x node stored.kept unheld_size some_row first_size vacant_tile comes_tile tile
-
     pub come_stored : IsStored object new n2 spare None
     come_stored =
-        begun_stored object old new n0 n1 n2 spare full stored chunk row vacant comes come_lives come_keeps come_else x _ come_block come_at refl live refl others elsewhere_1 kept (some_row, bounded)
+        begun_stored object old new n0 n1 n2 spare full stored chunk row vacant comes come_lives come_keeps come_else y come_block unused live refl others elsewhere_1 kept (some_row, bounded)
         (λ k r is same. unheld k (chunk_of object r) (get_by_key (chunk_of object) old k ∙ ap (option_map (chunk_of object)) is) (same ∙ named))
 
     -- the block by its own name
@@ -219,7 +216,7 @@ module _ {M : Type 0} (object : M → ℕ) (old new : Slab (Row M)) (n0 s1 n1 n2
     pub come_space : (slot : Slot) → slot ≡ record { object = name; chunk = chunk; offset = 0; size = size }
         → space_in (chunks_in object new) n2 ≡ with_slot (with_chunk (space_in (chunks_in object old) n0) slot row.size) slot
     come_space slot is =
-        begun_space object old new n0 n1 n2 spare full stored chunk row vacant comes come_lives come_keeps come_else x _ come_block come_at refl live refl others elsewhere_1 kept slot row.size
+        begun_space object old new n0 n1 n2 spare full stored chunk row vacant comes come_lives come_keeps come_else y come_block unused live refl others elsewhere_1 kept slot row.size
         (is ∙ sym come_is) refl (ap (λ (s : Slot). s.object) is ∙ sym named)
 
   pub come_begins : (slot : Slot) → slot ≡ record { object = name; chunk = chunk; offset = 0; size = size } → BeginsChunk (space_in (chunks_in object old) n0) size slot

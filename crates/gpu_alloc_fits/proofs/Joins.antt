@@ -1,38 +1,40 @@
 -- A free tile takes the free ones beside it in.
-use Rattle.std.proofs.Common.{◌≡◌, ◌≢◌, inl, inr, ℕ, ◌<◌, ◌≤◌, Bool, true, false, Option, Some, None, refl, sym, ◌∙◌, ap, subst, arith}
+use Rattle.std.proofs.Common.{◌≡◌, ◌≢◌, inl, inr, ℕ, ◌<◌, ◌≤◌, Bool, true, false, Option, Some, None, option_map, refl, sym, ◌∙◌, ap, subst, arith}
 use Rattle.std.proofs.lemmas.Bool.{cases_eq}
 use Rattle.std.specs.Prelude.{not}
 use Rattle.slab.specs.Slab.{Slab, ContainsKey, Updates, get}
-use Rattle.gpu_alloc_fits.specs.Links.{AreLinked, IsBeside, IsKept, Keeps, SetsAfter, SetsBefore, after_in, after_of, before_in, before_of}
-use Rattle.gpu_alloc_fits.specs.Tiles.{AreNeighbours, GivesBack, IsFirst, KeepsElsewhere, KeepsLive, Sets, tile_in}
+use Rattle.gpu_alloc_fits.specs.Links.{AreLinked, IsBeside, IsKept, Keeps, SetsBefore, after_in, after_of, before_in, before_of, with_end, with_free}
+use Rattle.gpu_alloc_fits.specs.Tiles.{AreFreeNeighbours, AreNeighbours, GivesBack, IsCalmBut, IsFirst, IsFreeOf, IsTiled, KeepsElsewhere, KeepsLive, Sets, tile_in}
 use Rattle.gpu_alloc_fits.specs.declared.tile.Node.{Node}
 use Rattle.gpu_alloc_fits.specs.declared.tile.Tile.{Tile}
-use Rattle.gpu_alloc_fits.proofs.Links.{after_else, before_else, ends_before, joint_linked, key_after, key_before, retiled_linked, starts_behind}
-use Rattle.gpu_alloc_fits.proofs.Nodes.{after_left, before_left, has_tile, other_after, other_before, other_tile, put_after, put_before, puts, tile_of, tile_of_node}
+use Rattle.gpu_alloc_fits.proofs.Links.{after_else, before_else, ends_before, joint_linked, key_after, key_before, retiled_linked}
+use Rattle.gpu_alloc_fits.proofs.Nodes.{before_left, has_tile, node_of_tile, other_after, other_before, other_tile, put_after, put_before, puts, tile_of, tile_of_node, written}
 use Rattle.gpu_alloc_fits.proofs.Tiles.{Absorbs, IsJoint, IsLast, came, came_joint, joint_calm, joint_lives, joint_tiled, not_both, one_tile, retiled, settled}
 
 -- A live tile is freed: it may touch free ones.
-module _ (size : ℕ → ℕ) (s0 s1 : Slab Node) (x : ℕ) (n m : Node) (kept : IsKept size s0) (at : get s0 x ≡ Some n) (puts_m : Updates s0 s1 x (Some m))
-    (tile : m.tile ≡ record { chunk = n.tile.chunk; start = n.tile.start; end = n.tile.end; free = true }) (before : m.before ≡ n.before) (after : m.after ≡ n.after) where
+module _ (size : ℕ → ℕ) (s0 s1 : Slab Node) (x : ℕ) (n : Node) (kept : IsKept size s0) (at : get s0 x ≡ Some n) (writes : Updates s0 s1 x (option_map (with_free true) (get s0 x))) where
   abbrev freed_tile : Tile
   freed_tile = record { chunk = n.tile.chunk; start = n.tile.start; end = n.tile.end; free = true }
 
+  puts_freed : Updates s0 s1 x (Some (with_free true n))
+  puts_freed = written s0 s1 x n (with_free true) at writes
+
   sets : Sets (tile_in s0) (tile_in s1) x (Some freed_tile)
-  sets = subst (λ t. Sets (tile_in s0) (tile_in s1) x (Some t)) tile (puts s0 s1 x m puts_m)
+  sets = puts s0 s1 x (with_free true n) puts_freed
 
   at_t : tile_in s0 x ≡ Some n.tile
   at_t = tile_of_node s0 x n at
 
   same_before : (k : ℕ) → before_in s1 k ≡ before_in s0 k
   same_before k = elim (cases_eq k x) [
-    | inl here ↦ ap (before_in s1) here ∙ put_before s0 s1 x m puts_m ∙ before ∙ sym (ap before_of at) ∙ sym (ap (before_in s0) here)
-    | inr other ↦ other_before s0 s1 x (Some m) puts_m k other
+    | inl here ↦ ap (before_in s1) here ∙ put_before s0 s1 x (with_free true n) puts_freed ∙ sym (ap before_of at) ∙ sym (ap (before_in s0) here)
+    | inr other ↦ other_before s0 s1 x (Some (with_free true n)) puts_freed k other
   ]
 
   same_after : (k : ℕ) → after_in s1 k ≡ after_in s0 k
   same_after k = elim (cases_eq k x) [
-    | inl here ↦ ap (after_in s1) here ∙ put_after s0 s1 x m puts_m ∙ after ∙ sym (ap after_of at) ∙ sym (ap (after_in s0) here)
-    | inr other ↦ other_after s0 s1 x (Some m) puts_m k other
+    | inl here ↦ ap (after_in s1) here ∙ put_after s0 s1 x (with_free true n) puts_freed ∙ sym (ap after_of at) ∙ sym (ap (after_in s0) here)
+    | inr other ↦ other_after s0 s1 x (Some (with_free true n)) puts_freed k other
   ]
 
   pub freed : IsBeside size x s1
@@ -68,6 +70,12 @@ unnot false e = absurd (cc)
 
 pub beside_free : (size : ℕ → ℕ) (s : Slab Node) (x : ℕ) (n : Node) → IsBeside size x s → get s x ≡ Some n → n.tile.free ≡ true
 beside_free size s x n beside at = ap (λ (t : Tile). t.free) (one_tile (tile_in s) x x n.tile beside.tile (tile_of_node s x n at) beside.at refl) ∙ beside.free
+
+-- the tile under the key stays as it is
+pub stays_free : (size : ℕ → ℕ) (s : Slab Node) (x : ℕ) (n : Node) → IsBeside size x s → get s x ≡ Some n → (a : Tile) → tile_in s x ≡ Some a → IsFreeOf a.chunk (tile_in s) x n.tile
+stays_free size s x n beside at a is =
+    let at_x = tile_of_node s x n at in
+    record { at = at_x; free = beside_free size s x n beside at; chunk_is = ap (λ (t : Tile). t.chunk) (one_tile (tile_in s) x x n.tile a at_x is refl) }
 
 -- Where nothing is joined.
 
@@ -150,18 +158,35 @@ pub record IsJoined (size : ℕ → ℕ) (old new : Slab Node) (x chunk : ℕ) :
   pub lives : KeepsLive (tile_in old) (tile_in new)
   pub elsewhere : KeepsElsewhere chunk (tile_in old) (tile_in new)
 
--- where the neighbour went, the tile stands
+-- where the one tile went, the other stands
 pub put_key : (s0 z s1 : Slab Node) (x y : ℕ) (n : Node) → get s0 x ≡ Some n → y ≢ x → Keeps s0 z → Updates z s1 y None → ContainsKey s1 x
 put_key s0 z s1 x y n at ne k0 gone = has_tile s1 x n.tile (other_tile z s1 y None gone x (λ e. ne (sym e)) ∙ k0.tiles x ∙ tile_of_node s0 x n at)
 
--- The steps of a join: the neighbour goes, the joint is put, and the neighbour's other neighbour has its key.
-module _ (size : ℕ → ℕ) (s0 z s1 s2 : Slab Node) (x y : ℕ) (n o m : Node) (beside : IsBeside size x s0) (at : get s0 x ≡ Some n) (there : get s0 y ≡ Some o) (free : o.tile.free ≡ true) (ne : y ≢ x)
-    (k0 : Keeps s0 z) (gone : Updates z s1 y None) (puts_m : Updates s1 s2 x (Some m)) where
+-- The steps of a join: the tile behind goes, the one before it grows, and what is behind both has its key.
+module _ (size : ℕ → ℕ) (s0 z s1 s2 : Slab Node) (x y : ℕ) (n o : Node) (tiled : IsTiled size (tile_in s0)) (linked : AreLinked (tile_in s0) (before_in s0) (after_in s0)) (at : get s0 x ≡ Some n) (n_free : n.tile.free ≡ true) (there : get s0 y ≡ Some o)
+    (free : o.tile.free ≡ true) (ne : y ≢ x) (k0 : Keeps s0 z) (gone : Updates z s1 y None)
+    (writes : Updates s1 s2 x (option_map (with_end o.tile.end o.after) (get s1 x))) where
   at_x : tile_in s0 x ≡ Some n.tile
   at_x = tile_of_node s0 x n at
 
   at_y : tile_in s0 y ≡ Some o.tile
   at_y = tile_of_node s0 y o there
+
+  -- the node that is written
+  node : (q : Node) × (get z x ≡ Some q) × (q.tile ≡ n.tile)
+  node = node_of_tile z x n.tile (k0.tiles x ∙ at_x)
+
+  abbrev m : Node
+  m = with_end o.tile.end o.after node.0
+
+  puts_m : Updates s1 s2 x (Some m)
+  puts_m = written s1 s2 x node.0 (with_end o.tile.end o.after) (gone.others x (λ e. ne (sym e)) ∙ node.1) writes
+
+  m_tile : m.tile ≡ record { chunk = n.tile.chunk; start = n.tile.start; end = o.tile.end; free = true }
+  m_tile = ap (λ (t : Tile). record { chunk = t.chunk; start = t.start; end = o.tile.end; free = t.free }) node.2 ∙ ap (λ b. record { chunk = n.tile.chunk; start = n.tile.start; end = o.tile.end; free = b }) n_free
+
+  m_before : m.before ≡ n.before
+  m_before = sym (ap before_of node.1) ∙ k0.before x ∙ ap before_of at
 
   tile_2 : (k : ℕ) → k ≢ x → k ≢ y → tile_in s2 k ≡ tile_in s0 k
   tile_2 k ne_x ne_y = other_tile s1 s2 x (Some m) puts_m k ne_x ∙ other_tile z s1 y None gone k ne_y ∙ k0.tiles k
@@ -171,9 +196,6 @@ module _ (size : ℕ → ℕ) (s0 z s1 s2 : Slab Node) (x y : ℕ) (n o m : Node
 
   after_2 : (k : ℕ) → k ≢ x → k ≢ y → after_in s2 k ≡ after_in s0 k
   after_2 k ne_x ne_y = other_after s1 s2 x (Some m) puts_m k ne_x ∙ other_after z s1 y None gone k ne_y ∙ k0.after k
-
-  n_free : n.tile.free ≡ true
-  n_free = beside_free size s0 x n beside at
 
   absorbed : (s3 : Slab Node) (t : Tile) → m.tile ≡ t → ((k : ℕ) → tile_in s3 k ≡ tile_in s2 k) → Absorbs (tile_in s0) (tile_in s3) x y t
   absorbed s3 t is same = record {
@@ -189,131 +211,58 @@ module _ (size : ℕ → ℕ) (s0 z s1 s2 : Slab Node) (x y : ℕ) (n o m : Node
       (λ same. other (ap (λ (t : Tile). t.chunk) (one_tile (tile_in s0) k y a o.tile is at_y same) ∙ chunk))
       ∙ is
 
-  -- The neighbour ended where the tile started.
-  module _ (s3 : Slab Node) (near : AreNeighbours o.tile n.tile) (tile : m.tile ≡ record { chunk = n.tile.chunk; start = o.tile.start; end = n.tile.end; free = true }) (before : m.before ≡ o.before) (after : m.after ≡ n.after)
-      (behind : Bool) (yes' : 0 < o.tile.start → behind ≡ true) (some : behind ≡ true → 0 < o.tile.start) (sets : SetsAfter s2 s3 behind o.before x) where
-    abbrev left_tile : Tile
-    left_tile = record { chunk = n.tile.chunk; start = o.tile.start; end = n.tile.end; free = true }
-
-    left_absorbed : Absorbs (tile_in s0) (tile_in s3) x y left_tile
-    left_absorbed = absorbed s3 left_tile tile sets.tiles
-
-    left_joint : IsJoint o.tile n.tile left_tile
-    left_joint = record { chunk = near.chunk; meet = near.meet; in_chunk = sym near.chunk; start = refl; end = refl }
-
-    -- x ends where y starts for no chunk
-    around : (a : Tile) → a ≡ n.tile → AreNeighbours a o.tile → ⊥
-    around a same other = omega (arith, other.meet, near.meet, ap (λ (t : Tile). t.end) same, beside.tiled.nonempty x n.tile at_x, beside.tiled.nonempty y o.tile at_y)
-
-    key_y : behind ≡ true → (a : Tile) × (tile_in s0 o.before ≡ Some a) × AreNeighbours a o.tile × (after_in s0 o.before ≡ y)
-    key_y h =
-        let k = key_before size (tile_in s0) beside.tiled y o.tile at_y (before_in s0) (after_in s0) beside.linked (some h) in
-        let same : before_in s0 y ≡ o.before = ap before_of there in
-        (k.0, ap (tile_in s0) (sym same) ∙ k.1, k.2, ap (after_in s0) (sym same) ∙ k.3)
-
-    left_linked : AreLinked (tile_in s3) (before_in s3) (after_in s3)
-    left_linked = joint_linked (tile_in s0) (tile_in s3) (before_in s0) (after_in s0) (before_in s3) (after_in s3) beside.linked size beside.tiled x y y x o.tile n.tile left_tile at_y at_x left_joint left_absorbed
-        (λ j a at_j first.
-        let keys = beside.linked j y a o.tile at_j at_y first in
-        let is : o.before ≡ j = sym (ap before_of there) ∙ keys.1 in
-        let ne_x : j ≢ x = λ same. around a (one_tile (tile_in s0) j x a n.tile at_j at_x same) first in
-        let ne_y = before_else size (tile_in s0) beside.tiled y o.tile at_y j a at_j first in
-        let held : ContainsKey s2 o.before = subst (ContainsKey s2) (sym is) (has_tile s2 j a (tile_2 j ne_x ne_y ∙ at_j)) in (
-          ap (after_in s3) (sym is) ∙ sets.written (yes' (starts_behind size (tile_in s0) beside.tiled y o.tile at_y j a at_j first)) held,
-          sets.before x ∙ put_before s1 s2 x m puts_m ∙ before ∙ is,
-        ))
-        (λ k b at_k last.
-        let keys = beside.linked x k n.tile b at_x at_k last in
-        let ne_x = after_else size (tile_in s0) beside.tiled x n.tile at_x k b at_k last in
-        let ne_y : k ≢ y = λ same. around n.tile refl (subst (AreNeighbours n.tile) (one_tile (tile_in s0) k y b o.tile at_k at_y same) last) in (
-          after_left s2 s3 behind o.before x sets x (λ h same. let w = key_y h in around w.0 (one_tile (tile_in s0) o.before x w.0 n.tile w.1 at_x (sym same)) w.2)
-              ∙ put_after s1 s2 x m puts_m ∙ after ∙ sym (ap after_of at) ∙ keys.0,
-          sets.before k ∙ before_2 k ne_x ne_y ∙ keys.1,
-        ))
-        (λ j k a b j_x j_y k_x k_y at_j at_k both. (
-          after_left s2 s3 behind o.before x sets j (λ h same. k_y (sym (beside.linked j k a b at_j at_k both).0 ∙ ap (after_in s0) same ∙ (key_y h).3)) ∙ after_2 j j_x j_y,
-          sets.before k ∙ before_2 k k_x k_y,
-        ))
-
-    pub left_joined : IsJoined size s0 s3 x n.tile.chunk
-    left_joined = record {
-      beside = record {
-        tiled = joint_tiled size (tile_in s0) (tile_in s3) x y y x o.tile n.tile left_tile beside.tiled at_y at_x (inr (refl, refl)) left_joint left_absorbed;
-        calm = joint_calm size (tile_in s0) (tile_in s3) x y y x o.tile n.tile left_tile beside.tiled at_y at_x (inr (refl, refl)) left_joint left_absorbed beside.calm;
-        linked = left_linked;
-        tile = left_tile;
-        at = left_absorbed.grown;
-        free = refl;
-      };
-      of_chunk = refl;
-      lives = joint_lives (tile_in s0) (tile_in s3) x y n.tile o.tile left_tile at_x n_free at_y free refl left_absorbed;
-      elsewhere = went_elsewhere s3 left_tile near.chunk left_absorbed;
-    }
-
-    -- what was taken in had no free neighbour but x, so that the joint has none on that side
-    pub left_is_first : IsFirst x (tile_in s3)
-    left_is_first k c t is_c is_t both =
-        let e = one_tile (tile_in s3) x x t left_tile is_t left_absorbed.grown refl in
-        elim (came_joint (tile_in s0) (tile_in s3) x y left_tile left_absorbed k c is_c) [
-          | inl new ↦ omega (arith, both.meet, ap (λ (t : Tile). t.end) new.1, ap (λ (t : Tile). t.start) e, near.meet, beside.tiled.nonempty x n.tile at_x, beside.tiled.nonempty y o.tile at_y)
-          | inr was ↦ beside.calm k y c o.tile was.0 ne was.2 at_y (record {
-            chunk = both.chunk ∙ ap (λ (t : Tile). t.chunk) e ∙ sym near.chunk;
-            meet = both.meet ∙ ap (λ (t : Tile). t.start) e;
-            left = both.left;
-            right = free;
-          })
-        ]
-
-  -- The neighbour started where the tile ended.
-  module _ (s3 : Slab Node) (near : AreNeighbours n.tile o.tile) (tile : m.tile ≡ record { chunk = n.tile.chunk; start = n.tile.start; end = o.tile.end; free = true }) (before : m.before ≡ n.before) (after : m.after ≡ o.after)
+  module _ (s3 : Slab Node) (near : AreNeighbours n.tile o.tile)
       (less : Bool) (yes' : o.tile.end < size o.tile.chunk → less ≡ true) (some : less ≡ true → o.tile.end < size o.tile.chunk) (sets : SetsBefore s2 s3 less o.after x) where
     abbrev right_tile : Tile
     right_tile = record { chunk = n.tile.chunk; start = n.tile.start; end = o.tile.end; free = true }
 
     right_absorbed : Absorbs (tile_in s0) (tile_in s3) x y right_tile
-    right_absorbed = absorbed s3 right_tile tile sets.tiles
+    right_absorbed = absorbed s3 right_tile m_tile sets.tiles
+
+    pub right_grown : tile_in s3 x ≡ Some right_tile
+    right_grown = right_absorbed.grown
 
     right_joint : IsJoint n.tile o.tile right_tile
     right_joint = record { chunk = near.chunk; meet = near.meet; in_chunk = refl; start = refl; end = refl }
 
     around_right : (a : Tile) → a ≡ n.tile → AreNeighbours o.tile a → ⊥
-    around_right a same other = omega (arith, other.meet, near.meet, ap (λ (t : Tile). t.start) same, beside.tiled.nonempty x n.tile at_x, beside.tiled.nonempty y o.tile at_y)
+    around_right a same other = omega (arith, other.meet, near.meet, ap (λ (t : Tile). t.start) same, tiled.nonempty x n.tile at_x, tiled.nonempty y o.tile at_y)
 
     key_behind : less ≡ true → (b : Tile) × (tile_in s0 o.after ≡ Some b) × AreNeighbours o.tile b × (before_in s0 o.after ≡ y)
     key_behind h =
-        let k = key_after size (tile_in s0) beside.tiled y o.tile at_y (before_in s0) (after_in s0) beside.linked (some h) in
+        let k = key_after size (tile_in s0) tiled y o.tile at_y (before_in s0) (after_in s0) linked (some h) in
         let same : after_in s0 y ≡ o.after = ap after_of there in
         (k.0, ap (tile_in s0) (sym same) ∙ k.1, k.2, ap (before_in s0) (sym same) ∙ k.3)
 
     right_linked : AreLinked (tile_in s3) (before_in s3) (after_in s3)
-    right_linked = joint_linked (tile_in s0) (tile_in s3) (before_in s0) (after_in s0) (before_in s3) (after_in s3) beside.linked size beside.tiled x y x y n.tile o.tile right_tile at_x at_y right_joint right_absorbed
+    right_linked = joint_linked (tile_in s0) (tile_in s3) (before_in s0) (after_in s0) (before_in s3) (after_in s3) linked size tiled x y x y n.tile o.tile right_tile at_x at_y right_joint right_absorbed
         (λ j a at_j first.
-        let keys = beside.linked j x a n.tile at_j at_x first in
-        let ne_x = before_else size (tile_in s0) beside.tiled x n.tile at_x j a at_j first in
+        let keys = linked j x a n.tile at_j at_x first in
+        let ne_x = before_else size (tile_in s0) tiled x n.tile at_x j a at_j first in
         let ne_y : j ≢ y = λ same. around_right n.tile refl (subst (λ t. AreNeighbours t n.tile) (one_tile (tile_in s0) j y a o.tile at_j at_y same) first) in (
           sets.after j ∙ after_2 j ne_x ne_y ∙ keys.0,
           before_left s2 s3 less o.after x sets x (λ h same. let w = key_behind h in around_right w.0 (one_tile (tile_in s0) o.after x w.0 n.tile w.1 at_x (sym same)) w.2)
-              ∙ put_before s1 s2 x m puts_m ∙ before ∙ sym (ap before_of at) ∙ keys.1,
+              ∙ put_before s1 s2 x m puts_m ∙ m_before ∙ sym (ap before_of at) ∙ keys.1,
         ))
         (λ k b at_k last.
-        let keys = beside.linked y k o.tile b at_y at_k last in
+        let keys = linked y k o.tile b at_y at_k last in
         let is : o.after ≡ k = sym (ap after_of there) ∙ keys.0 in
         let ne_x : k ≢ x = λ same. around_right b (one_tile (tile_in s0) k x b n.tile at_k at_x same) last in
-        let ne_y = after_else size (tile_in s0) beside.tiled y o.tile at_y k b at_k last in
+        let ne_y = after_else size (tile_in s0) tiled y o.tile at_y k b at_k last in
         let held : ContainsKey s2 o.after = subst (ContainsKey s2) (sym is) (has_tile s2 k b (tile_2 k ne_x ne_y ∙ at_k)) in (
-          sets.after x ∙ put_after s1 s2 x m puts_m ∙ after ∙ is,
-          ap (before_in s3) (sym is) ∙ sets.written (yes' (ends_before size (tile_in s0) beside.tiled y o.tile at_y k b at_k last)) held,
+          sets.after x ∙ put_after s1 s2 x m puts_m ∙ is,
+          ap (before_in s3) (sym is) ∙ sets.written (yes' (ends_before size (tile_in s0) tiled y o.tile at_y k b at_k last)) held,
         ))
         (λ j k a b j_x j_y k_x k_y at_j at_k both. (
           sets.after j ∙ after_2 j j_x j_y,
-          before_left s2 s3 less o.after x sets k (λ h same. j_y (sym (beside.linked j k a b at_j at_k both).1 ∙ ap (before_in s0) same ∙ (key_behind h).3)) ∙ before_2 k k_x k_y,
+          before_left s2 s3 less o.after x sets k (λ h same. j_y (sym (linked j k a b at_j at_k both).1 ∙ ap (before_in s0) same ∙ (key_behind h).3)) ∙ before_2 k k_x k_y,
         ))
 
-    pub right_joined : IsJoined size s0 s3 x n.tile.chunk
-    right_joined = record {
+    right_joined : IsCalmBut x (tile_in s3) → IsJoined size s0 s3 x n.tile.chunk
+    right_joined calm = record {
       beside = record {
-        tiled = joint_tiled size (tile_in s0) (tile_in s3) x y x y n.tile o.tile right_tile beside.tiled at_x at_y (inl (refl, refl)) right_joint right_absorbed;
-        calm = joint_calm size (tile_in s0) (tile_in s3) x y x y n.tile o.tile right_tile beside.tiled at_x at_y (inl (refl, refl)) right_joint right_absorbed beside.calm;
+        tiled = joint_tiled size (tile_in s0) (tile_in s3) x y x y n.tile o.tile right_tile tiled at_x at_y (inl (refl, refl)) right_joint right_absorbed;
+        calm = calm;
         linked = right_linked;
         tile = right_tile;
         at = right_absorbed.grown;
@@ -324,35 +273,59 @@ module _ (size : ℕ → ℕ) (s0 z s1 s2 : Slab Node) (x y : ℕ) (n o m : Node
       elsewhere = went_elsewhere s3 right_tile (sym near.chunk) right_absorbed;
     }
 
-    right_first : IsFirst x (tile_in s0) → IsFirst x (tile_in s3)
-    right_first first k c t is_c is_t both =
+    -- a free tile that ends where the joint starts did so before
+    first_was : (k : ℕ) (c t : Tile) → tile_in s3 k ≡ Some c → tile_in s3 x ≡ Some t → AreFreeNeighbours c t → (k ≢ y) × (tile_in s0 k ≡ Some c) × AreFreeNeighbours c n.tile
+    first_was k c t is_c is_t both =
         let e = one_tile (tile_in s3) x x t right_tile is_t right_absorbed.grown refl in
         elim (came_joint (tile_in s0) (tile_in s3) x y right_tile right_absorbed k c is_c) [
-          | inl new ↦ omega (arith, both.meet, ap (λ (t : Tile). t.end) new.1, ap (λ (t : Tile). t.start) e, near.meet, beside.tiled.nonempty x n.tile at_x, beside.tiled.nonempty y o.tile at_y)
-          | inr was ↦ first k c n.tile was.2 at_x (record {
-            chunk = both.chunk ∙ ap (λ (t : Tile). t.chunk) e;
-            meet = both.meet ∙ ap (λ (t : Tile). t.start) e;
-            left = both.left;
-            right = n_free;
-          })
+          | inl new ↦ absurd (omega (arith, both.meet, ap (λ (t : Tile). t.end) new.1, ap (λ (t : Tile). t.start) e, near.meet, tiled.nonempty x n.tile at_x, tiled.nonempty y o.tile at_y))
+          | inr was ↦ (
+            was.1,
+            was.2,
+            record {
+              chunk = both.chunk ∙ ap (λ (t : Tile). t.chunk) e;
+              meet = both.meet ∙ ap (λ (t : Tile). t.start) e;
+              left = both.left;
+              right = n_free;
+            },
+          )
         ]
 
-    right_last : IsLast x (tile_in s3)
-    right_last k c t is_c is_t both =
-        let e = one_tile (tile_in s3) x x t right_tile is_t right_absorbed.grown refl in
-        elim (came_joint (tile_in s0) (tile_in s3) x y right_tile right_absorbed k c is_c) [
-          | inl new ↦ omega (arith, both.meet, ap (λ (t : Tile). t.start) new.1, ap (λ (t : Tile). t.end) e, near.meet, beside.tiled.nonempty x n.tile at_x, beside.tiled.nonempty y o.tile at_y)
-          | inr was ↦ beside.calm y k o.tile c ne was.0 at_y was.2 (record {
-            chunk = sym near.chunk ∙ sym (ap (λ (t : Tile). t.chunk) e) ∙ both.chunk;
-            meet = sym (ap (λ (t : Tile). t.end) e) ∙ both.meet;
-            left = free;
-            right = both.right;
-          })
+    -- The one before was free first, and the one that goes touched it.
+    module _ (calm : IsCalmBut y (tile_in s0)) where
+      pub left_joined : IsJoined size s0 s3 x n.tile.chunk
+      left_joined = right_joined (λ j k c d ne_j ne_k is_c is_d both. elim (came_joint (tile_in s0) (tile_in s3) x y right_tile right_absorbed j c is_c) [
+        | inl new ↦ ne_j new.0
+        | inr was_c ↦ elim (came_joint (tile_in s0) (tile_in s3) x y right_tile right_absorbed k d is_d) [
+          | inl new ↦ ne_k new.0
+          | inr was_d ↦ calm j k c d was_c.1 was_d.1 was_c.2 was_d.2 both
         ]
+      ])
 
-    pub right_kept : IsFirst x (tile_in s0) → IsKept size s3
-    right_kept first = record {
-      tiled = right_joined.beside.tiled;
-      calm = settled (tile_in s3) x right_joined.beside.calm (right_first first) right_last;
-      linked = right_linked;
-    }
+      pub left_is_first : IsFirst x (tile_in s3)
+      left_is_first k c t is_c is_t both = let was = first_was k c t is_c is_t both in calm k x c n.tile was.0 (λ e. ne (sym e)) was.1 at_x was.2
+
+    -- The one that goes was free first.
+    module _ (calm : IsCalmBut x (tile_in s0)) where
+      pub back_joined : IsJoined size s0 s3 x n.tile.chunk
+      back_joined = right_joined (joint_calm size (tile_in s0) (tile_in s3) x y x y n.tile o.tile right_tile tiled at_x at_y (inl (refl, refl)) right_joint right_absorbed calm)
+
+      right_last : IsLast x (tile_in s3)
+      right_last k c t is_c is_t both =
+          let e = one_tile (tile_in s3) x x t right_tile is_t right_absorbed.grown refl in
+          elim (came_joint (tile_in s0) (tile_in s3) x y right_tile right_absorbed k c is_c) [
+            | inl new ↦ omega (arith, both.meet, ap (λ (t : Tile). t.start) new.1, ap (λ (t : Tile). t.end) e, near.meet, tiled.nonempty x n.tile at_x, tiled.nonempty y o.tile at_y)
+            | inr was ↦ calm y k o.tile c ne was.0 at_y was.2 (record {
+              chunk = sym near.chunk ∙ sym (ap (λ (t : Tile). t.chunk) e) ∙ both.chunk;
+              meet = sym (ap (λ (t : Tile). t.end) e) ∙ both.meet;
+              left = free;
+              right = both.right;
+            })
+          ]
+
+      pub back_kept : IsFirst x (tile_in s0) → IsKept size s3
+      back_kept first = record {
+        tiled = back_joined.beside.tiled;
+        calm = settled (tile_in s3) x back_joined.beside.calm (λ k c t is_c is_t both. let was = first_was k c t is_c is_t both in first k c n.tile was.1 at_x was.2) right_last;
+        linked = right_linked;
+      }

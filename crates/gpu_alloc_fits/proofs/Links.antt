@@ -46,10 +46,7 @@ module _ (size : ℕ → ℕ) (T : ℕ → Option Tile) (tiled : IsTiled size T)
       let e = one_tile T k x b m at_k at same in
       omega (arith, tiled.nonempty x m at, near.meet, ap (λ (t : Tile). t.start) e)
 
-  -- one with a neighbour before it starts behind its chunk's start, and one with a neighbour behind it ends before its end
-  pub starts_behind : (j : ℕ) (a : Tile) → T j ≡ Some a → AreNeighbours a m → 0 < m.start
-  starts_behind j a at_j near = omega (arith, tiled.nonempty j a at_j, near.meet)
-
+  -- one with a neighbour behind it ends before its chunk's end
   pub ends_before : (k : ℕ) (b : Tile) → T k ≡ Some b → AreNeighbours m b → m.end < size m.chunk
   ends_before k b at_k near =
       let inside : b.end ≤ size m.chunk = subst (λ n. b.end ≤ size n) (sym near.chunk) (tiled.inside k b at_k) in

@@ -14,11 +14,11 @@ use Rattle.gpu_alloc_base.specs.declared.free_list_block.Slot.{Slot}
 use Rattle.gpu_alloc_base.proofs.Lists.{contains_cases, contains_head, contains_later, contains_none}
 use Rattle.gpu_alloc_base.proofs.Slots.{in_slots, slot_exact, slot_inserted, slot_removed, slot_total}
 use Rattle.gpu_alloc_fits.specs.Inside.{live_in, live_slot, made_of, slot_of}
-use Rattle.gpu_alloc_fits.specs.Tiles.{GivesBack, IsLiveAt, IsTiled, KeepsLive, KeepsOthers, tile_in}
+use Rattle.gpu_alloc_fits.specs.Tiles.{GivesBack, IsLiveAt, IsTiled, IsUnused, KeepsLive, KeepsOthers, tile_in}
 use Rattle.gpu_alloc_fits.specs.declared.tile.Node.{Node}
 use Rattle.gpu_alloc_fits.specs.declared.tile.Tile.{Tile}
 use Rattle.gpu_alloc_fits.proofs.Nodes.{node_of_tile, tile_of_node}
-use Rattle.gpu_alloc_fits.proofs.Tiles.{bit, not_both, one_tile}
+use Rattle.gpu_alloc_fits.proofs.Tiles.{bit, one_tile}
 
 -- What a filter lets through.
 
@@ -83,10 +83,10 @@ module _ (chunks : HeldChunks) (old new : Slab Node) where
       (λ q t. let h = (in_live chunks new q).0 t in (in_live chunks old q).1 (h.0, h.1, keeps.was h.0 h.1 h.2, h.3))
       (λ q t. let h = (in_live chunks old q).0 t in (in_live chunks new q).1 (h.0, h.1, keeps.stays h.0 h.1 h.2, h.3))
 
-  -- a free tile becomes a live one
-  pub live_more : (x : ℕ) (a b : Tile) → tile_in old x ≡ Some a → a.free ≡ true → IsLiveAt (tile_in new) x b → KeepsOthers (tile_in old) (tile_in new) x
+  -- one more tile is live
+  pub live_more : (x : ℕ) (b : Tile) → IsUnused (tile_in old) x → IsLiveAt (tile_in new) x b → KeepsOthers (tile_in old) (tile_in new) x
       → live_in chunks new ≡ set.insert (live_in chunks old) (slot_of chunks b)
-  live_more x a b at free live others = same_slots _ _
+  live_more x b unused live others = same_slots _ _
       (λ q t.
       let h = (in_live chunks new q).0 t in
       elim (cases_eq h.0 x) [
@@ -97,7 +97,7 @@ module _ (chunks : HeldChunks) (old new : Slab Node) where
         | inl is ↦ (in_live chunks new q).1 (x, b, live, sym is)
         | inr was ↦
             let h = (in_live chunks old q).0 was in
-            let ne : h.0 ≢ x = λ same. not_both a h.1 (sym (one_tile (tile_in old) h.0 x h.1 a h.2.0 at same)) free h.2.1 in
+            let ne : h.0 ≢ x = λ same. unused h.1 (sym (ap (tile_in old) same) ∙ h.2.0, h.2.1) in
             (in_live chunks new q).1 (h.0, h.1, others.stays h.0 h.1 ne h.2, h.3)
       ])
 

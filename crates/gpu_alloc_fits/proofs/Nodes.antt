@@ -2,7 +2,7 @@
 use Rattle.std.proofs.Common.{◌≡◌, ◌≢◌, inl, inr, ℕ, Bool, true, Option, Some, None, IsSome, option_map, refl, sym, ◌∙◌, ap, subst}
 use Rattle.std.proofs.lemmas.Bool.{cases_eq}
 use Rattle.slab.specs.Slab.{Slab, ContainsKey, Updates, get}
-use Rattle.gpu_alloc_fits.specs.Links.{AreLinked, IsKept, Keeps, SetsAfter, SetsBefore, after_in, after_of, before_in, before_of}
+use Rattle.gpu_alloc_fits.specs.Links.{AreLinked, IsKept, Keeps, SetsBefore, after_in, after_of, before_in, before_of}
 use Rattle.gpu_alloc_fits.specs.Tiles.{IsCalm, IsTiled, Sets, tile_in}
 use Rattle.gpu_alloc_fits.specs.declared.tile.Node.{Node}
 use Rattle.gpu_alloc_fits.specs.declared.tile.Tile.{Tile}
@@ -51,6 +51,9 @@ module _ (old new : Slab Node) (keeps : Keeps old new) where
   pub with_tiles_back : (P : (ℕ → Option Tile) → Type 0) → P (tile_in new) → P (tile_in old)
   with_tiles_back P = subst P same_tiles
 
+pub keeps_self : (s : Slab Node) → Keeps s s
+keeps_self s = record { tiles = λ k. refl; before = λ k. refl; after = λ k. refl }
+
 -- What is written.
 
 module _ (old new : Slab Node) (key : ℕ) (n : Node) (u : Updates old new key (Some n)) where
@@ -63,6 +66,10 @@ module _ (old new : Slab Node) (key : ℕ) (n : Node) (u : Updates old new key (
   pub put_after : after_in new key ≡ n.after
   put_after = ap after_of u.changed
 
+-- a node that is written anew is that of the key
+pub written : (old new : Slab Node) (key : ℕ) (n : Node) (f : Node → Node) → get old key ≡ Some n → Updates old new key (option_map f (get old key)) → Updates old new key (Some (f n))
+written old new key n f at u = subst (Updates old new key) (ap (option_map f) at) u
+
 module _ (old new : Slab Node) (key : ℕ) (o : Option Node) (u : Updates old new key o) where
   pub other_before : (k : ℕ) → k ≢ key → before_in new k ≡ before_in old k
   other_before k ne = ap before_of (u.others k ne)
@@ -74,15 +81,6 @@ module _ (old new : Slab Node) (key : ℕ) (o : Option Node) (u : Updates old ne
   other_tile k ne = ap tile_of (u.others k ne)
 
 -- A write of a neighbour leaves a key that it does not mean.
-
-pub after_left : (old new : Slab Node) (there : Bool) (key value : ℕ) → SetsAfter old new there key value → (k : ℕ) → (there ≡ true → k ≢ key) → after_in new k ≡ after_in old k
-after_left old new there key value sets k spared = elim (bit there) [
-  | inl yes' ↦ sets.others k (spared yes')
-  | inr no' ↦ elim (cases_eq k key) [
-    | inl same ↦ ap (after_in new) same ∙ sets.left no' ∙ sym (ap (after_in old) same)
-    | inr other ↦ sets.others k other
-  ]
-]
 
 pub before_left : (old new : Slab Node) (there : Bool) (key value : ℕ) → SetsBefore old new there key value → (k : ℕ) → (there ≡ true → k ≢ key) → before_in new k ≡ before_in old k
 before_left old new there key value sets k spared = elim (bit there) [

@@ -5,7 +5,7 @@ use Rattle.slab.specs.Slab.{Slab, Updates, get}
 use Rattle.gpu_alloc_base.specs.Chunks.{Chunk}
 use Rattle.gpu_alloc_base.specs.declared.free_list_block.Slot.{Slot}
 use Rattle.gpu_alloc_base.proofs.SlabViews.{get_by_key}
-use Rattle.gpu_alloc_fits.specs.Inside.{IsAtKey, IsSpareTile, IsStored, chunk_of, chunks_in, size_in, size_of, slot_of, space_in}
+use Rattle.gpu_alloc_fits.specs.Inside.{IsAtKey, IsSpareTile, IsStored, chunk_of, chunks_in, size_in, slot_of, space_in}
 use Rattle.gpu_alloc_fits.specs.Links.{IsKept}
 use Rattle.gpu_alloc_fits.specs.Space.{IsLiveSlot, IsSpare, Space, without_chunk, without_slot}
 use Rattle.gpu_alloc_fits.specs.Tiles.{GivesBack, IsFreeOf, IsLiveAt, KeepsElsewhere, KeepsLive, tile_in}
@@ -31,65 +31,55 @@ pub record IsReturnedWith {M : Type 0} (object : M → ℕ) (rows : Slab (Row M)
 
 module _ {M : Type 0} (object : M → ℕ) (rows : Slab (Row M)) (n0 n1 : Slab Node) (spare : Option ℕ) (full : Option Full) (stored : IsStored object rows n0 spare full) (old : Space) (same : space_in (chunks_in object rows) n0 ≡ old)
     (b slot : Slot) (slot_is : slot ≡ b) (is_live : IsLiveSlot old b) (x : ℕ) (at : IsAtKey (chunks_in object rows) (tile_in n0) slot.object slot.offset slot.size x) (joint : Tile) (back : GivesBack (tile_in n0) (tile_in n1) x)
-    (frees : (a : Tile) → tile_in n0 x ≡ Some a → IsFreeOf a.chunk (tile_in n1) x joint) (stays : (a : Tile) → tile_in n0 x ≡ Some a → KeepsElsewhere a.chunk (tile_in n0) (tile_in n1)) (kept : IsKept (size_in rows) n1)
-    (row : Row M) (row_at : get rows joint.chunk ≡ Some row) where
+    (y : ℕ) (free : IsFreeOf at.0.chunk (tile_in n1) y joint) (elsewhere : KeepsElsewhere at.0.chunk (tile_in n0) (tile_in n1)) (kept : IsKept (size_in rows) n1) (whole : ℕ) (whole_is : size_in rows at.0.chunk ≡ whole) where
   abbrev tile : Tile
   tile = at.0
 
   live : IsLiveAt (tile_in n0) x tile
   live = (at.1.0, at.1.1.tile.live)
 
-  free : IsFreeOf tile.chunk (tile_in n1) x joint
-  free = frees tile at.1.0
-
-  elsewhere : KeepsElsewhere tile.chunk (tile_in n0) (tile_in n1)
-  elsewhere = stays tile at.1.0
-
   block : slot_of (chunks_in object rows) tile ≡ b
   block =
       let now = subst (λ s. IsLiveSlot s slot) (sym same) (subst (IsLiveSlot old) (sym slot_is) is_live) in
       the_slot object rows n0 stored.kept stored.one_object slot now x at ∙ slot_is
 
-  size : size_in rows tile.chunk ≡ row.size
-  size = ap (size_in rows) (sym free.chunk_is) ∙ ap size_of row_at
-
   -- other blocks of its chunk are live
-  pub returned_partly : ((joint.start ≡ 0) × (joint.end ≡ row.size) → ⊥) → IsReturned object rows n1 spare old b
+  pub returned_partly : ((joint.start ≡ 0) × (joint.end ≡ whole) → ⊥) → IsReturned object rows n1 spare old b
   returned_partly partly =
-      let not_whole : (joint.start ≡ 0) × (joint.end ≡ size_in rows tile.chunk) → ⊥ = λ h. partly (h.0, h.1 ∙ size) in
-      let s = stays_as object rows n0 n1 spare full stored x tile joint live back free elsewhere kept old b same block (partly_stays object rows n0 n1 spare full stored x tile joint live back free elsewhere kept not_whole) in
-      record { stored = partly_stored object rows n0 n1 spare full stored x tile joint live back free elsewhere kept not_whole; kept = s.0; space = s.1 }
+      let not_whole : (joint.start ≡ 0) × (joint.end ≡ size_in rows tile.chunk) → ⊥ = λ h. partly (h.0, h.1 ∙ whole_is) in
+      let s = stays_as object rows n0 n1 spare full stored x y tile joint live back free elsewhere kept old b same block (partly_stays object rows n0 n1 spare full stored x y tile joint live back free elsewhere kept not_whole) in
+      record { stored = partly_stored object rows n0 n1 spare full stored x y tile joint live back free elsewhere kept not_whole; kept = s.0; space = s.1 }
 
-  module _ (start : joint.start ≡ 0) (end : joint.end ≡ row.size) where
+  module _ (start : joint.start ≡ 0) (end : joint.end ≡ whole) where
     end_is : joint.end ≡ size_in rows tile.chunk
-    end_is = end ∙ sym size
+    end_is = end ∙ sym whole_is
 
     -- it is the first wholly free chunk
-    pub returned_first : spare ≡ None → IsReturned object rows n1 (Some x) old b
+    pub returned_first : spare ≡ None → IsReturned object rows n1 (Some y) old b
     returned_first none =
-        let s = stays_as object rows n0 n1 spare full stored x tile joint live back free elsewhere kept old b same block (first_stays object rows n0 n1 spare full stored x tile joint live back free elsewhere kept start end_is none) in
-        record { stored = first_stored object rows n0 n1 spare full stored x tile joint live back free elsewhere kept start end_is none; kept = s.0; space = s.1 }
+        let s = stays_as object rows n0 n1 spare full stored x y tile joint live back free elsewhere kept old b same block (first_stays object rows n0 n1 spare full stored x y tile joint live back free elsewhere kept start end_is none) in
+        record { stored = first_stored object rows n0 n1 spare full stored x y tile joint live back free elsewhere kept start end_is none; kept = s.0; space = s.1 }
 
     -- it is another one, and goes
-    module _ (z : ℕ) (some : spare ≡ Some z) (rows' : Slab (Row M)) (n2 : Slab Node) (goes : Updates rows rows' joint.chunk None) (lives : KeepsLive (tile_in n1) (tile_in n2)) (left : KeepsElsewhere joint.chunk (tile_in n1) (tile_in n2))
+    module _ (row : Row M) (row_at : get rows joint.chunk ≡ Some row) (z : ℕ) (some : spare ≡ Some z) (rows' : Slab (Row M)) (n2 : Slab Node) (goes : Updates rows rows' joint.chunk None) (lives : KeepsLive (tile_in n1) (tile_in n2)) (left : KeepsElsewhere joint.chunk (tile_in n1) (tile_in n2))
         (kept_2 : IsKept (size_in rows') n2) where
       left_spare : IsSpareTile (space_in (chunks_in object rows') n2) (size_in rows') (tile_in n2) spare
       left_spare =
-          let other = the_other object rows n0 n1 spare full stored x tile joint live back free elsewhere kept start end_is z some in
+          let other = the_other object rows n0 n1 spare full stored x y tile joint live back free elsewhere kept start end_is z some in
           subst (IsSpareTile (space_in (chunks_in object rows') n2) (size_in rows') (tile_in n2)) (sym some) (record {
             chunk = other.chunk;
             whole = other_whole object rows rows' n1 n2 joint.chunk row row_at goes lives kept_2 left z other.chunk
-                (λ e. other_differs object rows n0 n1 spare full stored x tile joint live back free elsewhere kept start end_is z some (e ∙ free.chunk_is))
-                (goes_other object rows n0 n1 spare full stored x tile joint live back free elsewhere kept start end_is z some);
+                (λ e. other_differs object rows n0 n1 spare full stored x y tile joint live back free elsewhere kept start end_is z some (e ∙ free.chunk_is))
+                (goes_other object rows n0 n1 spare full stored x y tile joint live back free elsewhere kept start end_is z some);
             only = λ key w.
                 let was = was_wholly object rows rows' n1 n2 joint.chunk row row_at goes lives kept_2 key w in
-                goes_only object rows n0 n1 spare full stored x tile joint live back free elsewhere kept start end_is z some key (λ e. was.0 (e ∙ sym free.chunk_is)) was.1;
+                goes_only object rows n0 n1 spare full stored x y tile joint live back free elsewhere kept start end_is z some key (λ e. was.0 (e ∙ sym free.chunk_is)) was.1;
           })
 
       pub returned_with : IsReturnedWith object rows' n2 spare old b (chunk_of object row)
       returned_with =
-          let s = goes_as object rows n0 n1 spare full stored x tile joint live back free elsewhere kept old _ b (chunk_of object row) same block
-          (goes_spare object rows n0 n1 spare full stored x tile joint live back free elsewhere kept start end_is z some)
+          let s = goes_as object rows n0 n1 spare full stored x y tile joint live back free elsewhere kept old _ b (chunk_of object row) same block
+          (goes_spare object rows n0 n1 spare full stored x y tile joint live back free elsewhere kept start end_is z some)
           (get_by_key (chunk_of object) rows joint.chunk ∙ ap (option_map (chunk_of object)) row_at) (gone_space object rows rows' n1 n2 joint.chunk row row_at goes lives kept_2) in
           record {
             stored = gone_stored object rows rows' n1 n2 joint.chunk row row_at goes lives kept_2 spare None stored.sizes stored.one_object left_spare tt;

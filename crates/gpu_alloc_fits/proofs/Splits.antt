@@ -2,7 +2,7 @@
 use Rattle.std.proofs.Common.{◌≡◌, ◌≢◌, inl, inr, ◌⊎◌, ℕ, ◌<◌, ◌≤◌, true, false, Option, Some, None, refl, sym, ◌∙◌, ap, subst, arith}
 use Rattle.std.proofs.lemmas.Bool.{cases_lt, cases_eq}
 use Rattle.gpu_alloc_fits.specs.Links.{AreLinked}
-use Rattle.gpu_alloc_fits.specs.Tiles.{AreNeighbours, IsCalm, IsFreeLeft, IsFreeRight, IsTiled, KeepsElsewhere, KeepsOthers}
+use Rattle.gpu_alloc_fits.specs.Tiles.{AreNeighbours, IsCalm, IsFreeRight, IsTiled, KeepsElsewhere, KeepsOthers}
 use Rattle.gpu_alloc_fits.specs.declared.tile.Tile.{Tile}
 use Rattle.gpu_alloc_fits.proofs.Tiles.{IsJoint, Splits, not_both, one_tile}
 
@@ -181,37 +181,7 @@ module _ (chunks : ℕ → ℕ) (T T' : ℕ → Option Tile) (x y : ℕ) (n o m 
     ]
   ]
 
-  module _ (joint : IsJoint o n m) where
-    pub front_tiled : IsTiled chunks T'
-    front_tiled = cut_tiled chunks T T' x y y x o n n o m tiled at splits joint some_o some_n splits.new splits.rest (inr (refl, refl))
-
-    pub front_calm : IsFreeLeft x T → IsCalm T'
-    front_calm left j k c d is_c is_d both = elim (free_came j c is_c both.left) [
-      | inl a ↦
-          let same = starts_there chunks T T' x y y x o n n o m tiled at splits joint some_o some_n splits.new splits.rest (inr (refl, refl)) k d is_d
-          (sym both.chunk ∙ ap (λ (t : Tile). t.chunk) a.1) (sym (ap (λ (t : Tile). t.end) a.1) ∙ both.meet) in
-          not_both d n (one_tile T' k x d n is_d splits.rest same) both.right live
-      | inr a ↦ elim (free_came k d is_d both.right) [
-        | inl b ↦ left j c m a.2 both.left at (record { chunk = both.chunk ∙ ap (λ (t : Tile). t.chunk) b.1 ∙ sym joint.in_chunk; meet = both.meet ∙ ap (λ (t : Tile). t.start) b.1 ∙ sym joint.start })
-        | inr b ↦ calm j k c d a.2 b.2 both
-      ]
-    ]
-
-    pub front_right : IsFreeRight x T → IsFreeRight x T'
-    front_right right k c z is_c c_free is_z near =
-        let e = one_tile T' x x z n is_z splits.rest refl in
-        elim (free_came k c is_c c_free) [
-          | inl a ↦ omega (arith, near.meet, ap (λ (t : Tile). t.end) e, ap (λ (t : Tile). t.start) a.1, some_n, some_o, joint.meet)
-          | inr a ↦ right k c m a.2 c_free at (record { chunk = joint.in_chunk ∙ joint.chunk ∙ sym (ap (λ (t : Tile). t.chunk) e) ∙ near.chunk; meet = joint.end ∙ sym (ap (λ (t : Tile). t.end) e) ∙ near.meet })
-        ]
-
-    pub front_elsewhere : KeepsElsewhere m.chunk T T'
-    front_elsewhere = split_elsewhere chunks T T' x y y x o n n o m tiled at splits joint some_o some_n splits.new splits.rest (inr (refl, refl))
-
   module _ (joint : IsJoint n o m) where
-    pub back_tiled : IsTiled chunks T'
-    back_tiled = cut_tiled chunks T T' x y x y n o n o m tiled at splits joint some_n some_o splits.rest splits.new (inl (refl, refl))
-
     pub back_calm : IsFreeRight x T → IsCalm T'
     back_calm right j k c d is_c is_d both = elim (free_came k d is_d both.right) [
       | inl a ↦
@@ -224,5 +194,49 @@ module _ (chunks : ℕ → ℕ) (T T' : ℕ → Option Tile) (x y : ℕ) (n o m 
       ]
     ]
 
-    pub back_elsewhere : KeepsElsewhere m.chunk T T'
-    back_elsewhere = split_elsewhere chunks T T' x y x y n o n o m tiled at splits joint some_n some_o splits.rest splits.new (inl (refl, refl))
+-- The end of a free tile becomes a live one: o, under y. The front of it stays free: n, under x.
+module _ (chunks : ℕ → ℕ) (T T' : ℕ → Option Tile) (x y : ℕ) (n o m : Tile) (tiled : IsTiled chunks T) (calm : IsCalm T) (at : T x ≡ Some m) (free : m.free ≡ true) (n_free : n.free ≡ true) (live : o.free ≡ false) (splits : Splits T T' x y n o)
+    (some_n : n.start < n.end) (some_o : o.start < o.end) (joint : IsJoint n o m) where
+  pub others_end : KeepsOthers T T' y
+  others_end = record {
+    stays = λ k c ne h.
+        let ne_x : k ≢ x = λ e. not_both m c (sym (one_tile T k x c m h.0 at e)) free h.1 in
+        (splits.others k ne_x ne ∙ h.0, h.1);
+    was = λ k c ne h. elim (cases_eq k x) [
+      | inl here ↦ absurd (not_both n c (sym (one_tile T' k x c n h.0 splits.rest here)) n_free h.1)
+      | inr ne_x ↦ (sym (splits.others k ne_x ne) ∙ h.0, h.1)
+    ];
+  }
+
+  -- a free tile is the front, or was one
+  free_end : (k : ℕ) (c : Tile) → T' k ≡ Some c → c.free ≡ true → ((k ≡ x) × (c ≡ n)) ⊎ ((k ≢ x) × (k ≢ y) × (T k ≡ Some c))
+  free_end k c is c_free = elim (cases_eq k x) [
+    | inl here ↦ inl (here, one_tile T' k x c n is splits.rest here)
+    | inr ne_x ↦ elim (cases_eq k y) [
+      | inl here ↦ absurd (not_both c o (one_tile T' k y c o is splits.new here) c_free live)
+      | inr ne_y ↦ inr (ne_x, ne_y, sym (splits.others k ne_x ne_y) ∙ is)
+    ]
+  ]
+
+  pub calm_end : IsCalm T'
+  calm_end j k c d is_c is_d both = elim (free_end j c is_c both.left) [
+    | inl a ↦ elim (free_end k d is_d both.right) [
+      | inl b ↦ omega (arith, both.meet, ap (λ (t : Tile). t.end) a.1, ap (λ (t : Tile). t.start) b.1, some_n)
+      | inr b ↦
+          let some = tiled.nonempty k d b.2 in
+          b.0 (tiled.apart k x d m b.2 at (sym both.chunk ∙ ap (λ (t : Tile). t.chunk) a.1 ∙ sym joint.in_chunk)
+          (omega (arith, both.meet, ap (λ (t : Tile). t.end) a.1, joint.meet, joint.end, some_o)) (omega (arith, both.meet, ap (λ (t : Tile). t.end) a.1, joint.start, some_n, some)))
+    ]
+    | inr a ↦ elim (free_end k d is_d both.right) [
+      | inl b ↦ calm j x c m a.2 at (record { chunk = both.chunk ∙ ap (λ (t : Tile). t.chunk) b.1 ∙ sym joint.in_chunk; meet = both.meet ∙ ap (λ (t : Tile). t.start) b.1 ∙ sym joint.start; left = both.left; right = free })
+      | inr b ↦ calm j k c d a.2 b.2 both
+    ]
+  ]
+
+  pub right_end : IsFreeRight y T'
+  right_end k c z is_c c_free is_z near =
+      let e = one_tile T' y y z o is_z splits.new refl in
+      elim (free_end k c is_c c_free) [
+        | inl a ↦ omega (arith, near.meet, ap (λ (t : Tile). t.end) e, ap (λ (t : Tile). t.start) a.1, some_n, some_o, joint.meet)
+        | inr a ↦ calm x k m c at a.2 (record { chunk = joint.in_chunk ∙ joint.chunk ∙ sym (ap (λ (t : Tile). t.chunk) e) ∙ near.chunk; meet = joint.end ∙ sym (ap (λ (t : Tile). t.end) e) ∙ near.meet; left = free; right = c_free })
+      ]

@@ -17,16 +17,17 @@ use Rattle.gpu_alloc_base.proofs.ListedRanges.{told_object}
 use Rattle.gpu_alloc_base.proofs.SlabViews.{found_by_key, get_by_key}
 use Rattle.gpu_alloc_base.proofs.Slots.{slot_inserted, slot_removed}
 use Rattle.gpu_alloc_fits.specs.Fits.{TakesPlace}
-use Rattle.gpu_alloc_fits.specs.Inside.{IsAtKey, IsBlock, IsLiveTile, IsSpareTile, IsStillFull, IsStored, IsTheWhole, IsWholeTile, IsWithout, chunk_of, chunks_in, live_in, live_slot, made_of, size_in, size_of, slot_of, space_in}
+use Rattle.gpu_alloc_fits.specs.Inside.{IsAtKey, IsBlock, IsLiveTile, IsPlace, IsSpareTile, IsStillFull, IsStored, IsTheWhole, IsWholeTile, IsWithout, chunk_of, chunks_in, live_in, live_slot, made_of, size_in, size_of, slot_of, space_in}
 use Rattle.gpu_alloc_fits.specs.Links.{IsKept, after_of, before_of}
 use Rattle.gpu_alloc_fits.specs.Space.{HasPlace, IsFitting, IsFreeIn, IsLiveSlot, IsLiveSpan, IsSoundSpace, IsSpare, IsWhollyFree, LiesInChunk, Space, with_slot, without_slot, without_chunk}
-use Rattle.gpu_alloc_fits.specs.Tiles.{GivesBack, HasRoomAt, HasRoomIn, IsFreeOf, IsLiveAt, KeepsElsewhere, KeepsOthers, tile_in}
+use Rattle.gpu_alloc_fits.specs.Tiles.{GivesBack, HasRoomAt, HasRoomIn, IsFreeOf, IsLiveAt, IsUnused, KeepsElsewhere, KeepsOthers, tile_in}
 use Rattle.gpu_alloc_fits.specs.declared.fits.Chunk.{Chunk as Row}
 use Rattle.gpu_alloc_fits.specs.declared.search.Full.{Full}
 use Rattle.gpu_alloc_fits.specs.declared.tile.Node.{Node}
+use Rattle.gpu_alloc_fits.specs.declared.tile.Place.{Place}
 use Rattle.gpu_alloc_fits.specs.declared.tile.Tile.{Tile}
 use Rattle.gpu_alloc_fits.proofs.Live.{in_live, live_less, live_more}
-use Rattle.gpu_alloc_fits.proofs.Nodes.{keeps_kept, tile_of}
+use Rattle.gpu_alloc_fits.proofs.Nodes.{keeps_kept, tile_of, tile_of_node}
 use Rattle.gpu_alloc_fits.proofs.Runs.{held_chunk, held_row, in_place}
 use Rattle.gpu_alloc_fits.proofs.Tiles.{one_tile, unused_whole, whole_unused}
 
@@ -171,15 +172,19 @@ module _ {M : Type 0} (object : M → ℕ) (rows : Slab (Row M)) (nodes : Slab N
       let key = kept.tiled.apart k h.0 at.0 h.1 at.1.0 h.2.0 chunk (omega (arith, start, some_h)) (omega (arith, start, some)) in
       ap (slot_of chunks) (one_tile (tile_in nodes) k h.0 at.0 h.1 at.1.0 h.2.0 key) ∙ h.3
 
+-- the tile of a place stands under its key
+abbrev pub at_place : {M : Type 0} {name : M → ℕ} {rows : Slab (Row M)} {nodes : Slab Node} {object offset size : ℕ} {p : Place} → IsPlace name rows nodes object offset size p → IsAtKey (chunks_in name rows) (tile_in nodes) object offset size p.key
+at_place {M} {name} {rows} {nodes} {object} {offset} {size} {p} is = (p.node.tile, (tile_of_node nodes p.key p.node is.at, is.block))
+
 -- A block is taken out of a free tile.
 
-module _ {M : Type 0} (object : M → ℕ) (rows : Slab (Row M)) (n0 n1 : Slab Node) (spare : Option ℕ) (full : Option Full) (stored : IsStored object rows n0 spare full) (x : ℕ) (a b : Tile) (at : tile_in n0 x ≡ Some a) (free : a.free ≡ true)
+module _ {M : Type 0} (object : M → ℕ) (rows : Slab (Row M)) (n0 n1 : Slab Node) (spare : Option ℕ) (full : Option Full) (stored : IsStored object rows n0 spare full) (x y : ℕ) (a b : Tile) (at : tile_in n0 y ≡ Some a) (unused : IsUnused (tile_in n0) x)
     (live : IsLiveAt (tile_in n1) x b) (same_chunk : b.chunk ≡ a.chunk) (others : KeepsOthers (tile_in n0) (tile_in n1) x) (elsewhere : KeepsElsewhere a.chunk (tile_in n0) (tile_in n1)) (kept : IsKept (size_in rows) n1) where
   abbrev chunks_t : HeldChunks
   chunks_t = chunks_in object rows
 
   live_is : live_in chunks_t n1 ≡ set.insert (live_in chunks_t n0) (slot_of chunks_t b)
-  live_is = live_more chunks_t n0 n1 x a b at free live others
+  live_is = live_more chunks_t n0 n1 x b unused live others
 
   pub taken_space : space_in chunks_t n1 ≡ with_slot (space_in chunks_t n0) (slot_of chunks_t b)
   taken_space = λ i. record { chunks = chunks_t; live = live_is i }
@@ -206,27 +211,27 @@ module _ {M : Type 0} (object : M → ℕ) (rows : Slab (Row M)) (n0 n1 : Slab N
   used : IsWhollyFree (space_in chunks_t n1) a.chunk → ⊥
   used w = w.unused (slot_of chunks_t b) ((in_live chunks_t n1 (slot_of chunks_t b)).1 (x, b, live, refl)) same_chunk
 
-  taken_spare : (old new : Option ℕ) → IsSpareTile (space_in chunks_t n0) (size_in rows) (tile_in n0) old → IsWithout old x new → IsSpareTile (space_in chunks_t n1) (size_in rows) (tile_in n1) new
+  taken_spare : (old new : Option ℕ) → IsSpareTile (space_in chunks_t n0) (size_in rows) (tile_in n0) old → IsWithout old y new → IsSpareTile (space_in chunks_t n1) (size_in rows) (tile_in n1) new
   taken_spare None new none is = subst (IsSpareTile (space_in chunks_t n1) (size_in rows) (tile_in n1)) (sym is) (λ key w. none key (was_wholly key w))
   taken_spare (Some z) new whole (inl is) =
       subst (IsSpareTile (space_in chunks_t n1) (size_in rows) (tile_in n1)) (sym is.1)
       (λ key w.
-      let here : key ≡ a.chunk = whole.only key (was_wholly key w) ∙ sym whole.whole.chunk_is ∙ ap (λ (t : Tile). t.chunk) (one_tile (tile_in n0) z x whole.whole.tile a whole.whole.at at is.0) in
+      let here : key ≡ a.chunk = whole.only key (was_wholly key w) ∙ sym whole.whole.chunk_is ∙ ap (λ (t : Tile). t.chunk) (one_tile (tile_in n0) z y whole.whole.tile a whole.whole.at at is.0) in
       used (subst (IsWhollyFree (space_in chunks_t n1)) here w))
   taken_spare (Some z) new whole (inr is) =
       let w = whole.whole in
       let other : w.tile.chunk ≢ a.chunk = λ same.
-      let some = stored.kept.tiled.nonempty x a at in
+      let some = stored.kept.tiled.nonempty y a at in
       let end : w.tile.end ≡ size_in rows a.chunk = w.end ∙ ap (size_in rows) (sym w.chunk_is ∙ same) in
-      let inside = stored.kept.tiled.inside x a at in
-      is.0 (stored.kept.tiled.apart z x w.tile a w.at at same (omega (arith, w.start, some)) (omega (arith, some, inside, end))) in
+      let inside = stored.kept.tiled.inside y a at in
+      is.0 (stored.kept.tiled.apart z y w.tile a w.at at same (omega (arith, w.start, some)) (omega (arith, some, inside, end))) in
       subst (IsSpareTile (space_in chunks_t n1) (size_in rows) (tile_in n1)) (sym is.1) (record {
         chunk = whole.chunk;
         whole = record { tile = w.tile; at = elsewhere z w.tile w.at other; free = w.free; start = w.start; end = w.end; chunk_is = w.chunk_is };
         only = λ key v. whole.only key (was_wholly key v);
       })
 
-  pub taken_stored : (new : Option ℕ) → IsWithout spare x new → (f : Option Full) → IsStillFull (space_in chunks_t n0) f → IsStored object rows n1 new f
+  pub taken_stored : (new : Option ℕ) → IsWithout spare y new → (f : Option Full) → IsStillFull (space_in chunks_t n0) f → IsStored object rows n1 new f
   taken_stored new is f known = record {
     kept = kept;
     sizes = stored.sizes;
@@ -237,8 +242,8 @@ module _ {M : Type 0} (object : M → ℕ) (rows : Slab (Row M)) (n0 n1 : Slab N
 
 -- A block comes back: its tile is joined with the free ones beside it.
 
-module _ {M : Type 0} (object : M → ℕ) (rows : Slab (Row M)) (n0 n1 : Slab Node) (spare : Option ℕ) (full : Option Full) (stored : IsStored object rows n0 spare full) (x : ℕ) (a joint : Tile) (live : IsLiveAt (tile_in n0) x a)
-    (back : GivesBack (tile_in n0) (tile_in n1) x) (free : IsFreeOf a.chunk (tile_in n1) x joint) (elsewhere : KeepsElsewhere a.chunk (tile_in n0) (tile_in n1)) (kept : IsKept (size_in rows) n1) where
+module _ {M : Type 0} (object : M → ℕ) (rows : Slab (Row M)) (n0 n1 : Slab Node) (spare : Option ℕ) (full : Option Full) (stored : IsStored object rows n0 spare full) (x y : ℕ) (a joint : Tile) (live : IsLiveAt (tile_in n0) x a)
+    (back : GivesBack (tile_in n0) (tile_in n1) x) (free : IsFreeOf a.chunk (tile_in n1) y joint) (elsewhere : KeepsElsewhere a.chunk (tile_in n0) (tile_in n1)) (kept : IsKept (size_in rows) n1) where
   abbrev chunks_g : HeldChunks
   chunks_g = chunks_in object rows
 
@@ -279,12 +284,12 @@ module _ {M : Type 0} (object : M → ℕ) (rows : Slab (Row M)) (n0 n1 : Slab N
   was_used w = w.unused slot ((in_live chunks_g n0 slot).1 (x, a, live, refl)) refl
 
   -- the joint is all of its chunk exactly where that is wholly free
-  whole_joint : joint.start ≡ 0 → joint.end ≡ size_in rows a.chunk → IsWholeTile (size_in rows) (tile_in n1) x a.chunk
+  whole_joint : joint.start ≡ 0 → joint.end ≡ size_in rows a.chunk → IsWholeTile (size_in rows) (tile_in n1) y a.chunk
   whole_joint start end = record { tile = joint; at = free.at; free = free.free; start = start; end = end; chunk_is = free.chunk_is }
 
   joint_whole : IsWhollyFree s1 a.chunk → (joint.start ≡ 0) × (joint.end ≡ size_in rows a.chunk)
   joint_whole w =
-      let h = free_is_whole object rows n1 kept x joint free.at free.free (subst (IsWhollyFree s1) (sym free.chunk_is) w) in
+      let h = free_is_whole object rows n1 kept y joint free.at free.free (subst (IsWhollyFree s1) (sym free.chunk_is) w) in
       (h.0, h.1 ∙ ap (size_in rows) free.chunk_is)
 
   -- the wholly free chunk that was there is there
@@ -343,7 +348,7 @@ module _ {M : Type 0} (object : M → ℕ) (rows : Slab (Row M)) (n0 n1 : Slab N
       | inr other ↦ absurd (none_was key (was_other key other w))
     ]
 
-    pub first_stored : IsStored object rows n1 (Some x) None
+    pub first_stored : IsStored object rows n1 (Some y) None
     first_stored = record {
       kept = kept;
       sizes = stored.sizes;
@@ -366,12 +371,12 @@ module _ {M : Type 0} (object : M → ℕ) (rows : Slab (Row M)) (n0 n1 : Slab N
     pub other_differs : the_other.chunk ≢ a.chunk
     other_differs same = was_used (subst (IsWhollyFree s0) same other_is_free)
 
-    pub goes_whole : IsWholeTile (size_in rows) (tile_in n1) x a.chunk
+    pub goes_whole : IsWholeTile (size_in rows) (tile_in n1) y a.chunk
     goes_whole = whole_joint start end
 
     pub goes_spare : IsSpare (without_slot s0 slot) slot.chunk
     goes_spare = record {
-      free = subst (λ s. IsWhollyFree s a.chunk) back_space (whole_is_free object rows n1 kept x a.chunk goes_whole);
+      free = subst (λ s. IsWhollyFree s a.chunk) back_space (whole_is_free object rows n1 kept y a.chunk goes_whole);
       other = the_other.chunk;
       differs = other_differs;
       other_free = subst (λ s. IsWhollyFree s the_other.chunk) back_space (still_free the_other.chunk other_is_free);

@@ -18,6 +18,7 @@ use Rattle.gpu_alloc_fits.specs.Tiles.{tile_in}
 use Rattle.gpu_alloc_fits.specs.declared.fits.Chunk.{Chunk as Row}
 use Rattle.gpu_alloc_fits.specs.declared.search.Full.{Full}
 use Rattle.gpu_alloc_fits.specs.declared.tile.Node.{Node}
+use Rattle.gpu_alloc_fits.specs.declared.tile.Place.{Place}
 use Rattle.gpu_alloc_fits.specs.declared.tile.Tile.{Tile}
 
 -- a row's chunk
@@ -86,6 +87,12 @@ pub record IsLiveTile (offset size : ℕ) (t : Tile) : Type 0 where
 pub record IsBlock (chunks : HeldChunks) (object offset size : ℕ) (t : Tile) : Type 0 where
   pub tile : IsLiveTile offset size t
   pub of_object : object_in (map.get chunks t.chunk) ≡ object
+
+-- such a tile stands there, in a chunk of that size
+pub record IsPlace {M : Type 0} (name : M → ℕ) (rows : Slab (Row M)) (nodes : Slab Node) (object offset size : ℕ) (p : Place) : Type 0 where
+  pub at : get nodes p.key ≡ Some p.node
+  pub block : IsBlock (chunks_in name rows) object offset size p.node.tile
+  pub whole : size_in rows p.node.tile.chunk ≡ p.whole
 
 -- such a tile stands under the key
 abbrev pub IsAtKey : HeldChunks → (ℕ → Option Tile) → ℕ → ℕ → ℕ → ℕ → Type 0

@@ -54,10 +54,10 @@ pub record SetsBefore (old new : Slab Node) (there : Bool) (key value : ℕ) : T
   pub written : there ≡ true → ContainsKey old key → before_in new key ≡ value
   pub left : there ≡ false → before_in new key ≡ before_in old key
 
--- only the neighbour after one tile changes
-pub record SetsAfter (old new : Slab Node) (there : Bool) (key value : ℕ) : Type 0 where
-  pub tiles : (k : ℕ) → tile_in new k ≡ tile_in old k
-  pub before : (k : ℕ) → before_in new k ≡ before_in old k
-  pub others : (k : ℕ) → k ≢ key → after_in new k ≡ after_in old k
-  pub written : there ≡ true → ContainsKey old key → after_in new key ≡ value
-  pub left : there ≡ false → after_in new key ≡ after_in old key
+-- the same node with a tile that is free or live
+abbrev pub with_free : Bool → Node → Node
+with_free free n = record n { tile = record n.tile { free = free } }
+
+-- the same node with a tile that ends elsewhere, where another one starts
+abbrev pub with_end : ℕ → ℕ → Node → Node
+with_end end after n = record n { tile = record n.tile { end = end }; after = after }

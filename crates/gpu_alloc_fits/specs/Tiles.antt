@@ -51,6 +51,10 @@ IsCalmBut x T =
 abbrev pub IsLiveAt : (ℕ → Option Tile) → ℕ → Tile → Type 0
 IsLiveAt T k a = (T k ≡ Some a) × (a.free ≡ false)
 
+-- no live tile stands under the key
+abbrev pub IsUnused : (ℕ → Option Tile) → ℕ → Type 0
+IsUnused T k = (a : Tile) → IsLiveAt T k a → ⊥
+
 -- there is a free tile of these bytes
 abbrev pub HasRun : (ℕ → Option Tile) → FreeListRegion → Type 0
 HasRun T r = (k : ℕ) × (a : Tile) × ((T k ≡ Some a) × ((a.free ≡ true) × (region_of a ≡ r)))
@@ -59,11 +63,7 @@ HasRun T r = (k : ℕ) × (a : Tile) × ((T k ≡ Some a) × ((a.free ≡ true) 
 abbrev pub IsFirst : ℕ → (ℕ → Option Tile) → Type 0
 IsFirst x T = (k : ℕ) (c a : Tile) → T k ≡ Some c → T x ≡ Some a → AreFreeNeighbours c a → ⊥
 
--- the same whether that one is free or not, and on its other side
-abbrev pub IsFreeLeft : ℕ → (ℕ → Option Tile) → Type 0
-IsFreeLeft x T =
-    (k : ℕ) (c a : Tile) → T k ≡ Some c → c.free ≡ true → T x ≡ Some a → AreNeighbours c a → ⊥
-
+-- no free tile starts where the one of this key ends, free or not
 abbrev pub IsFreeRight : ℕ → (ℕ → Option Tile) → Type 0
 IsFreeRight x T =
     (k : ℕ) (c a : Tile) → T k ≡ Some c → c.free ≡ true → T x ≡ Some a → AreNeighbours a c → ⊥
@@ -109,12 +109,3 @@ HasRoomIn size alignment a = (a.free ≡ true) × HasRoom size alignment a.start
 -- such a tile stands under the key
 abbrev pub HasRoomAt : (ℕ → Option Tile) → ℕ → ℕ → ℕ → Type 0
 HasRoomAt T size alignment k = (a : Tile) × ((T k ≡ Some a) × HasRoomIn size alignment a)
-
--- one free tile has all bytes from one up to another
-pub record HasFree (T : ℕ → Option Tile) (x chunk start end : ℕ) : Type 0 where
-  pub tile : Tile
-  pub at : T x ≡ Some tile
-  pub free : tile.free ≡ true
-  pub chunk_is : tile.chunk ≡ chunk
-  pub from : tile.start ≤ start
-  pub to : end ≤ tile.end

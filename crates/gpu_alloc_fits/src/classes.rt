@@ -1,7 +1,7 @@
 //! Free tiles in lists by classes of sizes: eight classes to each power of two, in units of 256 bytes. Only speed
 //! depends on them: each tile that they name is looked at before it is used.
 
-ghost use Rattle.std.specs.Prelude.{◌≡◌};
+ghost use Rattle.std.specs.Prelude.{◌≡◌, ◌<◌};
 ghost use Rattle.slab.specs.Slab.{slab_len};
 ghost use Rattle.gpu_alloc_fits.specs.Links.{Keeps};
 
@@ -79,68 +79,105 @@ impl Classes {
 #[inline(always)]
 pub(crate) fn class_of(bytes: u64) -> usize {
     let units = bytes >> 8;
-    if units < 16 {
-        return units as usize;
-    }
-    let shift = 60u32.saturating_sub(units.leading_zeros());
-    ((shift as usize) << 3).wrapping_add((units >> (shift & 63)) as usize)
+    let shift = shift_of(units);
+    ((shift as usize) << 3).wrapping_add((units >> shift) as usize)
 }
 
 /// The least class in which every tile has at least `bytes` bytes.
 #[inline(always)]
 pub(crate) fn class_above(bytes: u64) -> usize {
     let units = bytes.wrapping_add(255) >> 8;
-    if units < 16 {
-        return units as usize;
-    }
-    let shift = 60u32.saturating_sub(units.leading_zeros()) & 63;
+    let shift = shift_of(units);
     let up = units.wrapping_add((1u64 << shift).wrapping_sub(1));
     ((shift as usize) << 3).wrapping_add((up >> shift) as usize)
 }
 
-/// Adds a free tile at the front of the list of its class.
+/// How many bits a number of units has below its first four.
 #[inline(always)]
-pub(crate) fn file<A: Allocator>(nodes: &mut Slab<Node, A>, classes: &mut Classes, key: usize)
+fn shift_of(units: u64) -> u32
+    ensures { result < 64 }
+{
+    60u32.wrapping_sub((units | 8).leading_zeros()) & 63
+}
+
+/// Adds a free tile at the front of the list of a class.
+#[inline(always)]
+pub(crate) fn file<A: Allocator>(
+    nodes: &mut Slab<Node, A>,
+    classes: &mut Classes,
+    key: usize,
+    class: usize,
+)
     ensures keeps { Keeps nodes.old nodes.new }
     ensures len { slab_len nodes.new ≡ slab_len nodes.old }
     ensures capacity { (nodes.new).capacity ≡ (nodes.old).capacity }
 {
-    let class = match nodes.get(key) {
-        Some(node) => class_of(node.tile.end.wrapping_sub(node.tile.start)),
-        None => NONE,
-    };
     if class >= CLASSES {
         return;
     }
     let below = classes.first(class);
-    set_down(nodes, key, below);
-    set_up(nodes, key, NONE);
+    set_place(nodes, key, NONE, below);
     set_up(nodes, below, key);
     classes.set_first(class, key);
 }
 
 /// Removes a free tile from the list of its class.
 #[inline(always)]
-pub(crate) fn unfile<A: Allocator>(nodes: &mut Slab<Node, A>, classes: &mut Classes, key: usize)
+pub(crate) fn unfile<A: Allocator>(
+    nodes: &mut Slab<Node, A>,
+    classes: &mut Classes,
+    key: usize,
+    class: usize,
+)
     ensures keeps { Keeps nodes.old nodes.new }
     ensures len { slab_len nodes.new ≡ slab_len nodes.old }
     ensures capacity { (nodes.new).capacity ≡ (nodes.old).capacity }
 {
-    let (up, down, class) = match nodes.get(key) {
-        Some(node) => (
-            node.up,
-            node.down,
-            class_of(node.tile.end.wrapping_sub(node.tile.start)),
-        ),
-        None => (NONE, NONE, NONE),
-    };
     if class >= CLASSES {
         return;
     }
-    set_down(nodes, up, down);
+    let (up, down) = match nodes.get(key) {
+        Some(node) => (node.up, node.down),
+        None => (NONE, NONE),
+    };
     set_up(nodes, down, up);
     if up == NONE {
         classes.set_first(class, down);
+    } else {
+        set_down(nodes, up, down);
+    }
+}
+
+/// Moves a free tile from the list of one class to that of another, if the two differ. It may be in no list yet.
+#[inline(always)]
+pub(crate) fn refile<A: Allocator>(
+    nodes: &mut Slab<Node, A>,
+    classes: &mut Classes,
+    key: usize,
+    was: usize,
+    class: usize,
+)
+    ensures keeps { Keeps nodes.old nodes.new }
+    ensures len { slab_len nodes.new ≡ slab_len nodes.old }
+    ensures capacity { (nodes.new).capacity ≡ (nodes.old).capacity }
+{
+    if class == was {
+        return;
+    }
+    unfile(nodes, classes, key, was);
+    file(nodes, classes, key, class);
+}
+
+/// Writes which tiles are above and below this one in its list.
+#[inline(always)]
+fn set_place<A: Allocator>(nodes: &mut Slab<Node, A>, key: usize, up: usize, down: usize)
+    ensures keeps { Keeps nodes.old nodes.new }
+    ensures len { slab_len nodes.new ≡ slab_len nodes.old }
+    ensures capacity { (nodes.new).capacity ≡ (nodes.old).capacity }
+{
+    if let Some(node) = nodes.get_mut(key) {
+        node.up = up;
+        node.down = down;
     }
 }
 

@@ -4,99 +4,94 @@ ghost use Rattle.std.specs.Prelude.{◌≡◌, ◌≤◌, ◌<◌, ◌+◌, ℕ,
 ghost use Rattle.slab.specs.Slab.{HasRoomFor, slab_len};
 ghost use Rattle.gpu_alloc_fits.specs.Inside.{size_in};
 ghost use Rattle.gpu_alloc_fits.specs.Links.{IsKept};
-ghost use Rattle.gpu_alloc_fits.specs.Tiles.{HasFree, IsFreeLeft, IsFreeRight, IsLiveAt, KeepsElsewhere, KeepsOthers, tile_in};
+ghost use Rattle.gpu_alloc_fits.specs.Tiles.{IsFreeRight, IsLiveAt, IsUnused, KeepsElsewhere, KeepsOthers, tile_in};
 
-use crate::classes::{Classes, file, unfile};
+use crate::classes::{Classes, class_of, file, refile, unfile};
 use crate::fits::Chunk;
-use crate::tile::{Node, Tile, put, set_after, set_before, unlisted};
+use crate::tile::{Node, Tile, bytes_of, set_before, set_end, set_free, unlisted};
 use gpu_alloc_types::MemoryObject;
 use slab::Slab;
 use std::alloc::Allocator;
 
-/// Turns bytes of a free tile into a live tile, under its key. What the tile has before and after them stays free. Room
-/// for two tiles was made.
+/// Turns bytes of a free tile into a live tile, and returns its key. What the tile has before and after them stays free.
+/// Room for two tiles was made.
+#[inline(always)]
 pub(crate) fn cut_out<M: MemoryObject, A: Allocator>(
     nodes: &mut Slab<Node, A>,
     classes: &mut Classes,
     chunks: &Slab<Chunk<M>, A>,
     key: usize,
-    chunk: usize,
+    run: Tile,
     start: u64,
     end: u64,
-)
+) -> usize
     requires kept { IsKept (size_in chunks.now) nodes.old }
+    requires run { (tile_in nodes.old key ≡ Some run) × (run.free ≡ true) }
     requires nonempty { start < end }
-    requires inside { HasFree (tile_in nodes.old) key chunk start end }
+    requires inside { (run.start ≤ start) × (end ≤ run.end) }
     requires room { HasRoomFor nodes.old 2 }
     ensures kept { IsKept (size_in chunks.now) nodes.new }
-    ensures live { IsLiveAt (tile_in nodes.new) key
-        (record { chunk = chunk; start = start; end = end; free = false }) }
-    ensures others { KeepsOthers (tile_in nodes.old) (tile_in nodes.new) key }
-    ensures elsewhere { KeepsElsewhere chunk (tile_in nodes.old) (tile_in nodes.new) }
+    ensures live { IsLiveAt (tile_in nodes.new) result
+        (record { chunk = run.chunk; start = start; end = end; free = false }) }
+    ensures added { IsUnused (tile_in nodes.old) result }
+    ensures others { KeepsOthers (tile_in nodes.old) (tile_in nodes.new) result }
+    ensures elsewhere { KeepsElsewhere run.chunk (tile_in nodes.old) (tile_in nodes.new) }
 {
-    unfile(nodes, classes, key);
-    let node = nodes[key];
-    let taken = Tile {
-        chunk,
-        start: node.tile.start,
-        end: node.tile.end,
-        free: false,
-    };
-    put(nodes, key, unlisted(taken, node.before, node.after));
-    cut_front(nodes, classes, chunks, key, taken, start);
+    let block = cut_end(nodes, classes, chunks, key, run, start);
     let rest = Tile {
-        chunk,
+        chunk: run.chunk,
         start,
-        end: node.tile.end,
+        end: run.end,
         free: false,
     };
-    cut_back(nodes, classes, chunks, key, rest, end);
+    cut_back(nodes, classes, chunks, block, rest, end);
+    block
 }
 
-/// Frees the front of a live tile, before `at`, if it has bytes there.
+/// Turns the bytes of a free tile from `at` on into a live tile, and returns its key. The front, if it has bytes, stays
+/// free under the old key.
 #[inline(always)]
-fn cut_front<M: MemoryObject, A: Allocator>(
+fn cut_end<M: MemoryObject, A: Allocator>(
     nodes: &mut Slab<Node, A>,
     classes: &mut Classes,
     chunks: &Slab<Chunk<M>, A>,
     key: usize,
-    tile: Tile,
+    run: Tile,
     at: u64,
-)
+) -> usize
     requires kept { IsKept (size_in chunks.now) nodes.old }
-    requires live { IsLiveAt (tile_in nodes.old) key tile }
-    requires within { (tile.start ≤ at) × (at < tile.end) }
-    requires left { IsFreeLeft key (tile_in nodes.old) }
-    requires right { IsFreeRight key (tile_in nodes.old) }
+    requires run { (tile_in nodes.old key ≡ Some run) × (run.free ≡ true) }
+    requires within { (run.start ≤ at) × (at < run.end) }
     requires room { HasRoomFor nodes.old 1 }
     ensures kept { IsKept (size_in chunks.now) nodes.new }
-    ensures right { IsFreeRight key (tile_in nodes.new) }
-    ensures live { IsLiveAt (tile_in nodes.new) key (record tile { start = at }) }
-    ensures others { KeepsOthers (tile_in nodes.old) (tile_in nodes.new) key }
-    ensures elsewhere { KeepsElsewhere tile.chunk (tile_in nodes.old) (tile_in nodes.new) }
+    ensures right { IsFreeRight result (tile_in nodes.new) }
+    ensures live { IsLiveAt (tile_in nodes.new) result
+        (record { chunk = run.chunk; start = at; end = run.end; free = false }) }
+    ensures added { IsUnused (tile_in nodes.old) result }
+    ensures others { KeepsOthers (tile_in nodes.old) (tile_in nodes.new) result }
+    ensures elsewhere { KeepsElsewhere run.chunk (tile_in nodes.old) (tile_in nodes.new) }
     ensures len { slab_len nodes.new ≤ slab_len nodes.old + 1 }
     ensures capacity { (nodes.new).capacity ≡ (nodes.old).capacity }
 {
-    if at == tile.start {
-        return;
+    let was = class_of(bytes_of(run));
+    if at == run.start {
+        unfile(nodes, classes, key, was);
+        set_free(nodes, key, false);
+        return key;
     }
-    let node = nodes[key];
-    let free = Tile {
-        chunk: tile.chunk,
-        start: tile.start,
-        end: at,
-        free: true,
-    };
-    let front = nodes.insert_reserved(unlisted(free, node.before, key));
-    let rest = Tile {
-        chunk: tile.chunk,
+    let whole = chunks[run.chunk].size;
+    let after = nodes[key].after;
+    let live = Tile {
+        chunk: run.chunk,
         start: at,
-        end: tile.end,
+        end: run.end,
         free: false,
     };
-    put(nodes, key, unlisted(rest, front, node.after));
-    set_after(nodes, tile.start > 0, node.before, front);
-    file(nodes, classes, front);
+    let block = nodes.insert_reserved(unlisted(live, key, after));
+    set_end(nodes, key, at, block);
+    set_before(nodes, run.end < whole, after, block);
+    refile(nodes, classes, key, was, class_of(at - run.start));
+    block
 }
 
 /// Frees the back of a live tile, from `at` on, if it has bytes there.
@@ -123,21 +118,15 @@ fn cut_back<M: MemoryObject, A: Allocator>(
         return;
     }
     let whole = chunks[tile.chunk].size;
-    let node = nodes[key];
+    let after = nodes[key].after;
     let free = Tile {
         chunk: tile.chunk,
         start: at,
         end: tile.end,
         free: true,
     };
-    let back = nodes.insert_reserved(unlisted(free, key, node.after));
-    let rest = Tile {
-        chunk: tile.chunk,
-        start: tile.start,
-        end: at,
-        free: false,
-    };
-    put(nodes, key, unlisted(rest, node.before, back));
-    set_before(nodes, tile.end < whole, node.after, back);
-    file(nodes, classes, back);
+    let back = nodes.insert_reserved(unlisted(free, key, after));
+    set_end(nodes, key, at, back);
+    set_before(nodes, tile.end < whole, after, back);
+    file(nodes, classes, back, class_of(tile.end - at));
 }

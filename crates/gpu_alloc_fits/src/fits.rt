@@ -10,8 +10,8 @@ ghost use Rattle.gpu_alloc_base.specs.AlignMasks.{IsAlignMask};
 ghost use Rattle.gpu_alloc_base.specs.RangeOrder.{AreInOrder};
 ghost use Rattle.gpu_alloc_base.specs.declared.free_list_block.Slot.{Slot as LiveSlot};
 ghost use Rattle.gpu_alloc_fits.specs.Fits.{HasRooms, TakesPlace};
-ghost use Rattle.gpu_alloc_fits.specs.Inside.{IsAtKey, IsBlock, IsLiveTile, IsWholeTile, IsWithout, chunks_in};
-ghost use Rattle.gpu_alloc_fits.specs.Inside.{free_range, listed, live_row, size_in};
+ghost use Rattle.gpu_alloc_fits.specs.Inside.{IsAtKey, IsBlock, IsLiveTile, IsPlace, IsWholeTile, IsWithout};
+ghost use Rattle.gpu_alloc_fits.specs.Inside.{chunks_in, free_range, listed, live_row, size_in};
 ghost use Rattle.gpu_alloc_fits.specs.Links.{IsKept};
 ghost use Rattle.gpu_alloc_fits.specs.Listed.{AddsSlots, ListsChunks};
 ghost use Rattle.gpu_alloc_fits.specs.Space.{Adds, BeginsChunk, HasPlace, IsLiveSlot, IsLiveSpan, IsNoLiveSpan, IsRunOf};
@@ -20,11 +20,11 @@ ghost use Rattle.gpu_alloc_fits.specs.Space.{with_chunk, with_slot, without_chun
 ghost use Rattle.gpu_alloc_fits.specs.Tiles.{KeepsElsewhere, KeepsLive, tile_in};
 
 use crate::block::{FitBlock, into_parts};
-use crate::classes::{Classes, file, unfile};
+use crate::classes::{Classes, class_of, file, unfile};
 use crate::cut::cut_out;
 use crate::join::put_back;
 use crate::search::{Known, find_place, last_start};
-use crate::tile::{NONE, Node, Tile, unlisted};
+use crate::tile::{NONE, Node, Place, Tile, unlisted};
 use gpu_alloc_base::buddy_block::Leaf;
 use gpu_alloc_base::free_list_block::Slot;
 use gpu_alloc_base::range_order::put_in_order;
@@ -186,12 +186,12 @@ impl<M: MemoryObject, A: Allocator> Fits<M, A> {
         let memory = self.chunks[run.chunk].memory.duplicate()?;
         let start = last_start(run.end, size, align_mask);
         let end = start + size;
-        cut_out(
+        let block = cut_out(
             &mut self.tiles,
             &mut self.classes,
             &self.chunks,
             key,
-            run.chunk,
+            run,
             start,
             end,
         );
@@ -202,7 +202,7 @@ impl<M: MemoryObject, A: Allocator> Fits<M, A> {
             offset: start,
             size,
         };
-        Ok(Some(FitBlock::new(memory, slot, key)))
+        Ok(Some(FitBlock::new(memory, slot, block)))
     }
 
     /// Holds a new chunk of `memory_size` bytes, and makes a block of its first `size` bytes. `memory` and `handle` are
@@ -231,13 +231,18 @@ impl<M: MemoryObject, A: Allocator> Fits<M, A> {
             free: true,
         };
         let key = self.tiles.insert_reserved(unlisted(whole, NONE, NONE));
-        file(&mut self.tiles, &mut self.classes, key);
-        cut_out(
+        file(
+            &mut self.tiles,
+            &mut self.classes,
+            key,
+            class_of(memory_size),
+        );
+        let block = cut_out(
             &mut self.tiles,
             &mut self.classes,
             &self.chunks,
             key,
-            chunk,
+            whole,
             0,
             size,
         );
@@ -248,7 +253,7 @@ impl<M: MemoryObject, A: Allocator> Fits<M, A> {
             offset: 0,
             size,
         };
-        FitBlock::new(handle, slot, key)
+        FitBlock::new(handle, slot, block)
     }
 
     /// Returns a live block, and joins it with the free runs next to it. Where its chunk is then wholly free and
@@ -273,7 +278,7 @@ impl<M: MemoryObject, A: Allocator> Fits<M, A> {
         ensures few { looks.new ≤ looks.old + 2 }
     {
         let (_, slot, hint) = into_parts(block);
-        let Some(key) = key_of(
+        let Some(place) = place_of(
             &self.chunks,
             &self.tiles,
             hint,
@@ -283,10 +288,15 @@ impl<M: MemoryObject, A: Allocator> Fits<M, A> {
         ) else {
             unreachable!();
         };
-        let joint = put_back(&mut self.tiles, &mut self.classes, &self.chunks, key, looks);
+        let (joint, key) = put_back(
+            &mut self.tiles,
+            &mut self.classes,
+            &self.chunks,
+            place,
+            looks,
+        );
         self.known.full = None;
-        let whole = self.chunks[joint.chunk].size;
-        if !is_whole(joint, whole) {
+        if !is_whole(joint, place.whole) {
             return None;
         }
         match self.spare {
@@ -341,14 +351,14 @@ impl<M: MemoryObject, A: Allocator> Fits<M, A> {
         ensures exact { (slot : LiveSlot) → IsLiveSpan (self.now).space object offset size slot
             → IfSome result (λ found. found.0 ≡ slot) }
     {
-        let key = key_of(&self.chunks, &self.tiles, key, object, offset, size)?;
+        let place = place_of(&self.chunks, &self.tiles, key, object, offset, size)?;
         let slot = Slot {
             object,
-            chunk: self.tiles[key].tile.chunk as u64,
+            chunk: place.node.tile.chunk as u64,
             offset,
             size,
         };
-        Some((slot, key))
+        Some((slot, place.key))
     }
 
     /// The held chunks, each once, by rising key.
@@ -434,31 +444,44 @@ fn end<M: MemoryObject, A: Allocator>(
     ensures row { get chunks.old chunk ≡ Some (record { memory = result.0; size = result.1 }) }
     ensures updates { Updates chunks.old chunks.new chunk None }
 {
-    unfile(tiles, classes, key);
-    let _ = tiles.remove(key);
     let Chunk { memory, size } = chunks.remove(chunk);
+    unfile(tiles, classes, key, class_of(size));
+    let _ = tiles.remove(key);
     (memory, size)
 }
 
-/// The key of the tile that is the live block of this span: `key` if its tile is, or else the one that a search finds.
+/// The place of the tile that is the live block of this span: under `key` if it is there, or else where a search finds
+/// it.
 #[inline(always)]
-fn key_of<M: MemoryObject, A: Allocator>(
+fn place_of<M: MemoryObject, A: Allocator>(
     chunks: &Slab<Chunk<M>, A>,
     tiles: &Slab<Node, A>,
     key: usize,
     object: u64,
     offset: u64,
     size: u64,
-) -> Option<usize>
+) -> Option<Place>
     requires kept { IsKept (size_in chunks.now) tiles.now }
     ensures { MatchOption result
         ((k : ℕ) → IsAtKey (chunks_in M.object chunks.now) (tile_in tiles.now) object offset size k → ⊥)
-        (IsAtKey (chunks_in M.object chunks.now) (tile_in tiles.now) object offset size) }
+        (IsPlace M.object chunks.now tiles.now object offset size) }
 {
-    match tiles.get(key) {
-        Some(node) if is_of(chunks, node.tile, object, offset, size) => Some(key),
-        _ => search(chunks, tiles, object, offset, size),
+    if let Some(node) = tiles.get(key) {
+        if is_of(chunks, node.tile, object, offset, size) {
+            return Some(Place {
+                key,
+                node: *node,
+                whole: chunks[node.tile.chunk].size,
+            });
+        }
     }
+    let found = search(chunks, tiles, object, offset, size)?;
+    let node = tiles[found];
+    Some(Place {
+        key: found,
+        node,
+        whole: chunks[node.tile.chunk].size,
+    })
 }
 
 /// The key of the tile that is the live block of this span, by a search of all tiles.

@@ -3,50 +3,57 @@
 ghost use Rattle.std.specs.Prelude.{◌≡◌, ◌≤◌, ◌+◌, ◌↔◌, ℕ, Some, true, false, IsTrue};
 ghost use Rattle.slab.specs.Slab.{ContainsKey, get};
 ghost use Rattle.gpu_alloc_fits.specs.Inside.{size_in};
-ghost use Rattle.gpu_alloc_fits.specs.Links.{IsBeside, IsKept};
-ghost use Rattle.gpu_alloc_fits.specs.Tiles.{GivesBack, IsFirst, IsFreeOf, IsLiveAt, KeepsElsewhere, KeepsLive, tile_in};
+ghost use Rattle.gpu_alloc_fits.specs.Links.{IsBeside, IsKept, with_free};
+ghost use Rattle.gpu_alloc_fits.specs.Tiles.{GivesBack, IsFirst, IsFreeOf, KeepsElsewhere, KeepsLive, tile_in};
 ghost use Rattle.gpu_alloc_fits.specs.declared.tile.Tile.{Tile as TileOf};
 
-use crate::classes::{Classes, file, unfile};
+use crate::classes::{Classes, class_of, refile, unfile};
 use crate::fits::Chunk;
-use crate::tile::{Node, Tile, put, set_after, set_before, unlisted};
+use crate::tile::{NONE, Node, Place, Tile, bytes_of, set_before, set_end, set_free};
 use gpu_alloc_base::steps::Steps;
 use gpu_alloc_types::MemoryObject;
 use slab::Slab;
 use std::alloc::Allocator;
 use std::sync::ledger::Ledger;
 
-/// Frees a live tile and joins it with the free ones next to it. Its key becomes that of the joint, which is returned.
-/// `looks` counts the tiles that are looked at: at most two. It allocates nothing.
+/// A free tile that was joined with others: its key, and the class in whose list it stands, or no class.
+#[derive(Clone, Copy)]
+struct Joint {
+    key: usize,
+    class: usize,
+}
+
+/// Frees a live tile and joins it with the free ones next to it. Returns the joint with its key: that of the free tile
+/// before it, or else its own. `looks` counts the tiles that are looked at: at most two. It allocates nothing.
+#[inline(always)]
 pub(crate) fn put_back<M: MemoryObject, A: Allocator, L: Ledger>(
     nodes: &mut Slab<Node, A>,
     classes: &mut Classes,
     chunks: &Slab<Chunk<M>, A>,
-    key: usize,
+    place: Place,
     looks: &mut Steps<L>,
-) -> Tile
+) -> (Tile, usize)
     requires kept { IsKept (size_in chunks.now) nodes.old }
-    requires live { (a : TileOf) × IsLiveAt (tile_in nodes.old) key a }
+    requires at { get nodes.old place.key ≡ Some place.node }
+    requires live { place.node.tile.free ≡ false }
+    requires whole { size_in chunks.now place.node.tile.chunk ≡ place.whole }
     ensures kept { IsKept (size_in chunks.now) nodes.new }
-    ensures back { GivesBack (tile_in nodes.old) (tile_in nodes.new) key }
-    ensures joint { (a : TileOf) → tile_in nodes.old key ≡ Some a → IsFreeOf a.chunk (tile_in nodes.new) key result }
-    ensures elsewhere { (a : TileOf) → tile_in nodes.old key ≡ Some a
-        → KeepsElsewhere a.chunk (tile_in nodes.old) (tile_in nodes.new) }
+    ensures back { GivesBack (tile_in nodes.old) (tile_in nodes.new) place.key }
+    ensures joint { IsFreeOf place.node.tile.chunk (tile_in nodes.new) result.1 result.0 }
+    ensures elsewhere { KeepsElsewhere place.node.tile.chunk (tile_in nodes.old) (tile_in nodes.new) }
     ensures few { looks.new ≤ looks.old + 2 }
 {
-    let node = nodes[key];
-    let freed = Tile {
-        chunk: node.tile.chunk,
-        start: node.tile.start,
-        end: node.tile.end,
-        free: true,
-    };
-    put(nodes, key, unlisted(freed, node.before, node.after));
-    join_before(nodes, classes, chunks, key, looks);
-    join_after(nodes, classes, chunks, key, looks);
-    let joint = nodes[key].tile;
-    file(nodes, classes, key);
-    joint
+    set_free(nodes, place.key, true);
+    let joint = join_before(nodes, chunks, place, looks);
+    let tile = join_after(nodes, classes, chunks, joint.key, place.whole, looks);
+    refile(
+        nodes,
+        classes,
+        joint.key,
+        joint.class,
+        class_of(bytes_of(tile)),
+    );
+    (tile, joint.key)
 }
 
 /// Looks at a tile next to a freed one, and counts the look.
@@ -60,81 +67,79 @@ fn look<A: Allocator, L: Ledger>(nodes: &Slab<Node, A>, other: usize, looks: &mu
     nodes[other]
 }
 
-/// Joins a free tile with the free one before it, if there is one.
+/// Joins a tile that was freed with the free one before it, if there is one, under the key of that one.
 #[inline(always)]
 fn join_before<M: MemoryObject, A: Allocator, L: Ledger>(
     nodes: &mut Slab<Node, A>,
-    classes: &mut Classes,
     chunks: &Slab<Chunk<M>, A>,
-    key: usize,
+    place: Place,
     looks: &mut Steps<L>,
-)
-    requires beside { IsBeside (size_in chunks.now) key nodes.old }
-    ensures beside { IsBeside (size_in chunks.now) key nodes.new }
-    ensures first { IsFirst key (tile_in nodes.new) }
+) -> Joint
+    requires beside { IsBeside (size_in chunks.now) place.key nodes.old }
+    requires at { get nodes.old place.key ≡ Some (with_free true place.node) }
+    requires whole { size_in chunks.now place.node.tile.chunk ≡ place.whole }
+    ensures beside { IsBeside (size_in chunks.now) result.key nodes.new }
+    ensures first { IsFirst result.key (tile_in nodes.new) }
     ensures lives { KeepsLive (tile_in nodes.old) (tile_in nodes.new) }
-    ensures joint { (a : TileOf) → tile_in nodes.old key ≡ Some a → (b : TileOf) × IsFreeOf a.chunk (tile_in nodes.new) key b }
-    ensures elsewhere { (a : TileOf) → tile_in nodes.old key ≡ Some a
-        → KeepsElsewhere a.chunk (tile_in nodes.old) (tile_in nodes.new) }
+    ensures joint { (b : TileOf) × IsFreeOf place.node.tile.chunk (tile_in nodes.new) result.key b }
+    ensures elsewhere { KeepsElsewhere place.node.tile.chunk (tile_in nodes.old) (tile_in nodes.new) }
     ensures few { looks.new ≤ looks.old + 1 }
 {
-    let node = nodes[key];
+    let Place { key, node, whole } = place;
     if node.tile.start == 0 {
-        return;
+        return Joint { key, class: NONE };
     }
     let other = node.before;
     let front = look(nodes, other, looks);
     if !front.tile.free {
-        return;
+        return Joint { key, class: NONE };
     }
-    unfile(nodes, classes, other);
-    let _ = nodes.remove(other);
-    let joint = Tile {
-        chunk: node.tile.chunk,
-        start: front.tile.start,
-        end: node.tile.end,
-        free: true,
-    };
-    put(nodes, key, unlisted(joint, front.before, node.after));
-    set_after(nodes, front.tile.start > 0, front.before, key);
+    let _ = nodes.remove(key);
+    set_end(nodes, other, node.tile.end, node.after);
+    set_before(nodes, node.tile.end < whole, node.after, other);
+    Joint {
+        key: other,
+        class: class_of(bytes_of(front.tile)),
+    }
 }
 
-/// Joins a free tile with the free one after it, if there is one.
+/// Joins a free tile with the free one behind it, if there is one, under its own key. The joint is answered.
 #[inline(always)]
 fn join_after<M: MemoryObject, A: Allocator, L: Ledger>(
     nodes: &mut Slab<Node, A>,
     classes: &mut Classes,
     chunks: &Slab<Chunk<M>, A>,
     key: usize,
+    whole: u64,
     looks: &mut Steps<L>,
-)
+) -> Tile
     requires beside { IsBeside (size_in chunks.now) key nodes.old }
+    requires whole { (a : TileOf) → tile_in nodes.old key ≡ Some a → size_in chunks.now a.chunk ≡ whole }
     requires first { IsFirst key (tile_in nodes.old) }
     ensures kept { IsKept (size_in chunks.now) nodes.new }
     ensures lives { KeepsLive (tile_in nodes.old) (tile_in nodes.new) }
-    ensures joint { (a : TileOf) → tile_in nodes.old key ≡ Some a → (b : TileOf) × IsFreeOf a.chunk (tile_in nodes.new) key b }
+    ensures joint { (a : TileOf) → tile_in nodes.old key ≡ Some a → IsFreeOf a.chunk (tile_in nodes.new) key result }
     ensures elsewhere { (a : TileOf) → tile_in nodes.old key ≡ Some a
         → KeepsElsewhere a.chunk (tile_in nodes.old) (tile_in nodes.new) }
     ensures few { looks.new ≤ looks.old + 1 }
 {
     let node = nodes[key];
-    let whole = chunks[node.tile.chunk].size;
     if node.tile.end == whole {
-        return;
+        return node.tile;
     }
     let other = node.after;
     let back = look(nodes, other, looks);
     if !back.tile.free {
-        return;
+        return node.tile;
     }
-    unfile(nodes, classes, other);
+    unfile(nodes, classes, other, class_of(bytes_of(back.tile)));
     let _ = nodes.remove(other);
-    let joint = Tile {
+    set_end(nodes, key, back.tile.end, back.after);
+    set_before(nodes, back.tile.end < whole, back.after, key);
+    Tile {
         chunk: node.tile.chunk,
         start: node.tile.start,
         end: back.tile.end,
         free: true,
-    };
-    put(nodes, key, unlisted(joint, node.before, back.after));
-    set_before(nodes, back.tile.end < whole, back.after, key);
+    }
 }

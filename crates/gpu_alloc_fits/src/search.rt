@@ -76,7 +76,7 @@ pub(crate) fn last_start(end: u64, size: u64, align_mask: u64) -> u64
     ensures { result ≡ tail_start size (align_mask + 1) end }
 {
     let last = end - size;
-    last - last % (align_mask + 1)
+    last - (last & align_mask)
 }
 
 /// Whether a tile is free and has room for a block of this size at a multiple of `align_mask + 1`.

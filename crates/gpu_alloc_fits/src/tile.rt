@@ -1,8 +1,8 @@
 //! Tiles: the live blocks and free runs of the held chunks, each with the keys of its neighbours.
 
-ghost use Rattle.std.specs.Prelude.{◌≡◌, ◌≢◌, Some, IsTrue};
-ghost use Rattle.slab.specs.Slab.{ContainsKey, Updates, slab_len};
-ghost use Rattle.gpu_alloc_fits.specs.Links.{SetsAfter, SetsBefore};
+ghost use Rattle.std.specs.Prelude.{◌≡◌, ◌≢◌, Some, IsTrue, option_map};
+ghost use Rattle.slab.specs.Slab.{ContainsKey, Updates, get, slab_len};
+ghost use Rattle.gpu_alloc_fits.specs.Links.{SetsBefore, with_end, with_free};
 
 use slab::Slab;
 use std::alloc::Allocator;
@@ -26,7 +26,13 @@ pub(crate) struct Tile {
     pub(crate) free: bool,
 }
 
-/// A tile, the keys of the tiles next to it, and its place in the list of its class while it is free.
+/// How many bytes a tile has.
+#[inline(always)]
+pub(crate) fn bytes_of(tile: Tile) -> u64 {
+    tile.end.wrapping_sub(tile.start)
+}
+
+/// A tile, the keys of the tiles beside it, and its place in the list of its class while it is free.
 #[derive(Clone, Copy)]
 pub(crate) struct Node {
     pub(crate) tile: Tile,
@@ -44,7 +50,15 @@ pub(crate) struct Node {
     pub(crate) down: usize,
 }
 
-/// A node that is in no list of a class.
+/// Where a tile stands: its key, its node, and the size of its chunk in bytes.
+#[derive(Clone, Copy)]
+pub(crate) struct Place {
+    pub(crate) key: usize,
+    pub(crate) node: Node,
+    pub(crate) whole: u64,
+}
+
+/// A node that stands in no list of a class.
 #[inline(always)]
 pub(crate) fn unlisted(tile: Tile, before: usize, after: usize) -> Node
     ensures tile { result.tile ≡ tile }
@@ -60,18 +74,32 @@ pub(crate) fn unlisted(tile: Tile, before: usize, after: usize) -> Node
     }
 }
 
-/// Replaces the node under a key.
+/// Writes whether a tile is free.
 #[inline(always)]
-pub(crate) fn put<A: Allocator>(nodes: &mut Slab<Node, A>, key: usize, node: Node)
+pub(crate) fn set_free<A: Allocator>(nodes: &mut Slab<Node, A>, key: usize, free: bool)
     requires { ContainsKey nodes.old key }
-    ensures updates { Updates nodes.old nodes.new key (Some node) }
+    ensures updates { Updates nodes.old nodes.new key (option_map (with_free free) (get nodes.old key)) }
     ensures len { slab_len nodes.new ≡ slab_len nodes.old }
     ensures capacity { (nodes.new).capacity ≡ (nodes.old).capacity }
 {
-    nodes[key] = node;
+    let node = &mut nodes[key];
+    node.tile.free = free;
 }
 
-/// Sets the tile that ends where this one starts, if `there` says that this one exists.
+/// Writes where a tile ends, and which one starts there.
+#[inline(always)]
+pub(crate) fn set_end<A: Allocator>(nodes: &mut Slab<Node, A>, key: usize, end: u64, after: usize)
+    requires { ContainsKey nodes.old key }
+    ensures updates { Updates nodes.old nodes.new key (option_map (with_end end after) (get nodes.old key)) }
+    ensures len { slab_len nodes.new ≡ slab_len nodes.old }
+    ensures capacity { (nodes.new).capacity ≡ (nodes.old).capacity }
+{
+    let node = &mut nodes[key];
+    node.tile.end = end;
+    node.after = after;
+}
+
+/// Writes which tile ends where this one starts, where `there` says that this one stands.
 #[inline(always)]
 pub(crate) fn set_before<A: Allocator>(
     nodes: &mut Slab<Node, A>,
@@ -86,25 +114,6 @@ pub(crate) fn set_before<A: Allocator>(
     if there {
         if let Some(node) = nodes.get_mut(key) {
             node.before = value;
-        }
-    }
-}
-
-/// Sets the tile that starts where this one ends, if `there` says that this one exists.
-#[inline(always)]
-pub(crate) fn set_after<A: Allocator>(
-    nodes: &mut Slab<Node, A>,
-    there: bool,
-    key: usize,
-    value: usize,
-)
-    ensures sets { SetsAfter nodes.old nodes.new there key value }
-    ensures len { slab_len nodes.new ≡ slab_len nodes.old }
-    ensures capacity { (nodes.new).capacity ≡ (nodes.old).capacity }
-{
-    if there {
-        if let Some(node) = nodes.get_mut(key) {
-            node.after = value;
         }
     }
 }

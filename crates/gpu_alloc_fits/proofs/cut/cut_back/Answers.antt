@@ -1,4 +1,4 @@
-use Rattle.std.proofs.Common.{arith, ap}
+use Rattle.std.proofs.Common.{true, refl, arith, ap}
 use Rattle.gpu_alloc_fits.specs.Inside.{size_in, size_of}
 use Rattle.gpu_alloc_fits.proofs.Cuts.{back_kept, row_there}
 use Rattle.std.proofs.lemmas.Bool.Decides.{Decides-ltb}
@@ -10,7 +10,8 @@ index-requires g c = row_there c.args.chunks.now c.args.nodes.now c.args.key c.a
 pub returns-clause-kept : goal.returns-clause-kept
 returns-clause-kept g c =
     let whole = ap size_of c.index.ensures in
-    back_kept (size_in c.args.chunks.now) c.args.nodes.now c.insert_reserved-back.new.self c.put.new.nodes c.args.key c.insert_reserved-back.result c.index-node.result.now c.unlisted.result c.unlisted-2.result c.args.tile
-    c.requires.kept c.index-node.ensures c.requires.live c.insert_reserved-back.ensures.was_vacant c.insert_reserved-back.ensures.updates c.put.ensures.updates c.set_before.new.nodes c.file.new.nodes c.args.at
-    c.requires.within.0 (let ne = c.if-at-tile.false in let le = c.requires.within.1 in omega (arith, ne, le)) c.unlisted.ensures.tile c.unlisted-2.ensures.tile c.unlisted.ensures.before c.unlisted.ensures.after c.unlisted-2.ensures.before c.unlisted-2.ensures.after
-    _ (λ h. (Decides-ltb c.args.tile.end c.index.result.now.size).1 (omega (arith, h, whole))) (λ h. let less = (Decides-ltb c.args.tile.end c.index.result.now.size).0 h in omega (arith, less, whole)) c.set_before.ensures.sets c.file.ensures.keeps c.requires.right
+    back_kept (size_in c.args.chunks.now) c.args.nodes.now c.insert_reserved-back.new.self c.set_end.new.nodes c.args.key c.insert_reserved-back.result c.args.at c.index-2.result.now c.unlisted.result c.args.tile
+    c.requires.kept c.index-2.ensures c.requires.live.0 c.insert_reserved-back.ensures.was_vacant c.insert_reserved-back.ensures.updates c.set_end.ensures.updates c.set_before.new.nodes c.file.new.nodes
+    c.requires.within.0 (let ne = c.if-at-tile.false in let le = c.requires.within.1 in omega (arith, ne, le)) true c.unlisted.ensures.tile c.unlisted.ensures.before c.unlisted.ensures.after
+    _ (λ h. (Decides-ltb c.args.tile.end c.index.result.now.size).1 (omega (arith, h, whole))) (λ h. let less = (Decides-ltb c.args.tile.end c.index.result.now.size).0 h in omega (arith, less, whole)) c.set_before.ensures.sets c.file.ensures.keeps
+    c.requires.live.1 refl c.requires.right

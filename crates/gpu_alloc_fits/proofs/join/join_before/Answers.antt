@@ -1,47 +1,58 @@
-use Rattle.std.proofs.Common.{subst, refl}
+use Rattle.std.proofs.Common.{◌≡◌, ◌∙◌, true, subst, sym, arith}
 use Rattle.std.proofs.lemmas.Bool.Decides.{Decides-ltb}
 use Rattle.gpu_alloc_fits.specs.Inside.{size_in}
+use Rattle.gpu_alloc_fits.specs.Links.{with_free}
 use Rattle.gpu_alloc_fits.specs.Tiles.{KeepsElsewhere, tile_in}
-use Rattle.gpu_alloc_fits.specs.declared.tile.Tile.{Tile}
-use Rattle.gpu_alloc_fits.proofs.Joins.{IsJoined, front_else, front_key, front_near, left_is_first, left_joined, put_key, unnot}
-use Rattle.gpu_alloc_fits.proofs.Nodes.{tile_of_node}
-use Rattle.gpu_alloc_fits.proofs.Tiles.{one_tile}
+use Rattle.gpu_alloc_fits.proofs.Joins.{IsJoined, beside_free, front_else, front_key, front_near, left_is_first, left_joined, put_key, unnot}
+use Rattle.gpu_alloc_fits.proofs.Nodes.{keeps_self}
 use Rattle.gpu_alloc_fits.proofs.join.join_before.Given.{Over}
 use Rattle.gpu_alloc_fits.proofs.join.join_before.Goals as goal
 
 pub look-front-requires : goal.look-front-requires
-look-front-requires g c = front_key (size_in c.args.chunks.now) c.args.nodes.now c.args.key c.index-node.result.now c.requires.beside c.index-node.ensures c.if-node-eq0.false
+look-front-requires g c = front_key (size_in c.args.chunks.now) c.args.nodes.now c.args.place.key (with_free true c.args.place.node) c.requires.beside c.requires.at c.if-node-eq0.false
 
-pub put-requires : goal.put-requires
-put-requires g c =
-    put_key c.args.nodes.now c.unfile.new.nodes c.remove.new.self c.args.key c.index-node.result.now.before c.index-node.result.now c.index-node.ensures
-    (front_else (size_in c.args.chunks.now) c.args.nodes.now c.args.key c.index-node.result.now c.requires.beside c.index-node.ensures c.look-front.result c.if-node-eq0.false c.look-front.ensures.node)
-    c.unfile.ensures.keeps c.remove.ensures.updates
+pub set_end-requires : goal.set_end-requires
+set_end-requires g c =
+    let other = front_else (size_in c.args.chunks.now) c.args.nodes.now c.args.place.key (with_free true c.args.place.node) c.requires.beside c.requires.at c.look-front.result c.if-node-eq0.false c.look-front.ensures.node in
+    put_key c.args.nodes.now c.args.nodes.now c.remove.new.self (with_free true c.args.place.node).before c.args.place.key c.look-front.result c.look-front.ensures.node (λ e. other (sym e)) (keeps_self c.args.nodes.now) c.remove.ensures.updates
 
-joined : (g : Over) (c : goal.After-set_after g) → IsJoined (size_in c.args.chunks.now) c.args.nodes.now c.set_after.new.nodes c.args.key c.index-node.result.now.tile.chunk
+joined : (g : Over) (c : goal.After-class_of g) → IsJoined (size_in c.args.chunks.now) c.args.nodes.now c.set_before.new.nodes (with_free true c.args.place.node).before c.look-front.result.tile.chunk
 joined g c =
-    left_joined (size_in c.args.chunks.now) c.args.nodes.now c.unfile.new.nodes c.remove.new.self c.put.new.nodes c.args.key c.index-node.result.now.before c.index-node.result.now c.look-front.result c.unlisted.result
-    c.requires.beside c.index-node.ensures c.look-front.ensures.node (unnot c.look-front.result.tile.free c.if-not-front.false)
-    (front_else (size_in c.args.chunks.now) c.args.nodes.now c.args.key c.index-node.result.now c.requires.beside c.index-node.ensures c.look-front.result c.if-node-eq0.false c.look-front.ensures.node)
-    c.unfile.ensures.keeps c.remove.ensures.updates c.put.ensures.updates c.set_after.new.nodes
-    (front_near (size_in c.args.chunks.now) c.args.nodes.now c.args.key c.index-node.result.now c.requires.beside c.index-node.ensures c.look-front.result c.if-node-eq0.false c.look-front.ensures.node)
-    c.unlisted.ensures.tile c.unlisted.ensures.before c.unlisted.ensures.after
-    _ (Decides-ltb 0 c.look-front.result.tile.start).1 (Decides-ltb 0 c.look-front.result.tile.start).0 c.set_after.ensures.sets
+    let n = (with_free true c.args.place.node) in
+    let size = size_in c.args.chunks.now in
+    let other = front_else size c.args.nodes.now c.args.place.key n c.requires.beside c.requires.at c.look-front.result c.if-node-eq0.false c.look-front.ensures.node in
+    let whole = c.requires.whole in
+    left_joined size c.args.nodes.now c.args.nodes.now c.remove.new.self c.set_end.new.nodes n.before c.args.place.key c.look-front.result n
+    c.requires.beside.tiled c.requires.beside.linked c.look-front.ensures.node (unnot c.look-front.result.tile.free c.if-not-front.false) c.requires.at
+    (beside_free size c.args.nodes.now c.args.place.key n c.requires.beside c.requires.at) (λ e. other (sym e)) (keeps_self c.args.nodes.now) c.remove.ensures.updates c.set_end.ensures.updates c.set_before.new.nodes
+    (front_near size c.args.nodes.now c.args.place.key n c.requires.beside c.requires.at c.look-front.result c.if-node-eq0.false c.look-front.ensures.node)
+    _ (λ h. (Decides-ltb n.tile.end c.args.place.whole).1 (omega (arith, h, whole))) (λ h. let less = (Decides-ltb n.tile.end c.args.place.whole).0 h in omega (arith, less, whole)) c.set_before.ensures.sets c.requires.beside.calm
 
 pub returns-clause-beside : goal.returns-clause-beside
 returns-clause-beside g c = (joined g c).beside
 
 pub returns-clause-first : goal.returns-clause-first
 returns-clause-first g c =
-    left_is_first (size_in c.args.chunks.now) c.args.nodes.now c.unfile.new.nodes c.remove.new.self c.put.new.nodes c.args.key c.index-node.result.now.before c.index-node.result.now c.look-front.result c.unlisted.result
-    c.requires.beside c.index-node.ensures c.look-front.ensures.node (unnot c.look-front.result.tile.free c.if-not-front.false)
-    (front_else (size_in c.args.chunks.now) c.args.nodes.now c.args.key c.index-node.result.now c.requires.beside c.index-node.ensures c.look-front.result c.if-node-eq0.false c.look-front.ensures.node)
-    c.unfile.ensures.keeps c.remove.ensures.updates c.put.ensures.updates c.set_after.new.nodes
-    (front_near (size_in c.args.chunks.now) c.args.nodes.now c.args.key c.index-node.result.now c.requires.beside c.index-node.ensures c.look-front.result c.if-node-eq0.false c.look-front.ensures.node)
-    c.unlisted.ensures.tile c.unlisted.ensures.before c.unlisted.ensures.after
-    _ (Decides-ltb 0 c.look-front.result.tile.start).1 (Decides-ltb 0 c.look-front.result.tile.start).0 c.set_after.ensures.sets
+    let n = (with_free true c.args.place.node) in
+    let size = size_in c.args.chunks.now in
+    let other = front_else size c.args.nodes.now c.args.place.key n c.requires.beside c.requires.at c.look-front.result c.if-node-eq0.false c.look-front.ensures.node in
+    let whole = c.requires.whole in
+    left_is_first size c.args.nodes.now c.args.nodes.now c.remove.new.self c.set_end.new.nodes n.before c.args.place.key c.look-front.result n
+    c.requires.beside.tiled c.requires.beside.linked c.look-front.ensures.node (unnot c.look-front.result.tile.free c.if-not-front.false) c.requires.at
+    (beside_free size c.args.nodes.now c.args.place.key n c.requires.beside c.requires.at) (λ e. other (sym e)) (keeps_self c.args.nodes.now) c.remove.ensures.updates c.set_end.ensures.updates c.set_before.new.nodes
+    (front_near size c.args.nodes.now c.args.place.key n c.requires.beside c.requires.at c.look-front.result c.if-node-eq0.false c.look-front.ensures.node)
+    _ (λ h. (Decides-ltb n.tile.end c.args.place.whole).1 (omega (arith, h, whole))) (λ h. let less = (Decides-ltb n.tile.end c.args.place.whole).0 h in omega (arith, less, whole)) c.set_before.ensures.sets c.requires.beside.calm
+
+-- the tile before is of its chunk
+same : (g : Over) (c : goal.After-class_of g) → c.look-front.result.tile.chunk ≡ c.args.place.node.tile.chunk
+same g c =
+    (front_near (size_in c.args.chunks.now) c.args.nodes.now c.args.place.key (with_free true c.args.place.node) c.requires.beside c.requires.at c.look-front.result c.if-node-eq0.false c.look-front.ensures.node).chunk
+
+pub returns-clause-lives : goal.returns-clause-lives
+returns-clause-lives g c = (joined g c).lives
+
+pub returns-clause-joint : goal.returns-clause-joint
+returns-clause-joint g c = let j = joined g c in (j.beside.tile, record { at = j.beside.at; free = j.beside.free; chunk_is = j.of_chunk ∙ same g c })
 
 pub returns-clause-elsewhere : goal.returns-clause-elsewhere
-returns-clause-elsewhere g c a at =
-    let same = one_tile (tile_in c.args.nodes.now) c.args.key c.args.key c.index-node.result.now.tile a (tile_of_node c.args.nodes.now c.args.key c.index-node.result.now c.index-node.ensures) at refl in
-    subst (λ (t : Tile). KeepsElsewhere t.chunk (tile_in c.args.nodes.now) (tile_in c.set_after.new.nodes)) same (joined g c).elsewhere
+returns-clause-elsewhere g c = subst (λ chunk. KeepsElsewhere chunk (tile_in c.args.nodes.now) (tile_in c.set_before.new.nodes)) (same g c) (joined g c).elsewhere

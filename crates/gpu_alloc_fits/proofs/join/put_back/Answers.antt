@@ -1,29 +1,29 @@
-use Rattle.std.proofs.Common.{◌≡◌, ◌≢◌, refl, ap, ◌∙◌}
+use Rattle.std.proofs.Common.{◌∙◌, sym}
 use Rattle.gpu_alloc_fits.specs.Inside.{size_in}
-use Rattle.gpu_alloc_fits.specs.Tiles.{tile_in}
-use Rattle.gpu_alloc_fits.specs.declared.tile.Tile.{Tile}
-use Rattle.gpu_alloc_fits.proofs.Joins.{freed, freed_at, freed_elsewhere}
-use Rattle.gpu_alloc_fits.proofs.Nodes.{keeps_kept, tile_of_node}
-use Rattle.gpu_alloc_fits.proofs.Tiles.{one_tile}
+use Rattle.gpu_alloc_fits.proofs.Joins.{freed, freed_elsewhere, freed_others}
+use Rattle.gpu_alloc_fits.proofs.Nodes.{keeps_kept}
 use Rattle.gpu_alloc_fits.proofs.join.put_back.Goals as goal
 
-pub join_before-requires : goal.join_before-requires
-join_before-requires g c = record {
-  beside = freed (size_in c.args.chunks.now) c.args.nodes.now c.put.new.nodes c.args.key c.index-node.result.now c.unlisted.result c.requires.kept c.index-node.ensures c.put.ensures.updates
-      c.unlisted.ensures.tile c.unlisted.ensures.before c.unlisted.ensures.after;
-}
+pub join_before-joint-requires-clause-beside : goal.join_before-joint-requires-clause-beside
+join_before-joint-requires-clause-beside g c = freed (size_in c.args.chunks.now) c.args.nodes.now c.set_free.new.nodes c.args.place.key c.args.place.node c.requires.kept c.requires.at c.set_free.ensures.updates
 
 pub returns-clause-kept : goal.returns-clause-kept
-returns-clause-kept g c = keeps_kept c.join_after.new.nodes c.file.new.nodes c.file.ensures.keeps (size_in c.args.chunks.now) c.join_after.ensures.kept
+returns-clause-kept g c = keeps_kept c.join_after-tile.new.nodes c.refile.new.nodes c.refile.ensures.keeps (size_in c.args.chunks.now) c.join_after-tile.ensures.kept
+
+pub returns-clause-back : goal.returns-clause-back
+returns-clause-back g c =
+    let back = freed_others (size_in c.args.chunks.now) c.args.nodes.now c.set_free.new.nodes c.args.place.key c.args.place.node c.requires.kept c.requires.at c.set_free.ensures.updates in
+    let first = c.join_before-joint.ensures.lives in
+    let second = c.join_after-tile.ensures.lives in
+    let same = c.refile.ensures.keeps.tiles in record {
+      stays = λ k a live ne. let h = second.stays k a (first.stays k a (back.stays k a live ne)) in (same k ∙ h.0, h.1);
+      was = λ k a live. back.was k a (first.was k a (second.was k a (sym (same k) ∙ live.0, live.1)));
+    }
 
 pub returns-clause-elsewhere : goal.returns-clause-elsewhere
-returns-clause-elsewhere g c a at k b is other =
-    let n = c.index-node.result.now in
-    let same : n.tile.chunk ≡ a.chunk = ap (λ (t : Tile). t.chunk) (one_tile (tile_in c.args.nodes.now) c.args.key c.args.key n.tile a (tile_of_node c.args.nodes.now c.args.key n c.index-node.ensures) at refl) in
-    let ne : b.chunk ≢ n.tile.chunk = λ e. other (e ∙ same) in
-    let at_freed = freed_at (size_in c.args.chunks.now) c.args.nodes.now c.put.new.nodes c.args.key n c.unlisted.result c.requires.kept c.index-node.ensures c.put.ensures.updates c.unlisted.ensures.tile c.unlisted.ensures.before c.unlisted.ensures.after in
-    let first = freed_elsewhere (size_in c.args.chunks.now) c.args.nodes.now c.put.new.nodes c.args.key n c.unlisted.result c.requires.kept c.index-node.ensures c.put.ensures.updates c.unlisted.ensures.tile c.unlisted.ensures.before c.unlisted.ensures.after k b is ne in
-    let second = c.join_before.ensures.elsewhere _ at_freed k b first ne in
-    let joint = c.join_before.ensures.joint _ at_freed in
-    let third = c.join_after.ensures.elsewhere joint.0 joint.1.at k b second (λ e. ne (e ∙ joint.1.chunk_is)) in
-    c.file.ensures.keeps.tiles k ∙ third
+returns-clause-elsewhere g c k b is other =
+    let first = freed_elsewhere (size_in c.args.chunks.now) c.args.nodes.now c.set_free.new.nodes c.args.place.key c.args.place.node c.requires.kept c.requires.at c.set_free.ensures.updates k b is other in
+    let second = c.join_before-joint.ensures.elsewhere k b first other in
+    let joint = c.join_before-joint.ensures.joint in
+    let third = c.join_after-tile.ensures.elsewhere joint.0 joint.1.at k b second (λ e. other (e ∙ joint.1.chunk_is)) in
+    c.refile.ensures.keeps.tiles k ∙ third

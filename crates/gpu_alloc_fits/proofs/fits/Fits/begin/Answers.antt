@@ -17,24 +17,24 @@ row g c = record { memory = c.args.memory; size = c.args.memory_size }
 unheld : (g : Over) (c : goal.After-new g) → IsUnheld (space_in (chunks_in g.M.MemoryObject.object c.self.inside.chunks) c.self.inside.tiles) (g.M.MemoryObject.object c.args.memory)
 unheld g c = subst (λ (s : Store). IsUnheld s.space (g.M.MemoryObject.object c.args.memory)) (sym c.self.view_is) c.requires.new_object
 
-pub cut_out-requires-clause-kept : goal.cut_out-requires-clause-kept
-cut_out-requires-clause-kept g c =
+pub cut_out-block-requires-clause-kept : goal.cut_out-block-requires-clause-kept
+cut_out-block-requires-clause-kept g c =
     come_kept g.M.MemoryObject.object c.self.inside.chunks c.insert_reserved-chunk.new.self c.self.inside.tiles c.insert_reserved-key.new.self c.file.new.nodes c.file.new.nodes c.self.inside.spare c.self.inside.known.full c.self.invariant
     c.insert_reserved-chunk.result c.insert_reserved-key.result c.args.size (g.M.MemoryObject.object c.args.memory) (record { memory = c.args.memory; size = c.args.memory_size }) c.unlisted.result
     c.insert_reserved-chunk.ensures.was_vacant c.insert_reserved-chunk.ensures.updates c.insert_reserved-key.ensures.was_vacant c.insert_reserved-key.ensures.updates c.unlisted.ensures.tile
     c.file.ensures.keeps c.requires.nonempty c.requires.inside c.ranges.memory_size.fits refl (subst (λ (s : Store). IsUnheld s.space (g.M.MemoryObject.object c.args.memory)) (sym c.self.view_is) c.requires.new_object)
 
-pub cut_out-requires-clause-room : goal.cut_out-requires-clause-room
-cut_out-requires-clause-room g c =
+pub cut_out-block-requires-clause-room : goal.cut_out-block-requires-clause-room
+cut_out-block-requires-clause-room g c =
     let rooms = subst HasRooms (sym c.self.view_is) c.requires.room in
     omega (arith, rooms.tiles, c.insert_reserved-key.ensures.len, c.insert_reserved-key.ensures.capacity, c.file.ensures.len, c.file.ensures.capacity)
 
 pub invariant_of-self : goal.invariant_of-self
 invariant_of-self g c =
-    come_stored g.M.MemoryObject.object c.self.inside.chunks c.insert_reserved-chunk.new.self c.self.inside.tiles c.insert_reserved-key.new.self c.file.new.nodes c.cut_out.new.nodes c.self.inside.spare c.self.inside.known.full c.self.invariant
+    come_stored g.M.MemoryObject.object c.self.inside.chunks c.insert_reserved-chunk.new.self c.self.inside.tiles c.insert_reserved-key.new.self c.file.new.nodes c.cut_out-block.new.nodes c.self.inside.spare c.self.inside.known.full c.self.invariant
     c.insert_reserved-chunk.result c.insert_reserved-key.result c.args.size (g.M.MemoryObject.object c.args.memory) (row g c) c.unlisted.result
     c.insert_reserved-chunk.ensures.was_vacant c.insert_reserved-chunk.ensures.updates c.insert_reserved-key.ensures.was_vacant c.insert_reserved-key.ensures.updates c.unlisted.ensures.tile
-    c.file.ensures.keeps c.requires.nonempty c.requires.inside c.ranges.memory_size.fits refl (unheld g c) c.cut_out.ensures.live c.cut_out.ensures.others c.cut_out.ensures.elsewhere c.cut_out.ensures.kept
+    c.file.ensures.keeps c.requires.nonempty c.requires.inside c.ranges.memory_size.fits refl (unheld g c) c.cut_out-block.result c.cut_out-block.ensures.added c.cut_out-block.ensures.live c.cut_out-block.ensures.others c.cut_out-block.ensures.elsewhere c.cut_out-block.ensures.kept
 
 -- the block
 block : (g : Over) (c : goal.After-new g) → c.new.result ≡ record { object = g.M.MemoryObject.object c.args.memory; chunk = c.insert_reserved-chunk.result; offset = 0; size = c.args.size }
@@ -43,18 +43,18 @@ block g c = c.new.ensures ∙ (λ i. record { object = c.object-object.ensures i
 pub returns-clause-begins : goal.returns-clause-begins
 returns-clause-begins g c =
     rw (← c.self.view_is)
-    (come_begins g.M.MemoryObject.object c.self.inside.chunks c.insert_reserved-chunk.new.self c.self.inside.tiles c.insert_reserved-key.new.self c.file.new.nodes c.cut_out.new.nodes c.self.inside.spare c.self.inside.known.full c.self.invariant
+    (come_begins g.M.MemoryObject.object c.self.inside.chunks c.insert_reserved-chunk.new.self c.self.inside.tiles c.insert_reserved-key.new.self c.file.new.nodes c.cut_out-block.new.nodes c.self.inside.spare c.self.inside.known.full c.self.invariant
     c.insert_reserved-chunk.result c.insert_reserved-key.result c.args.size (g.M.MemoryObject.object c.args.memory) (row g c) c.unlisted.result
     c.insert_reserved-chunk.ensures.was_vacant c.insert_reserved-chunk.ensures.updates c.insert_reserved-key.ensures.was_vacant c.insert_reserved-key.ensures.updates c.unlisted.ensures.tile
     c.file.ensures.keeps c.requires.nonempty c.requires.inside c.ranges.memory_size.fits refl (unheld g c) c.new.result (block g c))
 
 after : (g : Over) (c : goal.After-new g)
-    → space_in (chunks_in g.M.MemoryObject.object c.insert_reserved-chunk.new.self) c.cut_out.new.nodes ≡ with_slot (with_chunk c.args.self.now.space c.new.result c.args.memory_size) c.new.result
+    → space_in (chunks_in g.M.MemoryObject.object c.insert_reserved-chunk.new.self) c.cut_out-block.new.nodes ≡ with_slot (with_chunk c.args.self.now.space c.new.result c.args.memory_size) c.new.result
 after g c =
-    come_space g.M.MemoryObject.object c.self.inside.chunks c.insert_reserved-chunk.new.self c.self.inside.tiles c.insert_reserved-key.new.self c.file.new.nodes c.cut_out.new.nodes c.self.inside.spare c.self.inside.known.full c.self.invariant
+    come_space g.M.MemoryObject.object c.self.inside.chunks c.insert_reserved-chunk.new.self c.self.inside.tiles c.insert_reserved-key.new.self c.file.new.nodes c.cut_out-block.new.nodes c.self.inside.spare c.self.inside.known.full c.self.invariant
     c.insert_reserved-chunk.result c.insert_reserved-key.result c.args.size (g.M.MemoryObject.object c.args.memory) (row g c) c.unlisted.result
     c.insert_reserved-chunk.ensures.was_vacant c.insert_reserved-chunk.ensures.updates c.insert_reserved-key.ensures.was_vacant c.insert_reserved-key.ensures.updates c.unlisted.ensures.tile
-    c.file.ensures.keeps c.requires.nonempty c.requires.inside c.ranges.memory_size.fits refl (unheld g c) c.cut_out.ensures.live c.cut_out.ensures.others c.cut_out.ensures.elsewhere c.cut_out.ensures.kept c.new.result (block g c)
+    c.file.ensures.keeps c.requires.nonempty c.requires.inside c.ranges.memory_size.fits refl (unheld g c) c.cut_out-block.result c.cut_out-block.ensures.added c.cut_out-block.ensures.live c.cut_out-block.ensures.others c.cut_out-block.ensures.elsewhere c.cut_out-block.ensures.kept c.new.result (block g c)
     ∙ ap (λ (s : Store). with_slot (with_chunk s.space c.new.result c.args.memory_size) c.new.result) c.self.view_is
 
 pub returns-clause-space : goal.returns-clause-space

@@ -2,21 +2,21 @@ use Rattle.std.proofs.Common.{sym, subst}
 use Rattle.gpu_alloc_fits.specs.Fits.{Store}
 use Rattle.gpu_alloc_fits.specs.Space.{IsLiveSpan}
 use Rattle.gpu_alloc_fits.proofs.Nodes.{tile_of_node}
-use Rattle.gpu_alloc_fits.proofs.Stored.{none_at, span_at, the_span}
+use Rattle.gpu_alloc_fits.proofs.Stored.{at_place, none_at, span_at, the_span}
 use Rattle.gpu_alloc_fits.proofs.fits.Fits.find.Goals as goal
 
-pub returns-in_err-key-clause-found : goal.returns-in_err-key-clause-found
-returns-in_err-key-clause-found g c =
-    let none = none_at g.M.MemoryObject.object c.self.inside.chunks c.self.inside.tiles c.self.invariant.kept c.args.object c.args.offset c.args.size c.in_err-key.ensures in
+pub returns-in_err-place-clause-found : goal.returns-in_err-place-clause-found
+returns-in_err-place-clause-found g c =
+    let none = none_at g.M.MemoryObject.object c.self.inside.chunks c.self.inside.tiles c.self.invariant.kept c.args.object c.args.offset c.args.size c.in_err-place.ensures in
     rw (c.from_residual.ensures, ← c.self.view_is) none
 
 pub returns-clause-found : goal.returns-clause-found
 returns-clause-found g c =
     rw (← c.self.view_is)
-    (span_at g.M.MemoryObject.object c.self.inside.chunks c.self.inside.tiles c.self.invariant.kept c.args.object c.args.offset c.args.size c.in_ok-key.key c.index.result.now.tile
-    (tile_of_node c.self.inside.tiles c.in_ok-key.key c.index.result.now c.index.ensures) c.in_ok-key.ensures)
+    (span_at g.M.MemoryObject.object c.self.inside.chunks c.self.inside.tiles c.self.invariant.kept c.args.object c.args.offset c.args.size c.in_ok-place.place.key c.in_ok-place.place.node.tile
+    (tile_of_node c.self.inside.tiles c.in_ok-place.place.key c.in_ok-place.place.node c.in_ok-place.ensures.at) (at_place c.in_ok-place.ensures))
 
 pub returns-clause-exact : goal.returns-clause-exact
 returns-clause-exact g c slot span =
-    the_span g.M.MemoryObject.object c.self.inside.chunks c.self.inside.tiles c.self.invariant.kept c.args.object c.args.offset c.args.size c.in_ok-key.key c.index.result.now.tile
-    (tile_of_node c.self.inside.tiles c.in_ok-key.key c.index.result.now c.index.ensures) c.in_ok-key.ensures c.self.invariant.one_object slot (subst (λ (s : Store). IsLiveSpan s.space c.args.object c.args.offset c.args.size slot) (sym c.self.view_is) span)
+    the_span g.M.MemoryObject.object c.self.inside.chunks c.self.inside.tiles c.self.invariant.kept c.args.object c.args.offset c.args.size c.in_ok-place.place.key c.in_ok-place.place.node.tile
+    (tile_of_node c.self.inside.tiles c.in_ok-place.place.key c.in_ok-place.place.node c.in_ok-place.ensures.at) (at_place c.in_ok-place.ensures) c.self.invariant.one_object slot (subst (λ (s : Store). IsLiveSpan s.space c.args.object c.args.offset c.args.size slot) (sym c.self.view_is) span)

@@ -1,12 +1,9 @@
-use Rattle.std.proofs.Common.{◌≡◌, Some, sym, ◌∙◌, ap, subst}
+use Rattle.std.proofs.Common.{Some, sym, ap, subst}
 use Rattle.gpu_alloc_fits.specs.Fits.{Store}
-use Rattle.gpu_alloc_fits.specs.Inside.{chunk_of}
 use Rattle.gpu_alloc_fits.specs.Space.{IsLiveSlot}
-use Rattle.gpu_alloc_fits.specs.declared.fits.Chunk.{Chunk as Row}
-use Rattle.gpu_alloc_fits.proofs.Cuts.{row_there}
 use Rattle.gpu_alloc_fits.proofs.InHand.{block_removes, chunk_removes}
 use Rattle.gpu_alloc_fits.proofs.Returned.{IsReturned, IsReturnedWith, returned_first, returned_partly, returned_with}
-use Rattle.gpu_alloc_fits.proofs.Stored.{found_at}
+use Rattle.gpu_alloc_fits.proofs.Stored.{at_place, found_at}
 use Rattle.gpu_alloc_fits.proofs.fits.Fits.give_back.Given.{Over}
 use Rattle.gpu_alloc_fits.proofs.fits.Fits.give_back.Goals as goal
 
@@ -17,17 +14,13 @@ unreachable-requires g c =
     let at = found_at g.M.MemoryObject.object c.self.inside.chunks c.self.inside.tiles c.self.invariant.kept slot live in
     c.in_default.ensures at.0 at.1
 
-pub index-requires : goal.index-requires
-index-requires g c =
-    row_there c.self.inside.chunks c.put_back-joint.new.nodes c.in-Some.key c.put_back-joint.result c.put_back-joint.ensures.kept (c.put_back-joint.ensures.joint c.in-Some.ensures.0 c.in-Some.ensures.1.0).at
-
 -- Other blocks of its chunk are live.
 
-partly : (g : Over) (c : goal.Then-not-is_whole g) → IsReturned g.M.MemoryObject.object c.self.inside.chunks c.put_back-joint.new.nodes c.self.inside.spare c.args.self.now.space c.args.block
+partly : (g : Over) (c : goal.Then-not-is_whole g) → IsReturned g.M.MemoryObject.object c.self.inside.chunks c.put_back-key.new.nodes c.self.inside.spare c.args.self.now.space c.args.block
 partly g c =
-    returned_partly g.M.MemoryObject.object c.self.inside.chunks c.self.inside.tiles c.put_back-joint.new.nodes c.self.inside.spare c.self.inside.known.full c.self.invariant c.args.self.now.space (ap (λ (s : Store). s.space) c.self.view_is) c.args.block
-    c.into_parts-hint.result.1 c.into_parts-hint.ensures.slot c.requires.live c.in-Some.key c.in-Some.ensures c.put_back-joint.result c.put_back-joint.ensures.back c.put_back-joint.ensures.joint c.put_back-joint.ensures.elsewhere c.put_back-joint.ensures.kept
-    c.index.result.now c.index.ensures
+    returned_partly g.M.MemoryObject.object c.self.inside.chunks c.self.inside.tiles c.put_back-key.new.nodes c.self.inside.spare c.self.inside.known.full c.self.invariant c.args.self.now.space (ap (λ (s : Store). s.space) c.self.view_is) c.args.block
+    c.into_parts-hint.result.1 c.into_parts-hint.ensures.slot c.requires.live c.in-Some.place.key (at_place c.in-Some.ensures) c.put_back-key.result.0 c.put_back-key.ensures.back c.put_back-key.result.1 c.put_back-key.ensures.joint c.put_back-key.ensures.elsewhere c.put_back-key.ensures.kept
+    c.in-Some.place.whole c.in-Some.ensures.whole
     (λ h. let yes' = c.is_whole.ensures.1 h in let no' = c.if-not-is_whole.true in cc)
 
 pub invariant_of-self : goal.invariant_of-self
@@ -41,12 +34,12 @@ returns-then-not-is_whole-clause-removed g c = block_removes c.args.self.now.spa
 
 -- It is the first wholly free chunk.
 
-first : (g : Over) (c : goal.After-self-in-None-1 g) → IsReturned g.M.MemoryObject.object c.self.inside.chunks c.put_back-joint.new.nodes (Some c.in-Some.key) c.args.self.now.space c.args.block
+first : (g : Over) (c : goal.After-self-in-None-1 g) → IsReturned g.M.MemoryObject.object c.self.inside.chunks c.put_back-key.new.nodes (Some c.put_back-key.result.1) c.args.self.now.space c.args.block
 first g c =
     let all = c.is_whole.ensures.0 c.if-not-is_whole.false in
-    returned_first g.M.MemoryObject.object c.self.inside.chunks c.self.inside.tiles c.put_back-joint.new.nodes c.self.inside.spare c.self.inside.known.full c.self.invariant c.args.self.now.space (ap (λ (s : Store). s.space) c.self.view_is) c.args.block
-    c.into_parts-hint.result.1 c.into_parts-hint.ensures.slot c.requires.live c.in-Some.key c.in-Some.ensures c.put_back-joint.result c.put_back-joint.ensures.back c.put_back-joint.ensures.joint c.put_back-joint.ensures.elsewhere c.put_back-joint.ensures.kept
-    c.index.result.now c.index.ensures
+    returned_first g.M.MemoryObject.object c.self.inside.chunks c.self.inside.tiles c.put_back-key.new.nodes c.self.inside.spare c.self.inside.known.full c.self.invariant c.args.self.now.space (ap (λ (s : Store). s.space) c.self.view_is) c.args.block
+    c.into_parts-hint.result.1 c.into_parts-hint.ensures.slot c.requires.live c.in-Some.place.key (at_place c.in-Some.ensures) c.put_back-key.result.0 c.put_back-key.ensures.back c.put_back-key.result.1 c.put_back-key.ensures.joint c.put_back-key.ensures.elsewhere c.put_back-key.ensures.kept
+    c.in-Some.place.whole c.in-Some.ensures.whole
     all.0 all.1 c.in-None.is
 
 pub invariant_of-self-in-None : goal.invariant_of-self-in-None
@@ -63,12 +56,10 @@ returns-in-None-clause-removed g c = block_removes c.args.self.now.space _ c.arg
 other : (g : Over) (c : goal.After-end g) → IsReturnedWith g.M.MemoryObject.object c.end.new.chunks c.end.new.tiles c.self.inside.spare c.args.self.now.space c.args.block (record { object = g.M.MemoryObject.object c.end.result.0; size = c.end.result.1 })
 other g c =
     let all = c.is_whole.ensures.0 c.if-not-is_whole.false in
-    let row : c.index.result.now ≡ record { memory = c.end.result.0; size = c.end.result.1 } = (let e : Some c.index.result.now ≡ Some (record { memory = c.end.result.0; size = c.end.result.1 }) = sym c.index.ensures ∙ c.end.ensures.row in cc) in
-    subst (λ (r : Row g.row.M.Denot). IsReturnedWith g.M.MemoryObject.object c.end.new.chunks c.end.new.tiles c.self.inside.spare c.args.self.now.space c.args.block (chunk_of g.M.MemoryObject.object r)) row
-    (returned_with g.M.MemoryObject.object c.self.inside.chunks c.self.inside.tiles c.put_back-joint.new.nodes c.self.inside.spare c.self.inside.known.full c.self.invariant c.args.self.now.space (ap (λ (s : Store). s.space) c.self.view_is) c.args.block
-    c.into_parts-hint.result.1 c.into_parts-hint.ensures.slot c.requires.live c.in-Some.key c.in-Some.ensures c.put_back-joint.result c.put_back-joint.ensures.back c.put_back-joint.ensures.joint c.put_back-joint.ensures.elsewhere c.put_back-joint.ensures.kept
-    c.index.result.now c.index.ensures
-    all.0 all.1 c.in-Some-spare.field-0 c.in-Some-spare.is c.end.new.chunks c.end.new.tiles c.end.ensures.updates c.end.ensures.lives c.end.ensures.elsewhere c.end.ensures.kept)
+    returned_with g.M.MemoryObject.object c.self.inside.chunks c.self.inside.tiles c.put_back-key.new.nodes c.self.inside.spare c.self.inside.known.full c.self.invariant c.args.self.now.space (ap (λ (s : Store). s.space) c.self.view_is) c.args.block
+    c.into_parts-hint.result.1 c.into_parts-hint.ensures.slot c.requires.live c.in-Some.place.key (at_place c.in-Some.ensures) c.put_back-key.result.0 c.put_back-key.ensures.back c.put_back-key.result.1 c.put_back-key.ensures.joint c.put_back-key.ensures.elsewhere c.put_back-key.ensures.kept
+    c.in-Some.place.whole c.in-Some.ensures.whole
+    all.0 all.1 (record { memory = c.end.result.0; size = c.end.result.1 }) c.end.ensures.row c.in-Some-spare.field-0 c.in-Some-spare.is c.end.new.chunks c.end.new.tiles c.end.ensures.updates c.end.ensures.lives c.end.ensures.elsewhere c.end.ensures.kept
 
 pub invariant_of-self-in-Some-spare : goal.invariant_of-self-in-Some-spare
 invariant_of-self-in-Some-spare g c = (other g c).stored

@@ -60,8 +60,8 @@ index-requires-2 g c =
     let kept = (stored_same g.M.MemoryObject.object c.self.inside.chunks c.self.inside.chunks c.self.inside.tiles c.reserve.new.self refl (ap (λ s. s.slots) c.reserve.ensures.rest_kept) c.self.inside.spare c.self.inside.known.full c.self.invariant).kept in
     row_there c.self.inside.chunks c.reserve.new.self c.in-Some.key c.index.result.now.tile kept (tile_of_node c.reserve.new.self c.in-Some.key c.index.result.now c.index.ensures)
 
-pub cut_out-requires-clause-kept : goal.cut_out-requires-clause-kept
-cut_out-requires-clause-kept g c =
+pub cut_out-block-requires-clause-kept : goal.cut_out-block-requires-clause-kept
+cut_out-block-requires-clause-kept g c =
     (stored_same g.M.MemoryObject.object c.self.inside.chunks c.self.inside.chunks c.self.inside.tiles c.reserve.new.self refl (ap (λ s. s.slots) c.reserve.ensures.rest_kept) c.self.inside.spare c.self.inside.known.full c.self.invariant).kept
 
 pub overflow_add-end : goal.overflow_add-end
@@ -89,8 +89,8 @@ block g c =
 
 pub invariant_of-self-2 : goal.invariant_of-self-2
 invariant_of-self-2 g c =
-    taken_stored g.M.MemoryObject.object c.self.inside.chunks c.reserve.new.self c.cut_out.new.nodes c.self.inside.spare c.find_place-place.new.known.full (roomy g c) c.in-Some.key c.index.result.now.tile _ (at_run g c) (room g c).0
-    c.cut_out.ensures.live refl c.cut_out.ensures.others c.cut_out.ensures.elsewhere c.cut_out.ensures.kept c.without-self-inside.result c.without-self-inside.ensures c.find_place-place.new.known.full (roomy g c).still_full
+    taken_stored g.M.MemoryObject.object c.self.inside.chunks c.reserve.new.self c.cut_out-block.new.nodes c.self.inside.spare c.find_place-place.new.known.full (roomy g c) c.cut_out-block.result c.in-Some.key c.index.result.now.tile _ (at_run g c) c.cut_out-block.ensures.added
+    c.cut_out-block.ensures.live refl c.cut_out-block.ensures.others c.cut_out-block.ensures.elsewhere c.cut_out-block.ensures.kept c.without-self-inside.result c.without-self-inside.ensures c.find_place-place.new.known.full (roomy g c).still_full
 
 before : (g : Over) (c : goal.After-new g) → space_in (chunks_in g.M.MemoryObject.object c.self.inside.chunks) c.reserve.new.self ≡ c.args.self.now.space
 before g c =
@@ -102,10 +102,10 @@ fits g c =
     (block_fits g.M.MemoryObject.object c.self.inside.chunks c.reserve.new.self (roomy g c).kept c.args.size c.args.align_mask c.in-Some.key c.index.result.now.tile (at_run g c) (room g c) c.last_start-start.result c.last_start-start.ensures
     c.new.result c.index-2.result.now c.index-2.ensures (block g c))
 
-after : (g : Over) (c : goal.After-new g) → space_in (chunks_in g.M.MemoryObject.object c.self.inside.chunks) c.cut_out.new.nodes ≡ with_slot c.args.self.now.space c.new.result
+after : (g : Over) (c : goal.After-new g) → space_in (chunks_in g.M.MemoryObject.object c.self.inside.chunks) c.cut_out-block.new.nodes ≡ with_slot c.args.self.now.space c.new.result
 after g c =
-    taken_space g.M.MemoryObject.object c.self.inside.chunks c.reserve.new.self c.cut_out.new.nodes c.self.inside.spare c.find_place-place.new.known.full (roomy g c) c.in-Some.key c.index.result.now.tile _ (at_run g c) (room g c).0
-    c.cut_out.ensures.live refl c.cut_out.ensures.others c.cut_out.ensures.elsewhere c.cut_out.ensures.kept
+    taken_space g.M.MemoryObject.object c.self.inside.chunks c.reserve.new.self c.cut_out-block.new.nodes c.self.inside.spare c.find_place-place.new.known.full (roomy g c) c.cut_out-block.result c.in-Some.key c.index.result.now.tile _ (at_run g c) c.cut_out-block.ensures.added
+    c.cut_out-block.ensures.live refl c.cut_out-block.ensures.others c.cut_out-block.ensures.elsewhere c.cut_out-block.ensures.kept
     ∙ ap (with_slot (space_in (chunks_in g.M.MemoryObject.object c.self.inside.chunks) c.reserve.new.self))
     (block_is g.M.MemoryObject.object c.self.inside.chunks c.reserve.new.self (roomy g c).kept c.args.size c.args.align_mask c.in-Some.key c.index.result.now.tile (at_run g c) (room g c) c.last_start-start.result c.last_start-start.ensures
     c.index-2.result.now c.index-2.ensures ∙ sym (block g c))
