@@ -361,7 +361,7 @@ pub record IsServedSo (w : Strategy) (s : State) (r : Request) (t : ℕ) (b : Bl
   pub shared : is_alone w ≡ false → is_shared b.kind ≡ true
   pub exact : b.kind ≡ FitChunk → IsAsAsked s r t b
 
-not_fit : {X : Type 0} (b : Block) {kind : Kind} → b.kind ≡ kind → (kind ≡ FitChunk → ⊥) → b.kind ≡ FitChunk → X
+pub not_fit : {X : Type 0} (b : Block) {kind : Kind} → b.kind ≡ kind → (kind ≡ FitChunk → ⊥) → b.kind ≡ FitChunk → X
 not_fit b is other fit = absurd (other (sym is ∙ fit))
 
 in_chunk : {w : Strategy} {s : State} {r : Request} {t : ℕ} (b : Block) {kind : Kind} → b.memory_type ≡ t → b.kind ≡ kind → is_shared kind ≡ true → is_alone w ≡ false → (b.kind ≡ FitChunk → IsAsAsked s r t b) → IsServedSo w s r t b
@@ -418,10 +418,13 @@ alone_is s r hint (Ok b) is = subst (λ t. IsTrue (serves_alone s r hint t) ↔ 
 )
 
 -- In a fit chunk it is as long as asked.
-pub exact_is : (s : State) (r : Request) (hint : Option Dedicated) (answer : Result Block AllocationError) → IfOk answer (HasKind s (plan s r hint)) → IfOk answer (IsExact s r)
+pub exact_block : (s : State) (r : Request) (w : Strategy) (t : ℕ) (b : Block) → IsServedSo w s r t b → IsExact s r b
 unfolding IsExact
+exact_block s r w t b so = λ fit. subst (λ u. IsAsAsked s r u b) (sym so.of_type) (so.exact fit)
+
+pub exact_is : (s : State) (r : Request) (hint : Option Dedicated) (answer : Result Block AllocationError) → IfOk answer (HasKind s (plan s r hint)) → IfOk answer (IsExact s r)
 exact_is s r hint (Err e) is = tt
-exact_is s r hint (Ok b) is = λ fit. subst (λ t. IsAsAsked s r t b) (sym is.so.of_type) (is.so.exact fit)
+exact_is s r hint (Ok b) is = exact_block s r (strategy s r hint is.t) is.t b is.so
 
 -- A required grant has an object of its own.
 pub required_granted : (s : State) (r : Request) (hint : Dedicated) → hint ≡ Required → (answer : Result Block AllocationError) → IfOk answer (IsAloneWhereServed s r (Some hint)) → IfOk answer (λ b. b.kind ≡ DedicatedObject)

@@ -5,11 +5,11 @@ use Rattle.gpu_alloc_base.specs.Case as case
 use Rattle.gpu_alloc_base.specs.declared.error.AllocationError.{AllocationError}
 use Rattle.gpu_alloc_base.specs.declared.error.AllocationError.TheVariants.{OutOfDeviceMemory}
 use Rattle.gpu_alloc_block.specs.State.{Block, State, is_shared, span_of}
-use Rattle.gpu_alloc.specs.Allocation.{AllocatesBy, IsGranted, IsInPages, ObjectsAfter, ObjectsTried, Plan, candidates_of, strategy}
+use Rattle.gpu_alloc.specs.Allocation.{AllocatesBy, IsExact, IsGranted, IsInPages, ObjectsAfter, ObjectsTried, Plan, candidates_of, strategy}
 use Rattle.gpu_alloc.specs.Atoms.{KeepsAtoms}
 use Rattle.gpu_alloc.specs.BuddySharing.{with_span}
 use Rattle.gpu_alloc.specs.Candidates.{candidate}
-use Rattle.gpu_alloc.specs.HeldOnly.{HasPlaceBy, HasPlaceFor, plan_held}
+use Rattle.gpu_alloc.specs.HeldOnly.{HasPlaceBy, HasPlaceFor, in_pages_where, plan_held}
 use Rattle.gpu_alloc.specs.Request.{IsAskable, IsGranularity}
 use Rattle.gpu_alloc.specs.Sound.{IsSound}
 use Rattle.gpu_alloc.specs.declared.allocator.Strategy.{Strategy}
@@ -17,9 +17,9 @@ use Rattle.gpu_alloc.specs.declared.allocator.Strategy.TheVariants.{OwnObject, I
 use Rattle.gpu_alloc.specs.declared.request.Dedicated.{Dedicated}
 use Rattle.gpu_alloc.specs.declared.request.Dedicated.TheVariants.{Required}
 use Rattle.gpu_alloc.specs.declared.request.Request.{Request}
-use Rattle.gpu_alloc.proofs.Granted.{IsPlanFor, candidate_granted, granted_as, is_plan}
+use Rattle.gpu_alloc.proofs.Granted.{IsPlanFor, candidate_granted, exact_block, granted_as, is_plan, served_so}
 use Rattle.gpu_alloc.proofs.HeldOnly.{IsHeldAnswer}
-use Rattle.gpu_alloc.proofs.InPages.{candidate_in_pages, is_plan_in_pages}
+use Rattle.gpu_alloc.proofs.InPages.{candidate_in_pages, exact_in_pages, is_plan_in_pages}
 
 -- The plan.
 
@@ -104,3 +104,13 @@ module _ (s : State) (r : Request) (sound : IsSound s) (atoms : KeepsAtoms s) wh
   paged_block hint (Some granularity) page askable (Ok (Some b)) new is = candidate_in_pages s r hint granularity page askable sound atoms is.0 [] b new is.1 is.3
   paged_block hint granularity page askable (Ok None) new same = tt
   paged_block hint granularity page askable (Err e) new same = tt
+
+module _ (s : State) (r : Request) where
+  pub exact_held : (hint : Option Dedicated) (granularity : Option ℕ) → IfSome granularity IsGranularity → IsAskable s.properties.buffer_device_address r → (answer : Result (Option Block) AllocationError) (new : State)
+      → IsHeldAnswer s (plan_held s r hint granularity) answer new → IfOk answer (λ v. IfSome v (IsExact s (in_pages_where granularity r)))
+  exact_held hint None page askable (Ok (Some b)) new is = exact_block s r (strategy s r hint is.0) is.0 b (served_so (strategy s r hint is.0) s r is.0 [] b new is.3.1)
+  exact_held hint (Some granularity) page askable (Ok (Some b)) new is =
+      let a = (plan_held s r hint (Some granularity)).asked is.0 in
+      exact_in_pages s r hint granularity page askable b (record { t = is.0; so = served_so (strategy s a.request a.hint is.0) s a.request is.0 [] b new is.3.1 })
+  exact_held hint granularity page askable (Ok None) new same = tt
+  exact_held hint granularity page askable (Err e) new same = tt

@@ -15,7 +15,7 @@ use Rattle.gpu_alloc_base.proofs.PowersOfTwo.{bit_of_power, greater_power, power
 use Rattle.gpu_alloc_block.specs.State.{Block, State}
 use Rattle.gpu_alloc_block.specs.declared.block.Kind.TheVariants.{Dedicated as DedicatedObject}
 use Rattle.gpu_alloc.specs.Allocation as allocation
-use Rattle.gpu_alloc.specs.Allocation.{AllocatesBy, IsAloneWhereServed, IsInPages, ask, ask_in_pages, candidates_of, is_alone, plan_in_pages, serves_alone, strategy}
+use Rattle.gpu_alloc.specs.Allocation.{AllocatesBy, IsAloneWhereServed, IsExact, IsInPages, ask, ask_in_pages, candidates_of, is_alone, plan_in_pages, serves_alone, strategy}
 use Rattle.gpu_alloc.specs.Atoms.{KeepsAtoms}
 use Rattle.gpu_alloc.specs.Request.{IsAskable, IsGranularity, in_pages}
 use Rattle.gpu_alloc.specs.Sound.{IsSound}
@@ -24,7 +24,7 @@ use Rattle.gpu_alloc.specs.declared.request.Dedicated.{Dedicated}
 use Rattle.gpu_alloc.specs.declared.request.Dedicated.TheVariants.{Required}
 use Rattle.gpu_alloc.specs.declared.request.Request.{Request}
 use Rattle.gpu_alloc.proofs.Decisions.{of_grant}
-use Rattle.gpu_alloc.proofs.Granted.{HasKind, IsPlanFor, IsServedBy, IsServedSo, candidate_granted, not_alone_kind, served_so}
+use Rattle.gpu_alloc.proofs.Granted.{HasKind, IsPlanFor, IsServedBy, IsServedSo, candidate_granted, exact_block, not_alone_kind, not_fit, served_so}
 
 module _ (g : ℕ) (is : IsGranularity g) where
   power : IsPowerOfTwo g
@@ -114,6 +114,18 @@ module _ (s : State) (r : Request) (hint : Option Dedicated) (g : ℕ) (is : IsG
           subst (λ t. IsTrue (serves_alone s paged hint t) ↔ (b.kind ≡ DedicatedObject)) (sym so.of_type) ((λ alone. absurd (let both : true ≡ false = sym alone ∙ other in cc)), (λ own. absurd (never own))),
           λ own. absurd (never own),
         )
+  ]
+
+  -- in a fit chunk as long as whole pages for it are
+  pub exact_in_pages : (b : Block) → HasKind s (plan_in_pages s r hint g) b → IsExact s paged b
+  unfolding IsExact
+  exact_in_pages b of = elim (cases_Bool (serves_alone s paged hint of.t)) [
+    | inl alone ↦
+        let so : ServesSo true of.t b = subst (λ x. ServesSo x of.t b) alone of.so in
+        λ fit. not_fit b (so.alone refl).0 (λ same. cc) fit
+    | inr other ↦
+        let so : ServesSo false of.t b = subst (λ x. ServesSo x of.t b) other of.so in
+        exact_block s paged (strategy s paged hint of.t) of.t b so
   ]
 
   pub required_in_pages : hint ≡ Some Required → (answer : Result Block AllocationError) → IfOk answer (HasKind s (plan_in_pages s r hint g)) → IfOk answer (λ b. b.kind ≡ DedicatedObject)

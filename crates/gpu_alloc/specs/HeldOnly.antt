@@ -7,6 +7,7 @@ use Rattle.gpu_alloc_base.specs.declared.error.AllocationError.TheVariants.{NoCo
 use Rattle.gpu_alloc_block.specs.State.{Block, State}
 use Rattle.gpu_alloc.specs.Allocation.{Decides, Plan, plan, plan_in_pages, strategy}
 use Rattle.gpu_alloc.specs.Candidates.{candidate}
+use Rattle.gpu_alloc.specs.Request.{in_pages}
 use Rattle.gpu_alloc.specs.declared.allocator.Ask.{Ask}
 use Rattle.gpu_alloc.specs.declared.allocator.Strategy.{Strategy}
 use Rattle.gpu_alloc.specs.declared.request.Dedicated.{Dedicated}
@@ -49,7 +50,12 @@ AllocatesHeld s p answer new =
     MatchBool (nat_eq (length p.candidates) 0) (IsRefused s NoCompatibleMemoryTypes answer new) (
     (found : Option ℕ) × IsFirstWithPlace s p.asked p.candidates found × ServesHeld s p.asked found answer new))
 
--- how a request is tried, perhaps with a granularity of pages
+-- the request as a shared chunk serves it: in whole pages, where there is a granularity
+abbrev pub in_pages_where : Option ℕ → Request → Request
+in_pages_where None r = r
+in_pages_where (Some granularity) r = in_pages granularity r
+
+-- how a request is tried, with a granularity of pages or none
 abbrev pub plan_held : State → Request → Option Dedicated → Option ℕ → Plan
 plan_held s r hint None = plan s r hint
 plan_held s r hint (Some granularity) = plan_in_pages s r hint granularity

@@ -403,6 +403,10 @@ impl<M: MemoryObject, A: Allocator> GpuAllocator<M, A> {
             return Err(AllocationError::OutOfHostMemory);
         }
         let flags = self.limits.flags();
+        // (read before anything is written, since the table may have to be read again after that)
+        let heap = self.limits.heap_index(memory_type);
+        let props = self.limits.props(memory_type);
+        let atom = self.limits.atom(memory_type);
         let answer = device.allocate_memory(request.size, memory_type, flags);
         match answer {
             Ok(memory) => {
@@ -414,14 +418,11 @@ impl<M: MemoryObject, A: Allocator> GpuAllocator<M, A> {
                     imported: false,
                 };
                 let key = self.own.insert(row);
-                let heap = self.limits.heap_index(memory_type);
                 booking::hold(
                     &mut self.heaps[heap],
                     &mut self.allocations_remains,
                     row.size,
                 );
-                let props = self.limits.props(memory_type);
-                let atom = self.limits.atom(memory_type);
                 Ok(Some(MemoryBlock::new(
                     memory,
                     row.offset,

@@ -132,6 +132,31 @@ fn key_of<A: Allocator>(rows: &Slab<OwnRow, A>, key: usize, object: u64) -> Opti
     }
 }
 
+/// Whether an object's row stands under this key.
+#[inline(always)]
+fn is_under<A: Allocator>(rows: &Slab<OwnRow, A>, key: usize, object: u64) -> bool
+    ensures { IsTrue result ↔ StandsUnder rows.now object key }
+{
+    match rows.get(key) {
+        Some(row) => row.is_of(object),
+        None => false,
+    }
+}
+
+/// The key of an object's row, which has to be there, by a search over all rows. (It stands apart, so that returns whose
+/// key is the object's do not pay for it.)
+#[cold]
+#[inline(never)]
+fn sought<A: Allocator>(rows: &Slab<OwnRow, A>, object: u64) -> usize
+    requires { StandsNowhere rows.now object → ⊥ }
+    ensures { StandsUnder rows.now object result }
+{
+    match search(rows, object) {
+        Some(key) => key,
+        None => unreachable!(),
+    }
+}
+
 /// The key of an object's row, by a search over all rows.
 fn search<A: Allocator>(rows: &Slab<OwnRow, A>, object: u64) -> Option<usize>
     ensures { MatchOption result (StandsNowhere rows.now object) (StandsUnder rows.now object) }
@@ -223,9 +248,12 @@ impl<A: Allocator> OwnObjects<A> {
         ensures live { self.new.live ≡ set.remove self.old.live (own_span result) }
         ensures room { self.old.room ≤ self.new.room }
     {
-        match key_of(&self.rows, key, object) {
-            Some(found) => self.rows.remove(found),
-            None => unreachable!(),
+        // (two calls, so that what was seen under the key is not tested again)
+        if is_under(&self.rows, key, object) {
+            self.rows.remove(key)
+        } else {
+            let found = sought(&self.rows, object);
+            self.rows.remove(found)
         }
     }
 

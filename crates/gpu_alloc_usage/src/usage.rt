@@ -17,6 +17,9 @@ const USAGES: usize = 64;
 /// The named bits of a usage.
 const NAMED: u8 = 0x3f;
 
+/// What each set of named flags means, by its bits (`meaning`): a table, since every request looks.
+const MEANINGS: &[u8; 64] = b"\x01\x01\x02\x03\x06\x07\x06\x07\x0a\x0b\x0a\x0b\x0e\x0f\x0e\x0f\x10\x11\x12\x13\x16\x17\x16\x17\x1a\x1b\x1a\x1b\x1e\x1f\x1e\x1f\x20\x21\x22\x23\x26\x27\x26\x27\x2a\x2b\x2a\x2b\x2e\x2f\x2e\x2f\x30\x31\x32\x33\x36\x37\x36\x37\x3a\x3b\x3a\x3b\x3e\x3f\x3e\x3f";
+
 /// The memory types that serve each usage, ranked once.
 ///
 /// A type serves a usage unless it is `LAZILY_ALLOCATED` or `PROTECTED`. Where the host reads or writes (`HOST_ACCESS`,
@@ -91,15 +94,5 @@ impl MemoryForUsage {
 pub fn meaning(usage: UsageFlags) -> UsageFlags
     ensures { usage_bits result ≡ implied (usage_bits usage) }
 {
-    let named = UsageFlags::from_bits_retain(usage.bits() & NAMED);
-    let wanted = if named.is_empty() {
-        UsageFlags::FAST_DEVICE_ACCESS
-    } else {
-        named
-    };
-    if wanted.intersects(UsageFlags::DOWNLOAD | UsageFlags::UPLOAD) {
-        wanted | UsageFlags::HOST_ACCESS
-    } else {
-        wanted
-    }
+    UsageFlags::from_bits_retain(MEANINGS[(usage.bits() & NAMED) as usize])
 }

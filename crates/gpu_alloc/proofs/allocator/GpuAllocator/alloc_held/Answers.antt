@@ -6,7 +6,7 @@ use Rattle.gpu_alloc.specs.Owned.{Adds}
 use Rattle.gpu_alloc.proofs.Agreed.{allocates_agrees}
 use Rattle.gpu_alloc.proofs.BlocksAgreed.{allocates_agrees_block, allocation_keeps_blocks}
 use Rattle.gpu_alloc.proofs.Decisions.{allocates_kept}
-use Rattle.gpu_alloc.proofs.HeldGrants.{IsPlanned, block_of, granted_block, held_stays, if_served, is_plan_held, nowhere, objects_of_block, paged_block, planned, shared_block}
+use Rattle.gpu_alloc.proofs.HeldGrants.{IsPlanned, block_of, exact_held, granted_block, held_stays, if_served, is_plan_held, nowhere, objects_of_block, paged_block, planned, shared_block}
 use Rattle.gpu_alloc.proofs.HeldOnly.{IsHeldAnswer, held_answer, no_place_then, none_served, refused_stays}
 use Rattle.gpu_alloc.proofs.InHand.{adds_in_hand, allocation_in_hand}
 use Rattle.gpu_alloc.proofs.Owning.{allocates_add, allocates_leave}
@@ -56,6 +56,10 @@ returns-clause-shared g c = shared_block c.args.self.now (tried g c) _ _ (is g c
 pub returns-clause-pages : goal.returns-clause-pages
 returns-clause-pages g c =
     paged_block c.args.self.now c.args.request c.keeps_sound.ensures.sound c.keeps_sound.ensures.atoms c.args.dedicated c.args.granularity c.requires.granularity c.requires.askable _ _ (is g c)
+
+pub returns-clause-exact : goal.returns-clause-exact
+returns-clause-exact g c =
+    exact_held c.args.self.now c.args.request c.args.dedicated c.args.granularity c.requires.granularity c.requires.askable _ _ (is g c)
 
 pub returns-clause-ready : goal.returns-clause-ready
 returns-clause-ready g c = if_served _ c.allocate_held-answer.result (ready g c)

@@ -3,7 +3,7 @@ use Rattle.gpu_alloc.proofs.BlocksAgreed.{allocates_agrees_block, allocation_kee
 use Rattle.gpu_alloc.proofs.Decisions.{allocates_kept, allocates_total}
 use Rattle.gpu_alloc.specs.Allocation.{AllocatesOptimal, plan_in_pages}
 use Rattle.gpu_alloc.proofs.Granted.{allocates_granted, allocates_kind, of_kind}
-use Rattle.gpu_alloc.proofs.InPages.{granted_in_pages, is_plan_in_pages, kind_in_pages, required_in_pages}
+use Rattle.gpu_alloc.proofs.InPages.{exact_in_pages, granted_in_pages, is_plan_in_pages, kind_in_pages, required_in_pages}
 use Rattle.gpu_alloc.proofs.InHand.{adds_in_hand, allocation_in_hand}
 use Rattle.gpu_alloc.proofs.Owning.{allocates_add, allocates_leave}
 use Rattle.gpu_alloc.proofs.allocator.GpuAllocator.alloc_optimal.Goals as goal
@@ -20,6 +20,9 @@ returns-clause-decided g c = c.allocate_in_pages-answer.ensures.decided
 
 pub returns-clause-alone : goal.returns-clause-alone
 returns-clause-alone g c = of_kind c.args.self.now (plan_in_pages c.args.self.now c.args.request c.args.dedicated c.args.granularity) _ (λ b is. (kind_in_pages c.args.self.now c.args.request c.args.dedicated c.args.granularity c.requires.granularity c.requires.askable b is).0) (allocates_kind c.args.self.now (plan_in_pages c.args.self.now c.args.request c.args.dedicated c.args.granularity) _ _ _ c.allocate_in_pages-answer.ensures.decided.2)
+
+pub returns-clause-exact : goal.returns-clause-exact
+returns-clause-exact g c = of_kind c.args.self.now (plan_in_pages c.args.self.now c.args.request c.args.dedicated c.args.granularity) _ (λ b is. exact_in_pages c.args.self.now c.args.request c.args.dedicated c.args.granularity c.requires.granularity c.requires.askable b is) (allocates_kind c.args.self.now (plan_in_pages c.args.self.now c.args.request c.args.dedicated c.args.granularity) _ _ _ c.allocate_in_pages-answer.ensures.decided.2)
 
 pub returns-clause-size : goal.returns-clause-size
 returns-clause-size g c = of_kind c.args.self.now (plan_in_pages c.args.self.now c.args.request c.args.dedicated c.args.granularity) _ (λ b is. (kind_in_pages c.args.self.now c.args.request c.args.dedicated c.args.granularity c.requires.granularity c.requires.askable b is).1) (allocates_kind c.args.self.now (plan_in_pages c.args.self.now c.args.request c.args.dedicated c.args.granularity) _ _ _ c.allocate_in_pages-answer.ensures.decided.2)
