@@ -1,11 +1,11 @@
 -- Sizes of fit chunks, of every configuration.
-use Rattle.std.proofs.Common.{◌≡◌, ℕ, zero, suc, ◌*◌, ◌/◌, ◌<◌, ◌≤◌, ◌==◌, Bool, true, false, cond, arith}
+use Rattle.std.proofs.Common.{ℕ, zero, suc, ◌/◌, ◌<◌, ◌≤◌, ◌==◌, Bool, true, false, cond, arith}
 use Rattle.std.proofs.lemmas.Bool.Decides.{nat_tests}
 use Rattle.std.specs.Prelude.{min, max}
 use Rattle.gpu_alloc_base.specs.Sizes.{at_least_an_atom, cut, down, transient_threshold}
 use Rattle.gpu_alloc_base.specs.declared.config.Config.{Config}
 use Rattle.gpu_alloc_base.proofs.Multiples.{down_below}
-use Rattle.gpu_alloc.specs.FitSharing.{AreSmall, FitChunksAreSmall, first_fit, largest_fit}
+use Rattle.gpu_alloc.specs.FitSharing.{AreSmall, FitChunksAreSmall, first_fit}
 use Rattle.gpu_alloc.proofs.Opened.{starting_within}
 
 at_least : (g x : ℕ) → x ≤ at_least_an_atom g x
