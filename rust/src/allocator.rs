@@ -265,7 +265,7 @@ impl<M> GpuAllocator<M> {
         }
         self.own.extend(own);
         // SAFETY: the device is the objects', as the caller says, and done with the block.
-        unsafe { self.give_back(device) };
+        unsafe { self.let_go(device) };
     }
 
     /// The largest size of a request, in bytes.
@@ -361,7 +361,7 @@ impl<M> GpuAllocator<M> {
     pub unsafe fn cleanup(&mut self, device: &impl MemoryDevice<M>) {
         self.library.cleanup();
         // SAFETY: the device is the objects', as the caller says, and no block is in them.
-        unsafe { self.give_back(device) };
+        unsafe { self.let_go(device) };
     }
 
     /// # Safety
@@ -416,7 +416,7 @@ impl<M> GpuAllocator<M> {
     /// # Safety
     ///
     /// `device` is the objects', and done with them.
-    unsafe fn give_back(&mut self, device: &impl MemoryDevice<M>) {
+    unsafe fn let_go(&mut self, device: &impl MemoryDevice<M>) {
         self.library.read_gone(&mut self.gone);
         if !self.gone.is_empty() {
             self.count();
@@ -486,12 +486,12 @@ impl<M, D: MemoryDevice<M>> Drop for Asked<'_, M, D> {
             return;
         }
         // SAFETY: the request has ended, and the library has not taken the object that is still here.
-        let mut give_back = || unsafe { self.give_back() };
+        let mut let_go = || unsafe { self.let_go() };
         if panicking() {
             // A second panic would end the process. There is nothing more to do with its cause.
-            drop(catch_unwind(AssertUnwindSafe(give_back)));
+            drop(catch_unwind(AssertUnwindSafe(let_go)));
         } else {
-            give_back();
+            let_go();
         }
     }
 }
@@ -515,7 +515,7 @@ impl<M, D: MemoryDevice<M>> Asked<'_, M, D> {
     /// As for `answer`.
     unsafe fn allocate(&mut self, question: &ffi::Question) -> u32 {
         // SAFETY: the library goes on without what was made before, if something was.
-        unsafe { self.give_back() };
+        unsafe { self.let_go() };
         let mut flags = AllocationFlags::empty();
         let own = question.flags & ffi::ALLOCATE_OWN != 0;
         flags.set(AllocationFlags::DEVICE_ADDRESS, question.flags & ffi::ALLOCATE_DEVICE_ADDRESS != 0);
@@ -548,7 +548,7 @@ impl<M, D: MemoryDevice<M>> Asked<'_, M, D> {
         };
         // At once, and not when the request has ended: should the device panic over it, no block was granted yet.
         // SAFETY: the library goes on without it, or refuses the request.
-        unsafe { self.give_back() };
+        unsafe { self.let_go() };
         match error {
             DeviceMapError::OutOfDeviceMemory => ffi::NO_DEVICE_MEMORY,
             DeviceMapError::OutOfHostMemory => ffi::NO_HOST_MEMORY,
@@ -561,7 +561,7 @@ impl<M, D: MemoryDevice<M>> Asked<'_, M, D> {
     /// # Safety
     ///
     /// The library has not taken it, and will not.
-    unsafe fn give_back(&mut self) {
+    unsafe fn let_go(&mut self) {
         if let Some(made) = self.made.take() {
             // SAFETY: it was made here, and nothing but this has it.
             unsafe { self.device.deallocate_memory(made.memory) };

@@ -10,7 +10,7 @@ use Rattle.gpu_alloc_types.specs.Device.{Object, HeldWith, put}
 use Rattle.gpu_alloc_types.specs.Objects.{put-same, put-other}
 use Rattle.gpu_alloc_block.specs.State.{State, HeldObject, Span, Block, IsLive, span_of, is_shared}
 use Rattle.gpu_alloc.specs.Release.{without_span}
-use Rattle.gpu_alloc_block.specs.Agreement.{Agrees, IsThere, IsCounted, IsInside, IsMappedWhole}
+use Rattle.gpu_alloc_block.specs.Agreement.{Agrees, IsHeldThere, IsCountedFor, IsInside, IsMappedWhole}
 use Rattle.gpu_alloc.specs.Allocation.{IsAsCounted}
 use Rattle.gpu_alloc.specs.BuddySharing.{with_span}
 use Rattle.gpu_alloc_base.specs.NewObject.{HasOneMore}
@@ -23,19 +23,19 @@ use Rattle.gpu_alloc_block.proofs.LiveSpans.{live_before, live_other}
 abbrev pub IsOlder : State → State → ℕ → Type 0
 IsOlder s now name = (span : Span) → IsLive now span → span.object ≡ name → IsLive s span
 
-counted_kept : (kind : Kind) (s now : State) (name counted : ℕ) (o : Object) → now.properties ≡ s.properties → IsOlder s now name → IsCounted kind s name counted o → IsCounted kind now name counted o
+counted_kept : (kind : Kind) (s now : State) (name counted : ℕ) (o : Object) → now.properties ≡ s.properties → IsOlder s now name → IsCountedFor kind s name counted o → IsCountedFor kind now name counted o
 counted_kept Dedicated s now name counted o same older is = is
 counted_kept Imported s now name counted o same older is = λ span live of_it. subst (λ p. IsInside p span o) (sym same) (is span (older span live of_it) of_it)
 counted_kept BuddyChunk s now name counted o same older is = (is.0, subst (λ p. IsMappedWhole p o) (sym same) is.1)
 counted_kept (FreeListChunk number) s now name counted o same older is = (is.0, subst (λ p. IsMappedWhole p o) (sym same) is.1)
 counted_kept FitChunk s now name counted o same older is = (is.0, subst (λ p. IsMappedWhole p o) (sym same) is.1)
 
-pub there_kept : (s now : State) (name : ℕ) (h : HeldObject) (o : Object) → now.properties ≡ s.properties → IsOlder s now name → IsThere s name h o → IsThere now name h o
+pub there_kept : (s now : State) (name : ℕ) (h : HeldObject) (o : Object) → now.properties ≡ s.properties → IsOlder s now name → IsHeldThere s name h o → IsHeldThere now name h o
 there_kept s now name h o same older is = record { of_type = is.of_type; of_size = counted_kept h.kind s now name h.counted o same older is.of_size }
 
 -- a name that the device has not, the allocator has not
 pub not_held : (s : State) (p : Properties) (f : ℕ → Option Object) (name : ℕ) → Agrees s p f → f name ≡ None → finite.get s.held name ≡ None
-not_held s p f name a none = elim (finite.get s.held name) as (λ v. finite.get s.held name ≡ v → IfSome v (λ h. HeldWith f name (IsThere s name h)) → v ≡ None) [
+not_held s p f name a none = elim (finite.get s.held name) as (λ v. finite.get s.held name ≡ v → IfSome v (λ h. HeldWith f name (IsHeldThere s name h)) → v ≡ None) [
   | None ↦ λ e h. refl
   | Some x ↦ λ e h. absurd (let there : f name ≡ Some h.0 = h.1 in cc)
 ] refl (a.holds name)
@@ -47,23 +47,23 @@ agrees_kept s now p q f g agrees state properties objects = rw (state, propertie
 -- One object more, on both sides.
 
 there_more : (s now : State) (f : ℕ → Option Object) (name : ℕ) (h : HeldObject) (o : Object) (q : ℕ) (before : Option HeldObject) (b : Bool)
-    → (q == name) ≡ b → now.properties ≡ s.properties → (q ≢ name → IsOlder s now q) → IsThere now name h o → IfSome before (λ x. HeldWith f q (IsThere s q x))
-    → IfSome (cond b (Some h) before) (λ x. HeldWith (put f name (Some o)) q (IsThere now q x))
+    → (q == name) ≡ b → now.properties ≡ s.properties → (q ≢ name → IsOlder s now q) → IsHeldThere now name h o → IfSome before (λ x. HeldWith f q (IsHeldThere s q x))
+    → IfSome (cond b (Some h) before) (λ x. HeldWith (put f name (Some o)) q (IsHeldThere now q x))
 there_more s now f name h o q before true e same older there was =
     let here : q ≡ name = grind (arith, nat_tests) in
-    subst (λ n. HeldWith (put f name (Some o)) n (IsThere now n h)) (sym here) (o, put-same f name (Some o), there)
+    subst (λ n. HeldWith (put f name (Some o)) n (IsHeldThere now n h)) (sym here) (o, put-same f name (Some o), there)
 there_more s now f name h o q None false e same older there was = was
 there_more s now f name h o q (Some x) false e same older there was =
     let other : q ≢ name = grind (arith, nat_tests) in
     (was.0, put-other f name (Some o) q other ∙ was.1, there_kept s now q x was.0 same (older other) was.2)
 
 pub agrees_more : (s now : State) (p : Properties) (f : ℕ → Option Object) (name : ℕ) (h : HeldObject) (o : Object) → Agrees s p f → now.properties ≡ s.properties
-    → now.held ≡ finite.insert s.held name h → ((q : ℕ) → q ≢ name → IsOlder s now q) → IsThere now name h o → Agrees now p (put f name (Some o))
+    → now.held ≡ finite.insert s.held name h → ((q : ℕ) → q ≢ name → IsOlder s now q) → IsHeldThere now name h o → Agrees now p (put f name (Some o))
 agrees_more s now p f name h o a same held older there = record {
   properties = a.properties ∙ sym same;
   holds = λ q.
       let e : finite.get now.held q ≡ cond (q == name) (Some h) (finite.get s.held q) = ap (λ m. finite.get m q) held ∙ finite.get-insert nat_cmp_total s.held name h q ∙ ap (λ b. cond b (Some h) (finite.get s.held q)) (name_test q name) in
-      subst (λ (v : Option HeldObject). IfSome v (λ x. HeldWith (put f name (Some o)) q (IsThere now q x))) (sym e)
+      subst (λ (v : Option HeldObject). IfSome v (λ x. HeldWith (put f name (Some o)) q (IsHeldThere now q x))) (sym e)
       (there_more s now f name h o q (finite.get s.held q) (q == name) refl same (older q) there (a.holds q));
 }
 
@@ -77,7 +77,7 @@ older_but s now own more name other span live named = elim (live_before s.live o
 ]
 
 -- what is counted of a shared object hangs on no span
-counted_shared : (kind : Kind) (s now : State) (name counted : ℕ) (o : Object) → is_shared kind ≡ true → now.properties ≡ s.properties → IsCounted kind s name counted o → IsCounted kind now name counted o
+counted_shared : (kind : Kind) (s now : State) (name counted : ℕ) (o : Object) → is_shared kind ≡ true → now.properties ≡ s.properties → IsCountedFor kind s name counted o → IsCountedFor kind now name counted o
 counted_shared Dedicated s now name counted o shared same is = absurd (cc)
 counted_shared Imported s now name counted o shared same is = absurd (cc)
 counted_shared BuddyChunk s now name counted o shared same is = (is.0, subst (λ p. IsMappedWhole p o) (sym same) is.1)
@@ -91,7 +91,7 @@ agrees_with_span s p f own h a held shared = record {
   holds = λ name. kept name (finite.get s.held name) refl (a.holds name);
 }
   where
-    there : (name : ℕ) (x : HeldObject) (o : Object) → finite.get s.held name ≡ Some x → IsThere s name x o → IsThere (with_span s own) name x o
+    there : (name : ℕ) (x : HeldObject) (o : Object) → finite.get s.held name ≡ Some x → IsHeldThere s name x o → IsHeldThere (with_span s own) name x o
     there name x o is was = elim (cases_eq name own.object) [
       | inl here ↦
           let same : x ≡ h = one_value _ x h is (ap (finite.get s.held) here ∙ held) in
@@ -99,7 +99,7 @@ agrees_with_span s p f own h a held shared = record {
       | inr other ↦ there_kept s (with_span s own) name x o refl (older_but s (with_span s own) own refl name other) was
     ]
 
-    kept : (name : ℕ) (v : Option HeldObject) → finite.get s.held name ≡ v → IfSome v (λ x. HeldWith f name (IsThere s name x)) → IfSome v (λ x. HeldWith f name (IsThere (with_span s own) name x))
+    kept : (name : ℕ) (v : Option HeldObject) → finite.get s.held name ≡ v → IfSome v (λ x. HeldWith f name (IsHeldThere s name x)) → IfSome v (λ x. HeldWith f name (IsHeldThere (with_span s own) name x))
     kept name None none was = tt
     kept name (Some x) is was = (was.0, was.1, there name x was.0 is was.2)
 
@@ -111,7 +111,7 @@ mapped_whole p s t counted o same of_type of_size mapped visible =
     let seen : is_host_visible p t ≡ true = (λ k. is_host_visible (same k) (sym of_type k)) ∙ visible in
     mapped ∙ ap (λ b. cond b (Some (0, counted)) None) seen ∙ ap (λ n. Some (0, n)) (sym of_size)
 
-counted_as_made : (kind : Kind) (p : Properties) (s : State) (name t counted : ℕ) (o : Object) → kind ≢ Imported → p ≡ s.properties → IsAsCounted p (record { memory_type = t; counted = counted; kind = kind }) o → IsCounted kind s name counted o
+counted_as_made : (kind : Kind) (p : Properties) (s : State) (name t counted : ℕ) (o : Object) → kind ≢ Imported → p ≡ s.properties → IsAsCounted p (record { memory_type = t; counted = counted; kind = kind }) o → IsCountedFor kind s name counted o
 counted_as_made Dedicated p s name t counted o no_import same is = is.of_size
 counted_as_made Imported p s name t counted o no_import same is = absurd (no_import refl)
 counted_as_made BuddyChunk p s name t counted o no_import same is = (is.of_size, mapped_whole p s t counted o same is.of_type is.of_size is.mapped)
@@ -130,7 +130,7 @@ agrees_with_object s now p f g own h a same held live no_import more =
 -- One object fewer, on both sides.
 
 there_fewer : (s now : State) (f : ℕ → Option Object) (name q : ℕ) (before : Option HeldObject) (b : Bool) → (q == name) ≡ b → now.properties ≡ s.properties → IsOlder s now q
-    → IfSome before (λ x. HeldWith f q (IsThere s q x)) → IfSome (cond b None before) (λ x. HeldWith (put f name None) q (IsThere now q x))
+    → IfSome before (λ x. HeldWith f q (IsHeldThere s q x)) → IfSome (cond b None before) (λ x. HeldWith (put f name None) q (IsHeldThere now q x))
 there_fewer s now f name q before true e same older was = tt
 there_fewer s now f name q None false e same older was = was
 there_fewer s now f name q (Some x) false e same older was =
@@ -145,7 +145,7 @@ agrees_returned s now p q f g b a same_p gone same held older =
       properties = same_p ∙ a.properties ∙ sym same;
       holds = λ name.
           let e : finite.get now.held name ≡ cond (name == b.object) None (finite.get s.held name) = ap (λ m. finite.get m name) held ∙ finite.get-remove nat_cmp_total s.held b.object name ∙ ap (λ t. cond t None (finite.get s.held name)) (name_test name b.object) in
-          subst (λ (v : Option HeldObject). IfSome v (λ x. HeldWith (put f b.object None) name (IsThere now name x))) (sym e)
+          subst (λ (v : Option HeldObject). IfSome v (λ x. HeldWith (put f b.object None) name (IsHeldThere now name x))) (sym e)
           (there_fewer s now f b.object name (finite.get s.held name) (name == b.object) refl same (λ span live of_it. older span live) (a.holds name));
     })
 
@@ -157,6 +157,6 @@ agrees_without_span s p q objects block agrees same = record {
   holds = λ name. held name (finite.get s.held name) (agrees.holds name);
 }
   where
-    held : (name : ℕ) (v : Option HeldObject) → IfSome v (λ h. HeldWith objects name (IsThere s name h)) → IfSome v (λ h. HeldWith objects name (IsThere (without_span s block) name h))
+    held : (name : ℕ) (v : Option HeldObject) → IfSome v (λ h. HeldWith objects name (IsHeldThere s name h)) → IfSome v (λ h. HeldWith objects name (IsHeldThere (without_span s block) name h))
     held name None was = tt
     held name (Some h) was = (was.0, was.1, there_kept s (without_span s block) name h was.0 refl (λ span live of_it. (live_other s.live (span_of block) span live).1) was.2)

@@ -12,7 +12,7 @@ use Rattle.gpu_alloc_base.specs.declared.error.AllocationError.{AllocationError}
 use Rattle.gpu_alloc_base.proofs.Maps.{one_value}
 use Rattle.gpu_alloc_base.proofs.Multiples.{multiple_from_mod}
 use Rattle.gpu_alloc_base.proofs.Names.{here}
-use Rattle.gpu_alloc_block.specs.Agreement.{Agrees, BlockAgrees, IsBeneath, IsCounted, IsMappedWhole, IsOfBlock, KeepsBlocks}
+use Rattle.gpu_alloc_block.specs.Agreement.{Agrees, BlockAgrees, IsBeneath, IsCountedFor, IsMappedWhole, IsOfBlock, KeepsBlocks}
 use Rattle.gpu_alloc_block.specs.Ranges.{mapped_range}
 use Rattle.gpu_alloc_block.specs.State.{Block, HeldObject, Span, State, is_shared, span_of}
 use Rattle.gpu_alloc_block.specs.declared.block.Kind.{Kind}
@@ -51,14 +51,14 @@ given_object InFitChunk s r t es b new (inr gives) = of_shared s b (ap (λ (x : 
 
 -- What is held for a block, on the device.
 
-whole_of : (k : Kind) (s : State) (span : Span) (counted : ℕ) (o : Object) → k ≡ DedicatedObject → LiesIn k counted span → IsCounted k s span.object counted o → (span.offset ≡ 0) × (span.size ≡ o.size)
+whole_of : (k : Kind) (s : State) (span : Span) (counted : ℕ) (o : Object) → k ≡ DedicatedObject → LiesIn k counted span → IsCountedFor k s span.object counted o → (span.offset ≡ 0) × (span.size ≡ o.size)
 whole_of DedicatedObject s span counted o own lies is = (lies.0, lies.1 ∙ sym is)
 whole_of Imported s span counted o own lies is = absurd (cc)
 whole_of BuddyChunk s span counted o own lies is = absurd (cc)
 whole_of (FreeListChunk number) s span counted o own lies is = absurd (cc)
 whole_of FitChunk s span counted o own lies is = absurd (cc)
 
-shared_mapped : (k : Kind) (s : State) (name counted : ℕ) (o : Object) → is_shared k ≡ true → IsCounted k s name counted o → IsMappedWhole s.properties o
+shared_mapped : (k : Kind) (s : State) (name counted : ℕ) (o : Object) → is_shared k ≡ true → IsCountedFor k s name counted o → IsMappedWhole s.properties o
 shared_mapped DedicatedObject s name counted o shared is = absurd (cc)
 shared_mapped Imported s name counted o shared is = absurd (cc)
 shared_mapped BuddyChunk s name counted o shared is = is.1

@@ -10,7 +10,7 @@ use Rattle.gpu_alloc_base.specs.FreeSpace.{IsPowerOfTwo}
 use Rattle.gpu_alloc_base.specs.declared.error.AllocationError.{AllocationError}
 use Rattle.gpu_alloc_base.specs.declared.error.AllocationError.TheVariants.{OutOfDeviceMemory, OutOfHostMemory, NoCompatibleMemoryTypes, TooManyObjects}
 use Rattle.gpu_alloc_block.specs.State.{HeldObject, Block, State, heap_limit, ledger, share}
-use Rattle.gpu_alloc.specs.Allocation.{Tries, strategy}
+use Rattle.gpu_alloc.specs.Allocation.{TriesCandidate, strategy}
 use Rattle.gpu_alloc.specs.BuddySharing.{buddy_size}
 use Rattle.gpu_alloc.specs.Budget.{asked_share, heap_budget, heap_bytes, is_import, HoldsNoImportOf, IsDevicesAnswer}
 use Rattle.gpu_alloc.specs.Candidates.{candidate}
@@ -59,7 +59,7 @@ place_of InFitChunk s r t b fits is =
     let fitting = is.fitting in
     (b.object, b.offset, record { aligned = fitting.aligned; free = λ at from to. fitting.free at from (omega (arith, to, fitting.exact)) })
 
-pub asked_within : (s : State) (r : Request) (hint : Option Dedicated) (t : ℕ) (es : List Event) (answer : Result (Option Block) AllocationError) (new : State) → Tries s r hint t es answer new → r.size ≤ heap_size s.properties t
+pub asked_within : (s : State) (r : Request) (hint : Option Dedicated) (t : ℕ) (es : List Event) (answer : Result (Option Block) AllocationError) (new : State) → TriesCandidate s r hint t es answer new → r.size ≤ heap_size s.properties t
     → HasQuestion (candidate (strategy s r hint t) s r t) → IsWithinBudget (candidate (strategy s r hint t) s r t) → IsDevicesAnswer (candidate (strategy s r hint t) s r t) es answer
 asked_within s r hint t es (Ok None) new (inl small, same) large has within = absurd (omega (arith, small.0, large))
 asked_within s r hint t es (Ok None) new (inr (fits, inl (inl unfit, none)), same) large has within = absurd (unfit has.fits)

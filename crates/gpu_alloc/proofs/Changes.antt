@@ -7,12 +7,12 @@ use Rattle.gpu_alloc_types.specs.Device.{Event, Object, put}
 use Rattle.gpu_alloc_types.specs.Objects.{put-same, put-other}
 use Rattle.gpu_alloc_base.specs.Case as case
 use Rattle.gpu_alloc.specs.Allocation.{AllocatesBy, Plan, strategy}
-use Rattle.gpu_alloc_block.specs.Agreement.{Agrees, IsCounted}
+use Rattle.gpu_alloc_block.specs.Agreement.{Agrees, IsCountedFor}
 use Rattle.gpu_alloc.specs.Candidates.{candidate}
 use Rattle.gpu_alloc.specs.Owned.{HoldsWith}
 use Rattle.gpu_alloc.specs.Release.{AreAllGone, AreChunksGone, AreFitsGone, AreGoneOfType, GoesWith, without_all, without_objects}
 use Rattle.gpu_alloc.specs.Sound.{IsSound, LiesIn}
-use Rattle.gpu_alloc_block.specs.State.{State, Block, HeldObject, Span, span_of, AreApart, IsLive, IsOwned}
+use Rattle.gpu_alloc_block.specs.State.{State, Block, HeldObject, Span, span_of, AreSpansApart, IsLive, IsOwned}
 use Rattle.gpu_alloc.specs.declared.allocator.Strategy.{Strategy}
 use Rattle.gpu_alloc.specs.declared.allocator.Strategy.TheVariants.{OwnObject, InBuddyChunk, InFreeList, InFitChunk}
 use Rattle.gpu_alloc_block.specs.declared.block.Kind.{Kind}
@@ -184,7 +184,7 @@ all_same s (suc n) gone also (earlier, own, both, before, chunks) (earlier', own
 -- Blocks that stay.
 
 -- two spans that are apart are two
-pub apart_differ : (x y : Span) → AreApart x y → 0 < x.size → x ≢ y
+pub apart_differ : (x y : Span) → AreSpansApart x y → 0 < x.size → x ≢ y
 apart_differ x y (inl other) some same = other (ap (λ (z : Span). z.object) same)
 apart_differ x y (inr (inl before)) some same = absurd (omega (arith, before, some, ap (λ (z : Span). z.offset) same))
 apart_differ x y (inr (inr after)) some same = absurd (omega (arith, after, some, ap (λ (z : Span). z.offset) same, ap (λ (z : Span). z.size) same))
@@ -199,7 +199,7 @@ still_owned s new gone c sound held owned live =
 
 -- A block in its object on the device.
 
-lies_within : (k : Kind) (s : State) (span : Span) (counted : ℕ) (o : Object) → IsLive s span → LiesIn k counted span → IsCounted k s span.object counted o → span.offset + span.size ≤ o.size
+lies_within : (k : Kind) (s : State) (span : Span) (counted : ℕ) (o : Object) → IsLive s span → LiesIn k counted span → IsCountedFor k s span.object counted o → span.offset + span.size ≤ o.size
 lies_within DedicatedObject s span counted o live lies is = omega (arith, lies.0, lies.1, is)
 lies_within Imported s span counted o live lies is = (is span live refl).within
 lies_within BuddyChunk s span counted o live lies is = omega (arith, lies, is.0)

@@ -9,7 +9,7 @@ use Rattle.gpu_alloc_base.specs.Case as case
 use Rattle.gpu_alloc_base.specs.Case.{Case}
 use Rattle.gpu_alloc_base.specs.declared.error.AllocationError.{AllocationError}
 use Rattle.gpu_alloc_base.specs.declared.error.AllocationError.TheVariants.{OutOfDeviceMemory, OutOfHostMemory, NoCompatibleMemoryTypes, TooManyObjects}
-use Rattle.gpu_alloc.specs.Allocation.{AllocatesBy, Decides, Plan, Refuses, TriesAll, candidates_of, strategy}
+use Rattle.gpu_alloc.specs.Allocation.{AllocatesBy, CandidateDecides, Plan, Refuses, TriesAll, candidates_of, strategy}
 use Rattle.gpu_alloc.specs.declared.allocator.Ask.{Ask}
 use Rattle.gpu_alloc.specs.Request.{is_required}
 use Rattle.gpu_alloc.specs.Candidates.{candidate}
@@ -36,7 +36,7 @@ case_refused c es OutOfHostMemory new refused = refused.0
 case_refused c es OutOfDeviceMemory new refused = absurd refused
 case_refused c es NoCompatibleMemoryTypes new refused = absurd refused
 
-pub decides_refused : (s : State) (r : Request) (hint : Option Dedicated) (t : ℕ) (es : List Event) (e : AllocationError) (new : State) → Decides s r hint t es (Err e) new → new ≡ s
+pub decides_refused : (s : State) (r : Request) (hint : Option Dedicated) (t : ℕ) (es : List Event) (e : AllocationError) (new : State) → CandidateDecides s r hint t es (Err e) new → new ≡ s
 decides_refused s r hint t es e new decides =
     let w = strategy s r hint t in
     case_refused (candidate w s r t) es e new decides.1 ∙ before_is w s r t
@@ -55,7 +55,7 @@ grant_total InFreeList s r t es b new (inr gives) = ap total gives.state ∙ one
 grant_total InFitChunk s r t es b new (inl gives) = ap total gives.state
 grant_total InFitChunk s r t es b new (inr gives) = ap total gives.state ∙ one_more s b.object _ _ gives.asks.has.remains.objects gives.place.was_free refl
 
-decides_total : (s : State) (r : Request) (hint : Option Dedicated) (t : ℕ) (es : List Event) (answer : Result Block AllocationError) (new : State) → Decides s r hint t es answer new → total new ≡ total s
+decides_total : (s : State) (r : Request) (hint : Option Dedicated) (t : ℕ) (es : List Event) (answer : Result Block AllocationError) (new : State) → CandidateDecides s r hint t es answer new → total new ≡ total s
 decides_total s r hint t es (Ok b) new decides = grant_total (strategy s r hint t) s r t es b new decides.1
 decides_total s r hint t es (Err e) new decides = ap total (decides_refused s r hint t es e new decides)
 
@@ -99,7 +99,7 @@ module _ (s : State) (p : Plan) where
   allocates_kept es (Err e) new h = of_allocation es (Err e) new (λ cause refused. refused.2) (all_refused s p.asked p.candidates es e new) h
 
   -- what holds wherever a candidate gives a block holds of a grant
-  module _ {X : Type 0} (b : Block) (new : State) (gives : (t : ℕ) (es : List Event) → Contains p.candidates t → Decides s (p.asked t).request (p.asked t).hint t es (Ok b) new → X) where
+  module _ {X : Type 0} (b : Block) (new : State) (gives : (t : ℕ) (es : List Event) → Contains p.candidates t → CandidateDecides s (p.asked t).request (p.asked t).hint t es (Ok b) new → X) where
     one_gives : (us : List ℕ) (es : List Event) → ((t : ℕ) → Contains us t → Contains p.candidates t) → TriesAll s p.asked us es (Ok b) new → X
     one_gives [] es are tried = absurd (cc)
     one_gives (t ∷ us) es are (inl passed) = one_gives us passed.1 (λ u has. are u (contains_later t u us has)) passed.4

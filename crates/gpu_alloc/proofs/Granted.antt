@@ -20,9 +20,9 @@ use Rattle.gpu_alloc_base.proofs.Maps.{own_inserted}
 use Rattle.gpu_alloc_base.proofs.Multiples.{mod_from_multiple, multiple_down, multiple_from_mod, multiple_min, multiple_of_lower, multiple_rest, multiple_times}
 use Rattle.gpu_alloc_base.proofs.PowersOfTwo.{greater_power, next_is_enough, power_of_bit}
 use Rattle.gpu_alloc_buddy.specs.Buddy.{Fits}
-use Rattle.gpu_alloc.specs.Allocation.{AllocatesBy, AloneIsTold, Decides, ExactIsTold, IsAloneWhereServed, IsAsAsked, IsCandidate, IsExact, IsGranted, Plan, candidates_of, fits_a_chunk, is_alone, plan, serves_alone, strategy}
+use Rattle.gpu_alloc.specs.Allocation.{AllocatesBy, AloneIsTold, CandidateDecides, ExactIsTold, IsAloneWhereServed, IsAsAsked, IsCandidate, IsExactFit, IsGranted, Plan, candidates_of, fits_a_chunk, is_alone, plan, serves_alone, strategy}
 use Rattle.gpu_alloc.specs.Atoms.{KeepsAtoms, IsNextFitChunk, IsNextListChunk}
-use Rattle.gpu_alloc.specs.BuddySharing.{IsPieceFront, buddy_question, buddy_size, front_of, with_span}
+use Rattle.gpu_alloc.specs.BuddySharing.{IsPieceFront, buddy_question, buddy_size, object_front, with_span}
 use Rattle.gpu_alloc.specs.Candidates.{candidate}
 use Rattle.gpu_alloc.specs.FreeBytes.{IsFreeByte}
 use Rattle.gpu_alloc.specs.FitSharing.{IsInFreeRun, first_fit, fit_alignment, fit_question, fit_size, fits_first, grain_of, largest_fit_chunk, next_fit_chunk}
@@ -114,7 +114,7 @@ module _ (s : State) (r : Request) (sound : IsSound s) where
 
     -- An object of its own.
 
-    own_sized : (object : ℕ) → IsSized t DedicatedObject (front_of object r.size)
+    own_sized : (object : ℕ) → IsSized t DedicatedObject (object_front object r.size)
     own_sized object = record {
       enough = omega arith;
       aligned = zero-mod (r.align_mask + 1);
@@ -269,13 +269,13 @@ module _ (s : State) (r : Request) (sound : IsSound s) where
     granted_by : (w : Strategy) (es : List Event) (b : Block) (new : State) → t < length s.properties.memory_types → (InFreeList ≡ w → fits_a_chunk s r t ≡ true) → (InFitChunk ≡ w → fits_first s r t ≡ true) → case.Decides (candidate w s r t) es (Ok b) new → IsGranted s r new b
     granted_by OwnObject es b new known fits first (inl gives) = absurd gives.place
     granted_by OwnObject es b new known fits first (inr gives) =
-        let span = front_of b.object r.size in
+        let span = object_front b.object r.size in
         let c = candidate OwnObject s r t in
         rw gives.state (subst (λ x. IsGranted s r (c.with_object x) x) (sym gives.place.is) (in_new_object t DedicatedObject span (c.with_object (granted_block s t DedicatedObject span)) r.size (own_sized b.object) (omega arith) gives.place.was_free refl refl))
     granted_by InBuddyChunk es b new known fits first (inl gives) = rw gives.state (subst (IsGranted s r (with_span s (span_of b))) (sym gives.place.is) (front_granted gives.fits (span_of b) gives.place.front))
     granted_by InBuddyChunk es b new known fits first (inr gives) =
         let size = buddy_size s r t in
-        let span = front_of b.object size in
+        let span = object_front b.object size in
         let c = candidate InBuddyChunk s r t in
         rw gives.state (subst (λ x. IsGranted s r (c.with_object x) x) (sym gives.place.is) (in_new_object t BuddyChunk span (c.with_object (granted_block s t BuddyChunk span)) (buddy_question s t size).size
         (buddy_sized gives.asks.has.fits span refl (0, sym (zero-mul size))) (omega arith) gives.place.was_free refl refl))
@@ -293,7 +293,7 @@ module _ (s : State) (r : Request) (sound : IsSound s) where
     granted_by InFitChunk es b new known fits first (inl gives) = rw gives.state (subst (IsGranted s r (with_span s (span_of b))) (sym gives.place.is) (fit_granted (span_of b) gives.place.fitting))
     granted_by InFitChunk es b new known fits first (inr gives) =
         let size = fit_size s r t in
-        let span = front_of b.object size in
+        let span = object_front b.object size in
         let c = candidate InFitChunk s r t in
         let small : fits_first s r t ≡ true = first refl in
         let below : size ≤ first_fit s.config (heap_size s.properties t) g = grind (arith, nat_tests) in
@@ -330,7 +330,7 @@ granted_as s r q new b serves is = record {
 
 -- one candidate's grant
 pub candidate_granted : (s : State) (r : Request) (hint : Option Dedicated) (t : ℕ) (es : List Event) (b : Block) (new : State) → IsSound s → KeepsAtoms s → IsAskable s.properties.buffer_device_address r → Contains (candidates_of s r) t
-    → Decides s r hint t es (Ok b) new → IsGranted s r new b
+    → CandidateDecides s r hint t es (Ok b) new → IsGranted s r new b
 unfolding IsCandidate
 candidate_granted s r hint t es b new sound atoms askable chosen decides =
     granted_by s r sound atoms askable t chosen (strategy s r hint t) es b new (candidate_known s r t chosen) (fits_its_list s r hint t) (λ is. (fits_chosen s r hint t is).1) decides.1
@@ -418,11 +418,11 @@ alone_is s r hint (Ok b) is = subst (λ t. IsTrue (serves_alone s r hint t) ↔ 
 )
 
 -- In a fit chunk it is as long as asked.
-pub exact_block : (s : State) (r : Request) (w : Strategy) (t : ℕ) (b : Block) → IsServedSo w s r t b → IsExact s r b
-unfolding IsExact
+pub exact_block : (s : State) (r : Request) (w : Strategy) (t : ℕ) (b : Block) → IsServedSo w s r t b → IsExactFit s r b
+unfolding IsExactFit
 exact_block s r w t b so = λ fit. subst (λ u. IsAsAsked s r u b) (sym so.of_type) (so.exact fit)
 
-pub exact_is : (s : State) (r : Request) (hint : Option Dedicated) (answer : Result Block AllocationError) → IfOk answer (HasKind s (plan s r hint)) → IfOk answer (IsExact s r)
+pub exact_is : (s : State) (r : Request) (hint : Option Dedicated) (answer : Result Block AllocationError) → IfOk answer (HasKind s (plan s r hint)) → IfOk answer (IsExactFit s r)
 exact_is s r hint (Err e) is = tt
 exact_is s r hint (Ok b) is = exact_block s r (strategy s r hint is.t) is.t b is.so
 
@@ -439,5 +439,5 @@ alone_told s r hint b is = is
 
 -- and how long it is
 pub exact_told : ExactIsTold
-unfolding IsExact
+unfolding IsExactFit
 exact_told s r b is = is

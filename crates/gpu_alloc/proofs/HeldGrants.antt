@@ -5,7 +5,7 @@ use Rattle.gpu_alloc_base.specs.Case as case
 use Rattle.gpu_alloc_base.specs.declared.error.AllocationError.{AllocationError}
 use Rattle.gpu_alloc_base.specs.declared.error.AllocationError.TheVariants.{OutOfDeviceMemory}
 use Rattle.gpu_alloc_block.specs.State.{Block, State, is_shared, span_of}
-use Rattle.gpu_alloc.specs.Allocation.{AllocatesBy, IsExact, IsGranted, IsInPages, ObjectsAfter, ObjectsTried, Plan, candidates_of, strategy}
+use Rattle.gpu_alloc.specs.Allocation.{AllocatesBy, IsExactFit, IsGranted, IsInPages, ObjectsAfter, ObjectsTried, Plan, candidates_of, strategy}
 use Rattle.gpu_alloc.specs.Atoms.{KeepsAtoms}
 use Rattle.gpu_alloc.specs.BuddySharing.{with_span}
 use Rattle.gpu_alloc.specs.Candidates.{candidate}
@@ -107,7 +107,7 @@ module _ (s : State) (r : Request) (sound : IsSound s) (atoms : KeepsAtoms s) wh
 
 module _ (s : State) (r : Request) where
   pub exact_held : (hint : Option Dedicated) (granularity : Option ℕ) → IfSome granularity IsGranularity → IsAskable s.properties.buffer_device_address r → (answer : Result (Option Block) AllocationError) (new : State)
-      → IsHeldAnswer s (plan_held s r hint granularity) answer new → IfOk answer (λ v. IfSome v (IsExact s (in_pages_where granularity r)))
+      → IsHeldAnswer s (plan_held s r hint granularity) answer new → IfOk answer (λ v. IfSome v (IsExactFit s (in_pages_where granularity r)))
   exact_held hint None page askable (Ok (Some b)) new is = exact_block s r (strategy s r hint is.0) is.0 b (served_so (strategy s r hint is.0) s r is.0 [] b new is.3.1)
   exact_held hint (Some granularity) page askable (Ok (Some b)) new is =
       let a = (plan_held s r hint (Some granularity)).asked is.0 in

@@ -26,7 +26,7 @@ use Rattle.gpu_alloc_freelist.specs.FreeListState.{Listing}
 use Rattle.gpu_alloc_usage.specs.Ranking.{implied, is_allowed, named, ranking}
 use Rattle.gpu_alloc_usage.proofs.Ranking.Candidates.{candidates_IsRankingWithin, implied-named}
 use Rattle.gpu_alloc_usage.proofs.Ranking.Rising.{none-at, one-at}
-use Rattle.gpu_alloc.specs.Allocation.{AllocatesBy, Decides, IsPassed, Plan, TriesAll, TriesAsked, ask, asked_of, candidates_of, is_too_large, plan_with, serves_alone, strategy}
+use Rattle.gpu_alloc.specs.Allocation.{AllocatesBy, CandidateDecides, IsCandidatePassed, Plan, TriesAll, TriesAsked, ask, asked_of, candidates_of, is_too_large, plan_with, serves_alone, strategy}
 use Rattle.gpu_alloc.specs.BuddySharing.{buddy_size}
 use Rattle.gpu_alloc.specs.Candidates.{candidate}
 use Rattle.gpu_alloc.specs.FreeListSharing.{list_size, list_alignment}
@@ -180,7 +180,7 @@ module _ (s : State) (asked : ℕ → Ask) (t : ℕ) (has : HasPlaceFor s asked 
   serves_held es (Ok None) new (inr (most, passed), same) = absurd (not_passed (candidate w s r t) has.fits has.place es passed)
   serves_held es (Ok (Some b)) new decides =
       let none = given_unasked (candidate w s r t) has.fits has.place es b new decides.1 in
-      (none, subst (λ fs. Decides s r (asked t).hint t fs (Ok b) new) none decides)
+      (none, subst (λ fs. CandidateDecides s r (asked t).hint t fs (Ok b) new) none decides)
   serves_held es (Err e) new decides =
       let none = refused_unasked (candidate w s r t) has.fits has.place es e new decides.1 in
       (none.0, (none.1, decides_refused s r (asked t).hint t es e new decides))
@@ -239,33 +239,33 @@ module _ (s : State) (r : Request) (t : ℕ) (es : List Event) where
   decides_by answer new InFitChunk decides = decides
 
   module _ (hint : Option Dedicated) where
-    passed_plain : IsPassed s (only r t) hint t es → IsPassed s r hint t es
+    passed_plain : IsCandidatePassed s (only r t) hint t es → IsCandidatePassed s r hint t es
     passed_plain (inl smaller) = inl smaller
     passed_plain (inr (most, passed)) = inr (most, subst (λ w. case.IsPassed (candidate w s r t) es) (strategy_same s r hint t) (passed_by (strategy s (only r t) hint t) passed))
 
-    decides_plain : (answer : Result Block AllocationError) (new : State) → Decides s (only r t) hint t es answer new → Decides s r hint t es answer new
+    decides_plain : (answer : Result Block AllocationError) (new : State) → CandidateDecides s (only r t) hint t es answer new → CandidateDecides s r hint t es answer new
     decides_plain answer new decides = (decides.0, subst (λ w. case.Decides (candidate w s r t) es answer new) (strategy_same s r hint t) (decides_by answer new (strategy s (only r t) hint t) decides.1))
 
     -- for whole pages, or for one of its own
-    passed_either : (alone : Bool) (pages : Request) → IsPassed s (cond alone (ask (only r t) (Some Required) t) (ask pages hint t)).request (cond alone (ask (only r t) (Some Required) t) (ask pages hint t)).hint t es
-        → IsPassed s (cond alone (ask r (Some Required) t) (ask pages hint t)).request (cond alone (ask r (Some Required) t) (ask pages hint t)).hint t es
+    passed_either : (alone : Bool) (pages : Request) → IsCandidatePassed s (cond alone (ask (only r t) (Some Required) t) (ask pages hint t)).request (cond alone (ask (only r t) (Some Required) t) (ask pages hint t)).hint t es
+        → IsCandidatePassed s (cond alone (ask r (Some Required) t) (ask pages hint t)).request (cond alone (ask r (Some Required) t) (ask pages hint t)).hint t es
     passed_either true pages passed = passed
     passed_either false pages passed = passed
 
     decides_either : (answer : Result Block AllocationError) (new : State) (alone : Bool) (pages : Request)
-        → Decides s (cond alone (ask (only r t) (Some Required) t) (ask pages hint t)).request (cond alone (ask (only r t) (Some Required) t) (ask pages hint t)).hint t es answer new
-        → Decides s (cond alone (ask r (Some Required) t) (ask pages hint t)).request (cond alone (ask r (Some Required) t) (ask pages hint t)).hint t es answer new
+        → CandidateDecides s (cond alone (ask (only r t) (Some Required) t) (ask pages hint t)).request (cond alone (ask (only r t) (Some Required) t) (ask pages hint t)).hint t es answer new
+        → CandidateDecides s (cond alone (ask r (Some Required) t) (ask pages hint t)).request (cond alone (ask r (Some Required) t) (ask pages hint t)).hint t es answer new
     decides_either answer new true pages decides = decides
     decides_either answer new false pages decides = decides
 
     -- so it is asked for the same of that type
-    passed_same : (paged : Option Request) → IsPassed s (asked_of s (only r t) hint paged t).request (asked_of s (only r t) hint paged t).hint t es
-        → IsPassed s (asked_of s r hint paged t).request (asked_of s r hint paged t).hint t es
+    passed_same : (paged : Option Request) → IsCandidatePassed s (asked_of s (only r t) hint paged t).request (asked_of s (only r t) hint paged t).hint t es
+        → IsCandidatePassed s (asked_of s r hint paged t).request (asked_of s r hint paged t).hint t es
     passed_same None passed = passed_plain passed
     passed_same (Some pages) passed = passed_either (serves_alone s pages hint t) pages passed
 
-    decides_same : (answer : Result Block AllocationError) (new : State) (paged : Option Request) → Decides s (asked_of s (only r t) hint paged t).request (asked_of s (only r t) hint paged t).hint t es answer new
-        → Decides s (asked_of s r hint paged t).request (asked_of s r hint paged t).hint t es answer new
+    decides_same : (answer : Result Block AllocationError) (new : State) (paged : Option Request) → CandidateDecides s (asked_of s (only r t) hint paged t).request (asked_of s (only r t) hint paged t).hint t es answer new
+        → CandidateDecides s (asked_of s r hint paged t).request (asked_of s r hint paged t).hint t es answer new
     decides_same answer new None decides = decides_plain answer new decides
     decides_same answer new (Some pages) decides = decides_either answer new (serves_alone s pages hint t) pages decides
 
@@ -288,7 +288,7 @@ module _ (s : State) (r : Request) (hint : Option Dedicated) (paged : Option Req
         let never : ⊥ = omega (arith, one, none) in absurd never
   ]
 
-  given_there : (es : List Event) (answer : Result Block AllocationError) (new : State) → Decides s (asked t).request (asked t).hint t es answer new → (es ≡ []) × ServesHeld s asked (Some t) (some_of answer) new
+  given_there : (es : List Event) (answer : Result Block AllocationError) (new : State) → CandidateDecides s (asked t).request (asked t).hint t es answer new → (es ≡ []) × ServesHeld s asked (Some t) (some_of answer) new
   given_there es (Ok b) new decides = serves_held s asked t has es (Ok (Some b)) new decides
   given_there es (Err e) new decides = serves_held s asked t has es (Err e) new decides
 
@@ -296,11 +296,11 @@ module _ (s : State) (r : Request) (hint : Option Dedicated) (paged : Option Req
   one_serves [] within there es answer new tried = absurd (none-at t there)
   one_serves (u ∷ us) within there es answer new (inl passed) =
       let same : u ≡ t = within u (contains_head u us) in
-      let here = subst (λ n. IsPassed s (asked_of s (only r t) hint paged n).request (asked_of s (only r t) hint paged n).hint n passed.0) same passed.3 in
+      let here = subst (λ n. IsCandidatePassed s (asked_of s (only r t) hint paged n).request (asked_of s (only r t) hint paged n).hint n passed.0) same passed.3 in
       absurd (serves_held s asked t has passed.0 (Ok None) s (passed_same s r t passed.0 hint paged here, refl)).1
   one_serves (u ∷ us) within there es answer new (inr decides) =
       let same : u ≡ t = within u (contains_head u us) in
-      let here = subst (λ n. Decides s (asked_of s (only r t) hint paged n).request (asked_of s (only r t) hint paged n).hint n es answer new) same decides in
+      let here = subst (λ n. CandidateDecides s (asked_of s (only r t) hint paged n).request (asked_of s (only r t) hint paged n).hint n es answer new) same decides in
       given_there es answer new (decides_same s r t es hint answer new paged here)
 
   -- so what it is decided to be is what that candidate gives with no question
@@ -316,7 +316,7 @@ module _ (s : State) (p : Plan) where
   -- what is known of its answer: which candidate gave the block, or that nothing changed
   abbrev pub IsHeldAnswer : Result (Option Block) AllocationError → State → Type 0
   IsHeldAnswer (Ok None) new = new ≡ s
-  IsHeldAnswer (Ok (Some b)) new = (t : ℕ) × Contains p.candidates t × HasPlaceFor s p.asked t × Decides s (p.asked t).request (p.asked t).hint t [] (Ok b) new
+  IsHeldAnswer (Ok (Some b)) new = (t : ℕ) × Contains p.candidates t × HasPlaceFor s p.asked t × CandidateDecides s (p.asked t).request (p.asked t).hint t [] (Ok b) new
   IsHeldAnswer (Err e) new = new ≡ s
 
   as_refused : (e : AllocationError) (answer : Result (Option Block) AllocationError) (new : State) → IsRefused s e answer new → IsHeldAnswer answer new

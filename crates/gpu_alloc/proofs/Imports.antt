@@ -8,8 +8,8 @@ use Rattle.gpu_alloc_types.specs.Device.Event.{Allocated}
 use Rattle.gpu_alloc_types.specs.declared.types.OutOfMemory.{OutOfMemory}
 use Rattle.gpu_alloc_types.specs.Objects.{put-kept, put-other, put-same}
 use Rattle.gpu_alloc_types.specs.Properties.{Properties, atom_of, is_non_coherent, props_at}
-use Rattle.gpu_alloc_block.specs.Agreement.{Agrees, BlockAgrees, IsHeldFor, IsInside, IsThere}
-use Rattle.gpu_alloc_block.specs.State.{AreApart, Block, HeldObject, IsLive, IsOwned, Span, State, span_of, total}
+use Rattle.gpu_alloc_block.specs.Agreement.{Agrees, BlockAgrees, IsHeldFor, IsHeldThere, IsInside}
+use Rattle.gpu_alloc_block.specs.State.{AreSpansApart, Block, HeldObject, IsLive, IsOwned, Span, State, span_of, total}
 use Rattle.gpu_alloc.specs.Candidates.{holding}
 use Rattle.gpu_alloc.specs.Importing.{ImportAgrees, Imports, ImportsInHand, IsImportable, MayBeImported, imported_block, imported_object}
 use Rattle.gpu_alloc.specs.Owned.{Adds, Leaves}
@@ -56,7 +56,7 @@ module _ (s : State) (object memory_type offset size : ℕ) (new : State) (b : B
   unused : IsSound s → map.get s.held object ≡ None → (span : Span) → IsLive s span → span.object ≢ object
   unused sound free span live same = let was = (sound.inside span live).1 in let none = ap (map.get s.held) same ∙ free in absurd (cc)
 
-  pub import_apart : IsSound s → map.get s.held object ≡ None → (span : Span) → IsLive s span → AreApart span (span_of b)
+  pub import_apart : IsSound s → map.get s.held object ≡ None → (span : Span) → IsLive s span → AreSpansApart span (span_of b)
   import_apart sound free span live = inl (λ same. unused sound free span live (same ∙ named))
 
   pub import_total : map.get s.held object ≡ None → 0 < s.remaining → total new ≡ total s
@@ -84,7 +84,7 @@ module _ (s : State) (object memory_type offset size : ℕ) (new : State) (b : B
     inside : IsInside p (record { object = object; offset = offset; size = size }) o
     inside = record { within = held.2.within; finish = λ flushed. held.2.finish (ap (is_non_coherent p) (sym held.2.of_type) ∙ flushed) }
 
-    there : IsThere new object (imported_object memory_type size) o
+    there : IsHeldThere new object (imported_object memory_type size) o
     there = record {
       of_type = held.2.of_type;
       of_size = λ span live same. subst (λ q. IsInside q span o) of_properties (subst (λ x. IsInside p x o) (sym (new_span span live same)) inside);
@@ -168,7 +168,7 @@ module _ (p q : Properties) (old new : ℕ → Option Object) (name memory_type 
   at_other : (n : ℕ) (x : Object) → old n ≡ Some x → new n ≡ old n
   at_other n x at = ap (λ (f : ℕ → Option Object). f n) more ∙ put-other old name (Some o) n (λ is. let none = ap old is ∙ free in absurd (cc))
 
-  held_beside : (s : State) (n : ℕ) (v : Option HeldObject) → IfSome v (λ h. HeldWith old n (IsThere s n h)) → IfSome v (λ h. HeldWith new n (IsThere s n h))
+  held_beside : (s : State) (n : ℕ) (v : Option HeldObject) → IfSome v (λ h. HeldWith old n (IsHeldThere s n h)) → IfSome v (λ h. HeldWith new n (IsHeldThere s n h))
   held_beside s n None was = tt
   held_beside s n (Some h) was = (was.0, at_other n was.0 was.1 ∙ was.1, was.2)
 
@@ -227,7 +227,7 @@ module _ (p q : Properties) (old new : ℕ → Option Object) (name : ℕ) (same
   still_at : (n : ℕ) → n ≢ name → new n ≡ old n
   still_at n other = ap (λ (f : ℕ → Option Object). f n) fewer ∙ put-other old name None n other
 
-  held_still : (s : State) (n : ℕ) (v : Option HeldObject) → map.get s.held n ≡ v → map.get s.held name ≡ None → IfSome v (λ h. HeldWith old n (IsThere s n h)) → IfSome v (λ h. HeldWith new n (IsThere s n h))
+  held_still : (s : State) (n : ℕ) (v : Option HeldObject) → map.get s.held n ≡ v → map.get s.held name ≡ None → IfSome v (λ h. HeldWith old n (IsHeldThere s n h)) → IfSome v (λ h. HeldWith new n (IsHeldThere s n h))
   held_still s n None at free was = tt
   held_still s n (Some h) at free was = (was.0, still_at n (λ is. let none = ap (map.get s.held) is ∙ free in absurd (cc)) ∙ was.1, was.2)
 

@@ -11,11 +11,11 @@ use Rattle.gpu_alloc_base.specs.declared.error.AllocationError.{AllocationError}
 use Rattle.gpu_alloc_block.proofs.Contents.{same_object}
 use Rattle.gpu_alloc_block.specs.Agreement.{Agrees, BlockAgrees, KeepsBlocks}
 use Rattle.gpu_alloc_block.specs.InHand.{AreTwo, AreOwned}
-use Rattle.gpu_alloc_block.specs.Kept.{AreReady, AreKept, ChangesAt, outside, IsSameOutside, LeavesInHand, AddsInHand, RemovesInHand}
+use Rattle.gpu_alloc_block.specs.Kept.{AreReady, AreKept, ChangesKey, outside, IsSameOutside, LeavesInHand, AddsInHand, RemovesInHand}
 use Rattle.gpu_alloc_block.specs.State.{Block, HeldObject, State, IsOwned}
 use Rattle.gpu_alloc.specs.Allocation.{IsAsCounted, IsGranted, ObjectsAfter}
 use Rattle.gpu_alloc.specs.Owned.{Adds, HoldsWith, IsAllOutside, Leaves, Removes}
-use Rattle.gpu_alloc.specs.Release.{GoesBack, without_all}
+use Rattle.gpu_alloc.specs.Release.{LetsObjectsGo, without_all}
 use Rattle.gpu_alloc.specs.declared.request.Request.{Request}
 use Rattle.gpu_alloc.proofs.Changes.{gone_or_kept}
 use Rattle.gpu_alloc.proofs.FreeLists.Gone.{kept_was}
@@ -92,7 +92,7 @@ module _ (s : State) (p : Properties) (f : ℕ → Option Object) (new : State) 
       all [] ds owned now are = after ds owned.2 now are.1
       all (c ∷ cs) ds owned now are = (still_ready c owned.0 now.0 are.0, all cs ds owned.2 now.2 are.1)
 
-      was_there : (at at_new : ℕ → Option Block) (key : ℕ) → ChangesAt at at_new key None → (j : ℕ) (c : Block) → at_new j ≡ Some c → (j ≢ key) × (at j ≡ Some c)
+      was_there : (at at_new : ℕ → Option Block) (key : ℕ) → ChangesKey at at_new key None → (j : ℕ) (c : Block) → at_new j ≡ Some c → (j ≢ key) × (at j ≡ Some c)
       was_there at at_new key changes j c there =
           let other : j ≢ key = λ same. let none = ap at_new same ∙ changes.changed in absurd (cc) in
           (other, sym (changes.others j other) ∙ there)
@@ -130,7 +130,7 @@ module _ (s : State) (p : Properties) (f : ℕ → Option Object) (new : State) 
       last [] are = (agrees, tt)
       last (c ∷ bs) are = (are.0, last bs are.1)
 
-      new_or_old : (at at_new : ℕ → Option Block) (key : ℕ) → ChangesAt at at_new key (Some b) → (j : ℕ) (c : Block) → at_new j ≡ Some c → ((j ≡ key) × (c ≡ b)) ⊎ (at j ≡ Some c)
+      new_or_old : (at at_new : ℕ → Option Block) (key : ℕ) → ChangesKey at at_new key (Some b) → (j : ℕ) (c : Block) → at_new j ≡ Some c → ((j ≡ key) × (c ≡ b)) ⊎ (at j ≡ Some c)
       new_or_old at at_new key changes j c there = elim (one_or_two j key) [
         | inl same ↦ let now = ap at_new same ∙ changes.changed in inl (same, cc)
         | inr other ↦ inr (sym (changes.others j other) ∙ there)
@@ -179,7 +179,7 @@ module _ (s : State) (p : Properties) (f : ℕ → Option Object) (agrees : Agre
 
 -- What goes back is of no block that is owned, and was the allocator's own.
 
-module _ {D : Type 0} (step : D → Event → D → Type 0) (objects : D → ℕ → Option Object) (s new : State) (from to : D) (back : GoesBack step objects s from new to) where
+module _ {D : Type 0} (step : D → Event → D → Type 0) (objects : D → ℕ → Option Object) (s new : State) (from to : D) (back : LetsObjectsGo step objects s from new to) where
   owned_stays : (b : Block) → IsOwned new b → objects to b.object ≡ objects from b.object
   owned_stays b owned = back.stay b.object (λ went. let none = back.unheld b.object went in let held = owned.held.1 in absurd (cc))
 

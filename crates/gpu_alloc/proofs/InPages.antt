@@ -15,7 +15,7 @@ use Rattle.gpu_alloc_base.proofs.PowersOfTwo.{bit_of_power, greater_power, power
 use Rattle.gpu_alloc_block.specs.State.{Block, State}
 use Rattle.gpu_alloc_block.specs.declared.block.Kind.TheVariants.{Dedicated as DedicatedObject}
 use Rattle.gpu_alloc.specs.Allocation as allocation
-use Rattle.gpu_alloc.specs.Allocation.{AllocatesBy, IsAloneWhereServed, IsExact, IsInPages, ask, ask_in_pages, candidates_of, is_alone, plan_in_pages, serves_alone, strategy}
+use Rattle.gpu_alloc.specs.Allocation.{AllocatesBy, IsAloneWhereServed, IsExactFit, IsInPages, ask, ask_in_pages, candidates_of, is_alone, plan_in_pages, serves_alone, strategy}
 use Rattle.gpu_alloc.specs.Atoms.{KeepsAtoms}
 use Rattle.gpu_alloc.specs.Request.{IsAskable, IsGranularity, in_pages}
 use Rattle.gpu_alloc.specs.Sound.{IsSound}
@@ -117,8 +117,8 @@ module _ (s : State) (r : Request) (hint : Option Dedicated) (g : ℕ) (is : IsG
   ]
 
   -- in a fit chunk as long as whole pages for it are
-  pub exact_in_pages : (b : Block) → HasKind s (plan_in_pages s r hint g) b → IsExact s paged b
-  unfolding IsExact
+  pub exact_in_pages : (b : Block) → HasKind s (plan_in_pages s r hint g) b → IsExactFit s paged b
+  unfolding IsExactFit
   exact_in_pages b of = elim (cases_Bool (serves_alone s paged hint of.t)) [
     | inl alone ↦
         let so : ServesSo true of.t b = subst (λ x. ServesSo x of.t b) alone of.so in
@@ -134,7 +134,7 @@ module _ (s : State) (r : Request) (hint : Option Dedicated) (g : ℕ) (is : IsG
   required_in_pages required (Ok b) is = (kind_in_pages b is).0.0 (subst (λ d. IsTrue (serves_alone s paged d b.memory_type)) (sym required) refl)
 
   module _ (sound : IsSound s) (atoms : KeepsAtoms s) where
-    in_pages_either : (alone : Bool) (t : ℕ) (fs : List Event) (b : Block) (new : State) → Contains (candidates_of s r) t → allocation.Decides s (asks alone t).request (asks alone t).hint t fs (Ok b) new → IsInPages g r.size b
+    in_pages_either : (alone : Bool) (t : ℕ) (fs : List Event) (b : Block) (new : State) → Contains (candidates_of s r) t → allocation.CandidateDecides s (asks alone t).request (asks alone t).hint t fs (Ok b) new → IsInPages g r.size b
     in_pages_either true t fs b new chosen decides shared = absurd (not_alone_kind b.kind shared ((served_so (strategy s r (Some Required) t) s r t fs b new decides.1).alone refl).0)
     in_pages_either false t fs b new chosen decides shared =
         let granted = candidate_granted s paged hint t fs b new sound atoms (pages_askable g is s.properties.buffer_device_address r askable) chosen decides in
@@ -142,7 +142,7 @@ module _ (s : State) (r : Request) (hint : Option Dedicated) (g : ℕ) (is : IsG
 
     -- one candidate's grant
     pub candidate_in_pages : (t : ℕ) (fs : List Event) (b : Block) (new : State) → Contains (candidates_of s r) t
-        → allocation.Decides s (ask_in_pages s r hint paged t).request (ask_in_pages s r hint paged t).hint t fs (Ok b) new → IsInPages g r.size b
+        → allocation.CandidateDecides s (ask_in_pages s r hint paged t).request (ask_in_pages s r hint paged t).hint t fs (Ok b) new → IsInPages g r.size b
     candidate_in_pages t fs b new chosen decides = in_pages_either (serves_alone s paged hint t) t fs b new chosen decides
 
     pub granted_in_pages : (es : List Event) (answer : Result Block AllocationError) (new : State) → AllocatesBy s (plan_in_pages s r hint g) es answer new → IfOk answer (IsInPages g r.size)

@@ -7,7 +7,7 @@ use Rattle.std.specs.FinMap as finite
 use Rattle.gpu_alloc_types.specs.Properties.{Properties}
 use Rattle.gpu_alloc_base.specs.declared.config.Config.{Config}
 use Rattle.gpu_alloc_base.specs.declared.heap.Heap.{Heap}
-use Rattle.gpu_alloc_buddy.specs.BuddySound.{IsSound}
+use Rattle.gpu_alloc_buddy.specs.BuddySound.{IsSoundBuddy}
 use Rattle.gpu_alloc_buddy.specs.BuddyState.{Buddy}
 use Rattle.gpu_alloc_freelist.specs.FreeListSound as list
 use Rattle.gpu_alloc_freelist.specs.FreeListState.{Listing}
@@ -15,19 +15,19 @@ use Rattle.gpu_alloc_base.specs.Chunks.{Chunk}
 use Rattle.gpu_alloc_base.proofs.Leaves.{leaf_total, leaf_exact}
 use Rattle.gpu_alloc_base.proofs.Maps.{one_value}
 use Rattle.gpu_alloc_base.proofs.Slots.{slot_total, slot_exact}
-use Rattle.gpu_alloc_block.specs.Parts.{AreNamed, Holds, IsAt, Part}
+use Rattle.gpu_alloc_block.specs.Parts.{HaveOwnObjects, Holds, IsAt, Part}
 use Rattle.gpu_alloc_block.specs.State.{HeldObject, Span, State}
 use Rattle.gpu_alloc_block.specs.declared.block.Kind.TheVariants.{FreeListChunk}
 use Rattle.gpu_alloc_block.proofs.Parts.ByName.{name_there, name_was, span_row_live, span_row_there}
 use Rattle.gpu_alloc_block.proofs.Parts.Steps.{holds_of, own_part, part_span}
 use Rattle.gpu_alloc_block.proofs.Parts.Unions.{live_of}
-use Rattle.gpu_alloc_buddy.specs.BuddyState.{IsLiveLeaf}
+use Rattle.gpu_alloc_buddy.specs.BuddyState.{IsLiveBuddyLeaf}
 use Rattle.gpu_alloc_freelist.specs.FreeListState.{IsLiveSlot}
 use Rattle.gpu_alloc.specs.Inside.{fit_object, AreFits, IsChosen, IsFitChunkOf, IsFitFor, IsFitForType, IsFitLinked}
-use Rattle.gpu_alloc.specs.Inside.{chunk_object, leaf_at, list_object, properties_in, slot_at, span_of_leaf, span_of_slot, state_in, AreBuddies, AreLists, IsBooked, IsBuddyFor, IsChunkOf, IsForType, IsLinked, IsListFor, IsListForType, IsListLinked, IsNumberedChunk}
+use Rattle.gpu_alloc.specs.Inside.{chunk_object, leaf_at, list_object, properties_in, slot_at, span_of_leaf, span_of_slot, state_in, AreBuddies, AreLists, IsBooked, IsBuddyFor, IsChunkOf, IsForType, IsTableOfBuddy, IsListFor, IsListForType, IsListLinked, IsNumberedChunk}
 use Rattle.gpu_alloc.specs.Own.{OwnTable}
 use Rattle.gpu_alloc.specs.declared.limits.Limits.{Limits}
-use Rattle.gpu_alloc.specs.Whole.{buddy_part, fit_part, list_part, parts_of, whole, AreWhole, IsKept, IsPlace}
+use Rattle.gpu_alloc.specs.Whole.{buddy_part, fit_part, list_part, parts_of, whole, AreOneWhole, IsKept, IsPartFor}
 use Rattle.gpu_alloc.proofs.HeapLists.{each_set}
 use Rattle.gpu_alloc.proofs.Wholes.{at_buddy, at_fit, at_list, single, stands_at, within}
 use Rattle.gpu_alloc.specs.Spans.{Table}
@@ -42,8 +42,8 @@ use Rattle.gpu_alloc.proofs.Ledgers.{Held}
 
 pub record IsBuddyOf (c : Config) (p : Properties) (t : Table) (index : ℕ) (b : Buddy) : Type 0 where
   pub for_type : IsForType c p index b
-  pub sound : IsSound b
-  pub linked : IsLinked t b
+  pub sound : IsSoundBuddy b
+  pub linked : IsTableOfBuddy t b
 
 pub record HasBuddies (c : Config) (p : Properties) (t : Table) (buddies : List Buddy) : Type 0 where
   pub count : length buddies ≡ length p.memory_types
@@ -51,12 +51,12 @@ pub record HasBuddies (c : Config) (p : Properties) (t : Table) (buddies : List 
 
 pub record IsListOf (c : Config) (p : Properties) (t : Table) (index : ℕ) (l : Listing) : Type 0 where
   pub for_type : IsListForType c p index l
-  pub sound : list.IsSound l
+  pub sound : list.IsSoundListing l
   pub linked : IsListLinked t l
 
 pub record IsFitOf (c : Config) (p : Properties) (t : Table) (index : ℕ) (f : Fitting) : Type 0 where
   pub for_type : IsFitForType c p index f
-  pub sound : fit.IsSound f
+  pub sound : fit.IsSoundFitting f
   pub linked : IsFitLinked t f
 
 pub record HasFits (c : Config) (p : Properties) (t : Table) (fits : List Fitting) : Type 0 where
@@ -83,7 +83,7 @@ pub record IsRecorded (sharing : Sharing) (c : Config) (p : Properties) (heaps :
   pub chosen : IsChosen sharing t
 
 pub kept_as : (sharing : Sharing) (c : Config) (p : Properties) (heaps : List Heap) (buddies : List Buddy) (lists : List Listing) (fits : List Fitting) (own : OwnTable) (remaining : ℕ) → IsRecorded sharing c p heaps buddies lists fits (whole own buddies lists fits) remaining
-    → AreWhole own buddies lists fits → IsKept sharing c p heaps buddies lists fits own remaining
+    → AreOneWhole own buddies lists fits → IsKept sharing c p heaps buddies lists fits own remaining
 kept_as sharing c p heaps buddies lists fits own remaining is apart = record { books = is.books; shared = is.shared; listed = is.listed; fitted = is.fitted; chosen = is.chosen; apart = apart }
 
 -- fields that keep what they have to, and stand for this state
@@ -100,9 +100,9 @@ module _ (sharing : Sharing) (c : Config) (p : Properties) (heaps : List Heap) (
   ps = parts_of own buddies lists fits
 
   abbrev Spot : ℕ → HeldObject → Type 0
-  Spot = IsPlace (length buddies) (length lists)
+  Spot = IsPartFor (length buddies) (length lists)
 
-  buddy_linked : (index : ℕ) (b : Buddy) → slice_get buddies index ≡ Some b → IsBuddyFor c p index b → IsLinked t b
+  buddy_linked : (index : ℕ) (b : Buddy) → slice_get buddies index ≡ Some b → IsBuddyFor c p index b → IsTableOfBuddy t b
   buddy_linked index b there is = record {
     chunks = λ key chunk held. holds_of Spot ps kept.apart (suc index) (buddy_part b) chunk.object (chunk_object b chunk) at (name_there object_in b.chunks named key chunk held);
     objects = λ object h of.
@@ -112,7 +112,7 @@ module _ (sharing : Sharing) (c : Config) (p : Properties) (heaps : List Heap) (
     spans = λ span h live of.
         let stands = part_span Spot ps kept.apart (suc index) (buddy_part b) span h live (holds span.object h of) at in
         let row = span_row_there leaf_total leaf_exact span_of_leaf b.live span stands in
-        (record { chunk = row.0.chunk; index = row.0.index }, subst (λ (s : Span). IsLiveLeaf b (leaf_at s (record { chunk = row.0.chunk; index = row.0.index }))) row.2 row.1);
+        (record { chunk = row.0.chunk; index = row.0.index }, subst (λ (s : Span). IsLiveBuddyLeaf b (leaf_at s (record { chunk = row.0.chunk; index = row.0.index }))) row.2 row.1);
   }
     where
       object_in : ℕ → Chunk → HeldObject
@@ -124,7 +124,7 @@ module _ (sharing : Sharing) (c : Config) (p : Properties) (heaps : List Heap) (
       at : IsAt ps (suc index) (buddy_part b)
       at = at_buddy own buddies lists fits kept.apart index b (stands_at buddies index b there) known is.sound is.for_type.memory_type
 
-      named : AreNamed b.chunks
+      named : HaveOwnObjects b.chunks
       named = is.sound.space.one_object
 
       holds : (object : ℕ) (h : HeldObject) → IsChunkOf t b.memory_type object h → Holds (buddy_part b) object h
@@ -186,7 +186,7 @@ module _ (sharing : Sharing) (c : Config) (p : Properties) (heaps : List Heap) (
       at : IsAt ps spot (fit_part f)
       at = at_fit own buddies lists fits kept.apart index f (stands_at fits index f there) is.sound is.for_type.memory_type
 
-      named : AreNamed f.space.chunks
+      named : HaveOwnObjects f.space.chunks
       named = is.sound.space.one_object
 
       holds : (object : ℕ) (h : HeldObject) → IsFitChunkOf t f.memory_type object h → Holds (fit_part f) object h

@@ -3,7 +3,7 @@ use Rattle.std.proofs.Common.{◌≡◌, ℕ, List, [], ◌∷◌, Option, Some,
 use Rattle.std.specs.FinMap as finite
 use Rattle.gpu_alloc_types.specs.Device.{HeldWith, Object}
 use Rattle.gpu_alloc_types.specs.Properties.{Properties}
-use Rattle.gpu_alloc_block.specs.Agreement.{Agrees, IsThere}
+use Rattle.gpu_alloc_block.specs.Agreement.{Agrees, IsHeldThere}
 use Rattle.gpu_alloc_block.specs.State.{Block, HeldObject, IsOwned, State}
 use Rattle.gpu_alloc.specs.Owned.{AreOwned, Leaves, StaysAgreed}
 use Rattle.gpu_alloc.proofs.Agreeing.{there_kept}
@@ -20,7 +20,7 @@ module _ (s : State) (remaining : ℕ) (limits : List ℕ) where
   all_owned [] are = tt
   all_owned (b ∷ bs) are = (still_owned b are.0, are.1, all_owned bs are.2)
 
-  held : (name : ℕ) (objects : ℕ → Option Object) (v : Option HeldObject) → IfSome v (λ h. HeldWith objects name (IsThere s name h)) → IfSome v (λ h. HeldWith objects name (IsThere now name h))
+  held : (name : ℕ) (objects : ℕ → Option Object) (v : Option HeldObject) → IfSome v (λ h. HeldWith objects name (IsHeldThere s name h)) → IfSome v (λ h. HeldWith objects name (IsHeldThere now name h))
   held name objects None was = tt
   held name objects (Some h) was = (was.0, was.1, there_kept s now name h was.0 refl (λ span live of_it. live) was.2)
 

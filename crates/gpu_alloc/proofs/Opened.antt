@@ -12,14 +12,14 @@ use Rattle.gpu_alloc_types.specs.Properties.{Properties, IsUsable, heap_size, pr
 use Rattle.gpu_alloc_types.specs.declared.types.MemoryType.{MemoryType}
 use Rattle.gpu_alloc_types.specs.declared.types.MemoryHeap.{MemoryHeap}
 use Rattle.gpu_alloc_buddy.specs.Buddy as buddy
-use Rattle.gpu_alloc_buddy.specs.BuddySound.{IsSound}
+use Rattle.gpu_alloc_buddy.specs.BuddySound.{IsSoundBuddy}
 use Rattle.gpu_alloc_buddy.specs.BuddyState.{Buddy}
 use Rattle.gpu_alloc_freelist.specs.FreeListAllocator as list
-use Rattle.gpu_alloc_freelist.specs.FreeListSound.{IsSound as IsSoundListing}
+use Rattle.gpu_alloc_freelist.specs.FreeListSound.{IsSoundListing}
 use Rattle.gpu_alloc_freelist.specs.FreeListState.{Listing}
 use Rattle.gpu_alloc_fit.specs.Fit as fit
 use Rattle.gpu_alloc_fit.specs.Fit.{Fitting}
-use Rattle.gpu_alloc_fit.specs.FitSound.{IsSound as IsSoundFitting}
+use Rattle.gpu_alloc_fit.specs.FitSound.{IsSoundFitting}
 use Rattle.gpu_alloc_base.specs.FreeSpace.{IsMultipleOf}
 use Rattle.gpu_alloc_base.specs.Heap.{unused}
 use Rattle.gpu_alloc_base.proofs.ChunkSizes.{cut_whole, starting_fits}
@@ -89,8 +89,8 @@ each_more P [] x each is (suc i) = tt
 each_more P (y ∷ xs) x each is zero = each zero
 each_more P (y ∷ xs) x each is (suc i) = each_more (λ j. P (suc j)) xs x (λ j. each (suc j)) is i
 
-pub one_first_more : (c : Config) (p : Properties) (buddies : List Buddy) (t : ℕ) (b : Buddy) → AreFirstBuddies c p buddies → length buddies ≡ t → b ≡ first_buddy c p t → IsSound b → AreFirstBuddies c p (buddies ++ b ∷ [])
-one_first_more c p buddies t b are count is sound = each_more (λ i x. (x ≡ first_buddy c p i) × IsSound x) buddies b are (is ∙ ap (first_buddy c p) (sym count), sound)
+pub one_first_more : (c : Config) (p : Properties) (buddies : List Buddy) (t : ℕ) (b : Buddy) → AreFirstBuddies c p buddies → length buddies ≡ t → b ≡ first_buddy c p t → IsSoundBuddy b → AreFirstBuddies c p (buddies ++ b ∷ [])
+one_first_more c p buddies t b are count is sound = each_more (λ i x. (x ≡ first_buddy c p i) × IsSoundBuddy x) buddies b are (is ∙ ap (first_buddy c p) (sym count), sound)
 
 pub one_first_list_more : (c : Config) (p : Properties) (lists : List Listing) (t : ℕ) (l : Listing) → AreFirstListings c p lists → length lists ≡ t → l ≡ first_listing c p t → IsSoundListing l → AreFirstListings c p (lists ++ l ∷ [])
 one_first_list_more c p lists t l are count is sound = each_more (λ i x. (x ≡ first_listing c p i) × IsSoundListing x) lists l are (is ∙ ap (first_listing c p) (sym count), sound)
@@ -107,7 +107,7 @@ there_at (y ∷ ys) (suc j) x here = there_at ys j x here
 
 pub buddies_unused : (c : Config) (p : Properties) (buddies : List Buddy) → AreFirstBuddies c p buddies → (i : ℕ) (b : Buddy) → IsAt buddies i b → (b.chunks ≡ finite.empty) × (b.live ≡ set_of.empty)
 buddies_unused c p buddies are i b at =
-    let is = (subst (λ (o : Option Buddy). IfSome o (λ x. (x ≡ first_buddy c p i) × IsSound x)) (there_at buddies i b at) (are i)).0 in
+    let is = (subst (λ (o : Option Buddy). IfSome o (λ x. (x ≡ first_buddy c p i) × IsSoundBuddy x)) (there_at buddies i b at) (are i)).0 in
     (ap (λ (x : Buddy). x.chunks) is, ap (λ (x : Buddy). x.live) is)
 
 pub lists_unused : (c : Config) (p : Properties) (lists : List Listing) → AreFirstListings c p lists → (i : ℕ) (l : Listing) → IsAt lists i l → (l.space.chunks ≡ finite.empty) × (l.space.live ≡ set_of.empty)
@@ -131,7 +131,7 @@ first_types_kept c p buddies count are =
     types_kept (first_types c p) buddies (omega (arith, count, length-map p.memory_types (first_type_state c p)))
     (λ i. subst (λ o. IfSome o (λ t. IfSome (slice_get buddies i) (λ b. b.next_chunk ≡ t.next_chunk))) (sym (slice_get-map (first_type_state c p) p.memory_types i)) (of_type i (slice_get p.memory_types i) refl))
   where
-    next : (i : ℕ) (own : MemoryType) → slice_get p.memory_types i ≡ Some own → (o : Option Buddy) → IfSome o (λ b. (b ≡ first_buddy c p i) × IsSound b) → IfSome o (λ b. b.next_chunk ≡ (first_type_state c p own).next_chunk)
+    next : (i : ℕ) (own : MemoryType) → slice_get p.memory_types i ≡ Some own → (o : Option Buddy) → IfSome o (λ b. (b ≡ first_buddy c p i) × IsSoundBuddy b) → IfSome o (λ b. b.next_chunk ≡ (first_type_state c p own).next_chunk)
     next i own found None is = tt
     next i own found (Some b) is =
         let size : heap_size p i ≡ size_of (slice_get p.memory_heaps own.heap) = ap (λ o. size_of (slice_get p.memory_heaps (heap_of o))) found in
@@ -229,7 +229,7 @@ module _ (t : Table) (unheld : t.held ≡ finite.empty) (unused_spans : t.live �
 
 -- a memory type's first ones are for it
 
-buddy_for : (c : Config) (p : Properties) (i : ℕ) (b : Buddy) → b ≡ first_buddy c p i → IsSound b → IsBuddyFor c p i b
+buddy_for : (c : Config) (p : Properties) (i : ℕ) (b : Buddy) → b ≡ first_buddy c p i → IsSoundBuddy b → IsBuddyFor c p i b
 buddy_for c p i b is sound = record {
   for_type = record {
     memory_type = ap (λ (x : Buddy). x.memory_type) is;
@@ -288,7 +288,7 @@ kept-opened sharing c p heaps own buddies lists fits remaining held live usable 
       apart = apart_unused own buddies lists fits held live no_buddy no_list no_fit;
     }
   where
-    each : (i : ℕ) (o : Option Buddy) → IfSome o (λ b. (b ≡ first_buddy c p i) × IsSound b) → IfSome o (IsBuddyFor c p i)
+    each : (i : ℕ) (o : Option Buddy) → IfSome o (λ b. (b ≡ first_buddy c p i) × IsSoundBuddy b) → IfSome o (IsBuddyFor c p i)
     each i None is = tt
     each i (Some b) is = buddy_for c p i b is.0 is.1
 

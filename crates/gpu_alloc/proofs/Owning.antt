@@ -9,7 +9,7 @@ use Rattle.gpu_alloc.specs.Sound.{IsSound}
 use Rattle.gpu_alloc.specs.declared.request.Request.{Request}
 use Rattle.gpu_alloc_base.specs.declared.error.AllocationError.{AllocationError}
 use Rattle.gpu_alloc.proofs.Decisions.{allocates_kept}
-use Rattle.gpu_alloc_block.specs.State.{State, Block, Span, span_of, span_cmp, AreApart, IsLive, IsOwned, is_shared}
+use Rattle.gpu_alloc_block.specs.State.{State, Block, Span, span_of, span_cmp, AreSpansApart, IsLive, IsOwned, is_shared}
 use Rattle.gpu_alloc.proofs.Changes.{Grows, allocates_grow, granted_kept, apart_differ, still_owned}
 use Rattle.gpu_alloc_block.proofs.Kept.{two_back}
 use Rattle.gpu_alloc_block.proofs.LiveSpans.{span_total, live_new, live_still, live_kept, not_live, put_taken, taken_before}
@@ -54,7 +54,7 @@ module _ (s : State) (b : Block) (new : State) (grows : Grows s b new) where
   pub granted_all : (cs : List Block) → AreOwned s cs → AreOwned new cs
   granted_all = all_kept s new (granted_kept s b new grows)
 
-  module _ (sound : IsSound s) (free : (span : Span) → IsLive s span → AreApart span (span_of b)) (sound_new : IsSound new) (own : IsOwned new b) where
+  module _ (sound : IsSound s) (free : (span : Span) → IsLive s span → AreSpansApart span (span_of b)) (sound_new : IsSound new) (own : IsOwned new b) where
     -- the block is another than each that was owned
     pub granted_other : (c : Block) → IsOwned s c → AreTwo c b
     granted_other c owned =
@@ -66,7 +66,7 @@ module _ (s : State) (b : Block) (new : State) (grows : Grows s b new) where
     granted_more [] owned = (own, tt, tt)
     granted_more (c ∷ cs) owned = (granted_kept s b new grows c owned.0, beside_more b c cs owned.1 (granted_other c owned.0), granted_more cs owned.2)
 
-  module _ (sound : IsSound s) (free : (span : Span) → IsLive s span → AreApart span (span_of b)) where
+  module _ (sound : IsSound s) (free : (span : Span) → IsLive s span → AreSpansApart span (span_of b)) where
     not_yet : set.contains s.live (span_of b) ≡ false
     not_yet = not_live s.live (span_of b) (λ live. apart_differ (span_of b) (span_of b) (free (span_of b) live) (sound.nonempty (span_of b) live) refl)
 
@@ -78,7 +78,7 @@ module _ (s : State) (b : Block) (new : State) (grows : Grows s b new) where
   pub grant_leaves : Leaves s new
   grant_leaves = record { properties = grows.properties; sharing = grows.sharing; config = grows.config; limits = grows.limits; owned = granted_kept s b new grows; all = granted_all }
 
-  pub grant_adds : IsSound s → ((span : Span) → IsLive s span → AreApart span (span_of b)) → IsSound new → IsOwned new b → Adds s new b
+  pub grant_adds : IsSound s → ((span : Span) → IsLive s span → AreSpansApart span (span_of b)) → IsSound new → IsOwned new b → Adds s new b
   grant_adds sound free sound_new own =
       let other = granted_other sound free sound_new own in
       record {

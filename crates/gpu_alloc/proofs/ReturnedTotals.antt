@@ -4,7 +4,7 @@ use Rattle.std.proofs.lemmas.List.Elements.{Contains-get_or}
 use Rattle.std.specs.FinMap as map
 use Rattle.gpu_alloc_types.specs.Device.{Event}
 use Rattle.gpu_alloc.specs.FreeListSharing.{IsListChunk}
-use Rattle.gpu_alloc.specs.Release.{AreChunksGone, AreFitsGone, Frees, GoesWith, LetsGo, MayGo, without_all, without_span}
+use Rattle.gpu_alloc.specs.Release.{AreChunksGone, AreFitsGone, Frees, GoesWith, LetsGo, ListChunkMayGo, without_all, without_span}
 use Rattle.gpu_alloc_block.specs.State.{Block, HeldObject, IsOwned, State, total}
 use Rattle.gpu_alloc_block.specs.declared.block.Kind.{Kind}
 use Rattle.gpu_alloc_block.specs.declared.block.Kind.TheVariants.{Dedicated, Imported, BuddyChunk, FreeListChunk, FitChunk}
@@ -53,7 +53,7 @@ held_once held (object ∷ gone) is other =
 
 chunks_once : (s : State) (t : ℕ) (keep_last : Bool) (gone : List ℕ) → AreChunksGone s t keep_last gone → AreHeld s.held gone × AreOnce gone
 chunks_once s t keep_last gone chunks =
-    let may : (i d : ℕ) → i < length gone → (number : ℕ) × MayGo s t keep_last number (get_or gone i d) = λ i d lt. (chunks.all (get_or gone i d)).0 (Contains-get_or gone i d lt) in
+    let may : (i d : ℕ) → i < length gone → (number : ℕ) × ListChunkMayGo s t keep_last number (get_or gone i d) = λ i d lt. (chunks.all (get_or gone i d)).0 (Contains-get_or gone i d lt) in
     held_once s.held gone (λ i d lt. let chunk = (may i d lt).1.chunk in (chunk.chunk, chunk.held)) (λ i j d before within same.
     let first = may i d (omega (arith, before, within)) in
     let less = chunks.rising i j d first.0 first.0 before within first.1.chunk (subst (IsListChunk s t first.0) (sym same) first.1.chunk) in

@@ -4,7 +4,7 @@ use Rattle.std.proofs.lemmas.Bool.{cases_eq, cases_lt, cases_Bool}
 use Rattle.std.proofs.lemmas.Nat.{pow_pos}
 use Rattle.std.specs.FinMap as map
 use Rattle.gpu_alloc_types.specs.Properties.{Properties, atom_of, is_non_coherent}
-use Rattle.gpu_alloc_buddy.specs.BuddyState.{Buddy, IsLiveLeaf}
+use Rattle.gpu_alloc_buddy.specs.BuddyState.{Buddy, IsLiveBuddyLeaf}
 use Rattle.gpu_alloc_base.specs.Chunks.{Chunk}
 use Rattle.gpu_alloc_freelist.specs.FreeListState.{Listing, IsLiveSlot}
 use Rattle.gpu_alloc_base.specs.FreeSpace.{IsIn, IsMultipleOf, IsPowerOfTwo}
@@ -16,7 +16,7 @@ use Rattle.gpu_alloc.specs.Inside.{state_in, properties_in, types_in, lists_in, 
 use Rattle.gpu_alloc.proofs.Linked.{IsBuddyOf, IsFitOf, IsListOf, IsConsistent}
 use Rattle.gpu_alloc.specs.Sound.{IsSound, IsUnused, LiesIn, may_be_unused}
 use Rattle.gpu_alloc.specs.Spans.{Place, Table}
-use Rattle.gpu_alloc_block.specs.State.{HeldObject, Span, State, TypeState, AreApart, is_shared}
+use Rattle.gpu_alloc_block.specs.State.{HeldObject, Span, State, TypeState, AreSpansApart, is_shared}
 use Rattle.gpu_alloc_block.specs.declared.block.Kind.TheVariants.{BuddyChunk, FreeListChunk, FitChunk}
 use Rattle.gpu_alloc_block.specs.declared.sharing.Sharing.{Sharing}
 use Rattle.gpu_alloc_base.specs.declared.config.Config.{Config}
@@ -75,12 +75,12 @@ module _ {c : Config} {p : Properties} {t : Table} {b : Buddy} {object : ℕ} {h
   by_key = is.linked.objects object h held_as
 
   -- a live span is a live block of the chunk
-  leaf_of : (span : Span) → IsLiveIn t span → span.object ≡ object → (place : Place) × IsLiveLeaf b (leaf_at span place)
+  leaf_of : (span : Span) → IsLiveIn t span → span.object ≡ object → (place : Place) × IsLiveBuddyLeaf b (leaf_at span place)
   leaf_of span live named =
       let there = is.linked.spans span h live (subst (λ o. IsChunkOf t b.memory_type o h) (sym named) held_as) in
       there
 
-  of_chunk : (span : Span) (place : Place) → IsLiveLeaf b (leaf_at span place) → span.object ≡ object → (place.chunk ≡ by_key.0) × (span.offset + span.size ≤ h.counted) × (0 < span.size)
+  of_chunk : (span : Span) (place : Place) → IsLiveBuddyLeaf b (leaf_at span place) → span.object ≡ object → (place.chunk ≡ by_key.0) × (span.offset + span.size ≤ h.counted) × (0 < span.size)
   of_chunk span place live named =
       let lies = is.sound.space.inside (leaf_at span place) live in
       let key = is.sound.space.one_object place.chunk by_key.0 lies.chunk (chunk_at object h) lies.held by_key.1 (sym lies.object ∙ named) in
@@ -237,7 +237,7 @@ module _ {sharing : Sharing} {c : Config} {p : Properties} {t : Table} {buddies 
         ],
       )
 
-  are_apart : (x y : Span) → IsLiveIn t x → IsLiveIn t y → x ≢ y → AreApart x y
+  are_apart : (x y : Span) → IsLiveIn t x → IsLiveIn t y → x ≢ y → AreSpansApart x y
   are_apart x y live also other = elim (cases_eq x.object y.object) [
     | inl same ↦
         let of = is.books.spans x live in

@@ -10,7 +10,7 @@ use Rattle.gpu_alloc_types.specs.Device.{Event, Object}
 use Rattle.gpu_alloc_block.specs.State.{State, Block}
 use Rattle.gpu_alloc_base.specs.Case as case
 use Rattle.gpu_alloc_base.specs.Case.{Case}
-use Rattle.gpu_alloc.specs.Allocation.{candidates_of, passing, IsPassed, Decides, TriesAll, ObjectsTried}
+use Rattle.gpu_alloc.specs.Allocation.{candidates_of, passing, IsCandidatePassed, CandidateDecides, TriesAll, ObjectsTried}
 use Rattle.gpu_alloc.specs.declared.allocator.Ask.{Ask}
 use Rattle.gpu_alloc_base.specs.declared.error.AllocationError.{AllocationError}
 use Rattle.gpu_alloc_base.specs.declared.error.AllocationError.TheVariants.{OutOfDeviceMemory, OutOfHostMemory, NoCompatibleMemoryTypes, TooManyObjects}
@@ -31,15 +31,15 @@ module _ (s : State) (asked : ℕ → Ask) (allowed : ℕ → Bool) (ts : List �
   continues_past i es lt is goes fs answer new h = goes fs answer new (rw (drop-cons ts i 0 lt, is) h)
 
   pub continues_next : (i : ℕ) (es first_events : List Event) → i < length ts → allowed (get_or ts i 0) ≡ true
-      → Continues i es → IsPassed s (asked (get_or ts i 0)).request (asked (get_or ts i 0)).hint (get_or ts i 0) first_events → Continues (suc i) (es ++ first_events)
+      → Continues i es → IsCandidatePassed s (asked (get_or ts i 0)).request (asked (get_or ts i 0)).hint (get_or ts i 0) first_events → Continues (suc i) (es ++ first_events)
   continues_next i es first_events lt is goes passed fs answer new h =
       rw append_assoc (goes (first_events ++ fs) answer new (rw (first i lt is) (inl (first_events, fs, refl, passed, h))))
 
   -- the candidate at rank i decides, in a state that is equal
   pub continues_decided : (now : State) (i : ℕ) (es fs : List Event) (answer : Result Block AllocationError) (new : State) → now ≡ s → i < length ts
-      → allowed (get_or ts i 0) ≡ true → Continues i es → Decides now (asked (get_or ts i 0)).request (asked (get_or ts i 0)).hint (get_or ts i 0) fs answer new → TriesAll s asked (filter allowed ts) (es ++ fs) answer new
+      → allowed (get_or ts i 0) ≡ true → Continues i es → CandidateDecides now (asked (get_or ts i 0)).request (asked (get_or ts i 0)).hint (get_or ts i 0) fs answer new → TriesAll s asked (filter allowed ts) (es ++ fs) answer new
   continues_decided now i es fs answer new same lt is goes decides =
-      goes fs answer new (rw (first i lt is) (inr (subst (λ x. Decides x (asked (get_or ts i 0)).request (asked (get_or ts i 0)).hint (get_or ts i 0) fs answer new) same decides)))
+      goes fs answer new (rw (first i lt is) (inr (subst (λ x. CandidateDecides x (asked (get_or ts i 0)).request (asked (get_or ts i 0)).hint (get_or ts i 0) fs answer new) same decides)))
 
   -- all were passed
   pub continues_end : (i : ℕ) (es : List Event) → length ts ≤ i → Continues i es → TriesAll s asked (filter allowed ts) es (Err OutOfDeviceMemory) s
@@ -47,11 +47,11 @@ module _ (s : State) (asked : ℕ → Ask) (allowed : ℕ → Bool) (ts : List �
       let h = goes [] (Err OutOfDeviceMemory) s (rw (drop_of_length-le ts le) (refl, refl, refl)) in rw append-nil at h
 
 -- the same decision, told of what is equal
-pub decides_as : (now s : State) (a b : Ask) (t u : ℕ) → now ≡ s → a ≡ b → t ≡ u → (es : List Event) (answer : Result Block AllocationError) (new : State) → Decides now a.request a.hint t es answer new → Decides s b.request b.hint u es answer new
+pub decides_as : (now s : State) (a b : Ask) (t u : ℕ) → now ≡ s → a ≡ b → t ≡ u → (es : List Event) (answer : Result Block AllocationError) (new : State) → CandidateDecides now a.request a.hint t es answer new → CandidateDecides s b.request b.hint u es answer new
 decides_as now s a b t u same is at es answer new decides =
-    subst (λ x. Decides x b.request b.hint u es answer new) same
-    (subst (λ (x : Ask). Decides now x.request x.hint u es answer new) is
-    (subst (λ n. Decides now a.request a.hint n es answer new) at decides))
+    subst (λ x. CandidateDecides x b.request b.hint u es answer new) same
+    (subst (λ (x : Ask). CandidateDecides now x.request x.hint u es answer new) is
+    (subst (λ n. CandidateDecides now a.request a.hint n es answer new) at decides))
 
 -- A refusal.
 

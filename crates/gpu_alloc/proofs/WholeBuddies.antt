@@ -9,17 +9,17 @@ use Rattle.gpu_alloc_base.specs.Chunks.{Chunk}
 use Rattle.gpu_alloc_base.specs.Leaves.{leaf_cmp}
 use Rattle.gpu_alloc_base.specs.declared.buddy_block.Leaf.{Leaf}
 use Rattle.gpu_alloc_base.proofs.Leaves.{leaf_exact, leaf_total}
-use Rattle.gpu_alloc_block.specs.Parts.{AreNamed}
+use Rattle.gpu_alloc_block.specs.Parts.{HaveOwnObjects}
 use Rattle.gpu_alloc_block.specs.State.{HeldObject, Span}
 use Rattle.gpu_alloc_block.specs.declared.block.Kind.TheVariants.{BuddyChunk}
-use Rattle.gpu_alloc_buddy.specs.BuddySound.{IsSound}
-use Rattle.gpu_alloc_buddy.specs.BuddyState.{Buddy, IsLiveLeaf, space_of}
+use Rattle.gpu_alloc_buddy.specs.BuddySound.{IsSoundBuddy}
+use Rattle.gpu_alloc_buddy.specs.BuddyState.{Buddy, IsLiveBuddyLeaf, space_of}
 use Rattle.gpu_alloc_pairs.specs.HeldLists.{ListsChunks}
 use Rattle.gpu_alloc_pairs.specs.declared.pairs.Chunk.{Chunk as Row}
 use Rattle.gpu_alloc_pairs.proofs.LiveSpans.{one_leaf}
 use Rattle.gpu_alloc.specs.Inside.{chunk_object, span_of_leaf}
 use Rattle.gpu_alloc.specs.Listing.{AreOnce}
-use Rattle.gpu_alloc.specs.Spans.{entry_of, objects_in, span_in}
+use Rattle.gpu_alloc.specs.Spans.{held_entry_of, held_objects_in, span_in}
 use Rattle.gpu_alloc.specs.Whole.{buddy_part}
 use Rattle.gpu_alloc.specs.declared.spans.HeldRow.{HeldRow}
 use Rattle.gpu_alloc.proofs.WholeRows.{key_listed, keyed_count, keyed_held, keyed_rows_are, keyed_rows_once, keyed_unheld, own_spans_are, own_spans_once}
@@ -31,7 +31,7 @@ abbrev pub buddy_row : {M : Type 0} → (M → ℕ) → ℕ → ℕ × Row M →
 buddy_row object memory_type e =
     (object e.1.memory, record { memory_type = memory_type; counted = 2 ^ e.1.order; kind = BuddyChunk })
 
-module _ {M : Type 0} (object : M → ℕ) (b : Buddy) (named : AreNamed b.chunks) (listed : List (ℕ × Row M)) (lists : ListsChunks object b.chunks listed) where
+module _ {M : Type 0} (object : M → ℕ) (b : Buddy) (named : HaveOwnObjects b.chunks) (listed : List (ℕ × Row M)) (lists : ListsChunks object b.chunks listed) where
   abbrev said : Row M → Chunk
   said row = record { object = object row.memory; size = 2 ^ row.order }
 
@@ -48,10 +48,10 @@ module _ {M : Type 0} (object : M → ℕ) (b : Buddy) (named : AreNamed b.chunk
   buddy_chunk_unheld = keyed_unheld said (chunk_object b) b.chunks named lists.rows lists.exact listed lists.are
 
   module _ (memory_type : ℕ) (typed : b.memory_type ≡ memory_type) where
-    says : (e : ℕ × Row M) → ◌≡◌ {A = ℕ × HeldObject} (entry_of (buddy_row object memory_type e)) (object e.1.memory, chunk_object b (said e.1))
+    says : (e : ℕ × Row M) → ◌≡◌ {A = ℕ × HeldObject} (held_entry_of (buddy_row object memory_type e)) (object e.1.memory, chunk_object b (said e.1))
     says e i = (object e.1.memory, record { memory_type = sym typed i; counted = 2 ^ e.1.order; kind = BuddyChunk })
 
-    pub buddy_rows_are : objects_in (map (buddy_row object memory_type) listed) ≡ (buddy_part b).held
+    pub buddy_rows_are : held_objects_in (map (buddy_row object memory_type) listed) ≡ (buddy_part b).held
     buddy_rows_are = keyed_rows_are said (chunk_object b) b.chunks named lists.rows lists.exact listed lists.are (buddy_row object memory_type) says
 
     pub buddy_rows_once : IsDistinct nat_eq (keys_of (map (buddy_row object memory_type) listed))
@@ -63,11 +63,11 @@ module _ {M : Type 0} (object : M → ℕ) (b : Buddy) (named : AreNamed b.chunk
 -- Its live blocks.
 
 -- no two live blocks have one span
-one_span : (b : Buddy) → IsSound b → (x y : Leaf) → IsLiveLeaf b x → IsLiveLeaf b y → ◌≡◌ {A = Span} (span_of_leaf x) (span_of_leaf y) → x ≡ y
+one_span : (b : Buddy) → IsSoundBuddy b → (x y : Leaf) → IsLiveBuddyLeaf b x → IsLiveBuddyLeaf b y → ◌≡◌ {A = Span} (span_of_leaf x) (span_of_leaf y) → x ≡ y
 one_span b sound x y live also same =
     one_leaf (space_of b) sound.space x y live also (ap (λ (s : Span). s.object) same) (ap (λ (s : Span). s.offset) same)
 
-module _ (b : Buddy) (sound : IsSound b) (leaves : List Leaf) (exact : set.from_list leaves ≡ b.live) (once : IsDistinct (eq_by_cmp leaf_cmp) leaves) where
+module _ (b : Buddy) (sound : IsSoundBuddy b) (leaves : List Leaf) (exact : set.from_list leaves ≡ b.live) (once : IsDistinct (eq_by_cmp leaf_cmp) leaves) where
   pub leaf_rows_are : set.from_list (map span_in leaves) ≡ (buddy_part b).live
   leaf_rows_are = own_spans_are leaf_total leaf_exact span_of_leaf b.live (one_span b sound) leaves exact once
 

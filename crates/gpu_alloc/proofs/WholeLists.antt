@@ -18,17 +18,17 @@ use Rattle.gpu_alloc_base.proofs.ListViews.{AreNamedApart, seek_name}
 use Rattle.gpu_alloc_base.proofs.Maps.{one_value}
 use Rattle.gpu_alloc_base.proofs.SlabViews.{in_set, map_absent, map_there}
 use Rattle.gpu_alloc_base.proofs.Slots.{slot_exact, slot_total}
-use Rattle.gpu_alloc_block.specs.Parts.{AreNamed}
+use Rattle.gpu_alloc_block.specs.Parts.{HaveOwnObjects}
 use Rattle.gpu_alloc_block.specs.State.{HeldObject, Span, span_cmp}
 use Rattle.gpu_alloc_block.specs.declared.block.Kind.TheVariants.{FreeListChunk}
 use Rattle.gpu_alloc_freelist.specs.Chunks.{ListsChunks, chunk_of}
-use Rattle.gpu_alloc_freelist.specs.FreeListSound.{IsSound}
+use Rattle.gpu_alloc_freelist.specs.FreeListSound.{IsSoundListing}
 use Rattle.gpu_alloc_freelist.specs.FreeListState.{Listing}
 use Rattle.gpu_alloc_freelist.specs.Live.{ListsSlots}
 use Rattle.gpu_alloc_freelist.specs.declared.freelist.chunks.NumberedChunk.{NumberedChunk}
 use Rattle.gpu_alloc.specs.Inside.{list_object, span_of_slot}
 use Rattle.gpu_alloc.specs.Listing.{AreOnce}
-use Rattle.gpu_alloc.specs.Spans.{entry_of, objects_in, span_in}
+use Rattle.gpu_alloc.specs.Spans.{held_entry_of, held_objects_in, span_in}
 use Rattle.gpu_alloc.specs.Whole.{list_part}
 use Rattle.gpu_alloc.specs.declared.spans.HeldRow.{HeldRow}
 use Rattle.gpu_alloc_base.specs.declared.buddy_block.Leaf.{Leaf as LiveSpan}
@@ -43,7 +43,7 @@ abbrev pub chunk_row : {M : Type 0} → (M → ℕ) → ℕ → ℕ × NumberedC
 chunk_row object memory_type e =
     (object e.1.memory, record { memory_type = memory_type; counted = e.1.size; kind = FreeListChunk e.1.number })
 
-module _ {M : Type 0} (object : M → ℕ) (l : Listing) (named : AreNamed l.space.chunks) (listed : List (ℕ × NumberedChunk M)) (lists : ListsChunks object l.space.chunks listed) where
+module _ {M : Type 0} (object : M → ℕ) (l : Listing) (named : HaveOwnObjects l.space.chunks) (listed : List (ℕ × NumberedChunk M)) (lists : ListsChunks object l.space.chunks listed) where
   -- a row's chunk is held under its number
   is_held : (key : ℕ) (row : NumberedChunk M) → get lists.rows key ≡ Some row → finite.get l.space.chunks row.number ≡ Some (chunk_of object row)
   is_held key row at =
@@ -91,10 +91,10 @@ module _ {M : Type 0} (object : M → ℕ) (l : Listing) (named : AreNamed l.spa
   chunk_unheld = unlisted_unheld number said (list_object l) l.space.chunks named listed as_held entry_for apart
 
   module _ (memory_type : ℕ) (typed : l.memory_type ≡ memory_type) where
-    says : (e : ℕ × NumberedChunk M) → ◌≡◌ {A = ℕ × HeldObject} (entry_of (chunk_row object memory_type e)) (object e.1.memory, list_object l (number e) (said e))
+    says : (e : ℕ × NumberedChunk M) → ◌≡◌ {A = ℕ × HeldObject} (held_entry_of (chunk_row object memory_type e)) (object e.1.memory, list_object l (number e) (said e))
     says e i = (object e.1.memory, record { memory_type = sym typed i; counted = e.1.size; kind = FreeListChunk e.1.number })
 
-    pub chunk_rows_are : objects_in (map (chunk_row object memory_type) listed) ≡ (list_part l).held
+    pub chunk_rows_are : held_objects_in (map (chunk_row object memory_type) listed) ≡ (list_part l).held
     chunk_rows_are = held_rows_are number said (list_object l) l.space.chunks named listed as_held entry_for apart (chunk_row object memory_type) says
 
     pub chunk_rows_once : IsDistinct nat_eq (keys_of (map (chunk_row object memory_type) listed))
@@ -109,7 +109,7 @@ module _ {M : Type 0} (object : M → ℕ) (l : Listing) (named : AreNamed l.spa
 abbrev pub slot_row : ℕ × Slot → LiveSpan
 slot_row e = record { object = e.1.object; offset = e.1.offset; size = e.1.size; chunk = 0; index = e.0 }
 
-module _ (l : Listing) (sound : IsSound l) (listed : List (ℕ × Slot)) (lists : ListsSlots l.space.live listed) where
+module _ (l : Listing) (sound : IsSoundListing l) (listed : List (ℕ × Slot)) (lists : ListsSlots l.space.live listed) where
   under : (e : ℕ × Slot) → Contains listed e → get lists.slots e.0 ≡ Some e.1
   under e has = (Contains-entries lists.slots e.0 e.1).0 (subst (λ (es : List (ℕ × Slot)). Contains es e) lists.are has)
 

@@ -16,14 +16,14 @@ use Rattle.gpu_alloc_block.specs.declared.block.Kind.TheVariants.{BuddyChunk, Fr
 use Rattle.gpu_alloc_block.proofs.Parts.ByName.{name_there, name_was, span_row_live, span_row_there}
 use Rattle.gpu_alloc_block.proofs.Parts.Steps.{holds_of, own_part, part_span}
 use Rattle.gpu_alloc_block.proofs.Parts.Unions.{live_of}
-use Rattle.gpu_alloc_buddy.specs.BuddyState.{Buddy, IsLiveSpan, IsNoLiveSpan}
+use Rattle.gpu_alloc_buddy.specs.BuddyState.{Buddy, IsLiveBuddySpan, IsNoLiveBuddySpan}
 use Rattle.gpu_alloc_fit.specs.Fit.{Fitting}
-use Rattle.gpu_alloc_fits.specs.Space.{IsLiveSpan as IsLiveFitSpan, IsNoLiveSpan as IsNoLiveFitSpan}
+use Rattle.gpu_alloc_fits.specs.Space.{IsLiveFitSpan, IsNoLiveFitSpan}
 use Rattle.gpu_alloc_freelist.specs.FreeListState.{Listing, IsLiveSlot}
 use Rattle.gpu_alloc.specs.Inside.{IsBuddyFor, IsFitFor, IsListFor, chunk_object, fit_object, list_object, properties_in, slot_at, span_of_leaf, span_of_slot, state_in}
 use Rattle.gpu_alloc.specs.Own.{OwnTable, IsRowOf, own_held, own_span}
 use Rattle.gpu_alloc.specs.Spans.{span_at}
-use Rattle.gpu_alloc.specs.Whole.{IsKept, IsPlace, buddy_part, fit_part, list_part, own_part as part_of_own, parts_of, whole}
+use Rattle.gpu_alloc.specs.Whole.{IsKept, IsPartFor, buddy_part, fit_part, list_part, own_part as part_of_own, parts_of, whole}
 use Rattle.gpu_alloc.specs.declared.limits.Limits.{Limits}
 use Rattle.gpu_alloc.specs.declared.own.OwnRow.{OwnRow}
 use Rattle.gpu_alloc.proofs.WholeParts.{next_buddy, next_fit, next_list}
@@ -37,7 +37,7 @@ module _ {A : Type 0} (l : Limits A) (heaps : List Heap) (buddies : List Buddy) 
   ps = parts_of own buddies lists fits
 
   abbrev Place : ℕ → HeldObject → Type 0
-  Place = IsPlace (length buddies) (length lists)
+  Place = IsPartFor (length buddies) (length lists)
 
   -- not where there is no such memory type
   pub unknown_unowned : (count : ℕ) → count ≡ length (properties_in l heaps).memory_types → count ≤ b.memory_type → IsOwned state b → ⊥
@@ -76,7 +76,7 @@ module _ {A : Type 0} (l : Limits A) (heaps : List Heap) (buddies : List Buddy) 
     buddy_stands : IsAt ps (suc b.memory_type) (buddy_part bd)
     buddy_stands = at_buddy own buddies lists fits kept.apart b.memory_type bd (at_read buddies b.memory_type bd inside at) inside its_buddy.sound its_buddy.for_type.memory_type
 
-    leaf_owned : (leaf : Leaf) → IsLiveSpan bd b.object b.offset b.size leaf → IsOwned state b
+    leaf_owned : (leaf : Leaf) → IsLiveBuddySpan bd b.object b.offset b.size leaf → IsOwned state b
     leaf_owned leaf is =
         let lies = its_buddy.sound.space.inside leaf is.live in
         let there = name_there (λ _ c. chunk_object bd c) bd.chunks its_buddy.sound.space.one_object leaf.chunk lies.chunk lies.held in
@@ -88,7 +88,7 @@ module _ {A : Type 0} (l : Limits A) (heaps : List Heap) (buddies : List Buddy) 
           held = (chunk_object bd lies.chunk, ap (finite.get (whole own buddies lists fits).held) (sym is.of_object ∙ lies.object) ∙ held, its_buddy.for_type.memory_type, sym kind);
         }
 
-    owned_leaf : IsOwned state b → (leaf : Leaf) × IsLiveSpan bd b.object b.offset b.size leaf
+    owned_leaf : IsOwned state b → (leaf : Leaf) × IsLiveBuddySpan bd b.object b.offset b.size leaf
     owned_leaf owned =
         let held = own_part Place ps kept.apart (single (length buddies) (length lists)) (suc b.memory_type) (buddy_part bd) b.object owned.held.0 owned.held.1 (inl (owned.held.3 ∙ kind, owned.held.2, inside)) buddy_stands in
         let has = part_span Place ps kept.apart (suc b.memory_type) (buddy_part bd) (span_of b) owned.held.0 owned.live held buddy_stands in
@@ -98,7 +98,7 @@ module _ {A : Type 0} (l : Limits A) (heaps : List Heap) (buddies : List Buddy) 
         )
 
     -- so it is where one of its span is found
-    pub found_owned : (o : Option Leaf) → MatchOption o (IsNoLiveSpan bd b.object b.offset b.size) (IsLiveSpan bd b.object b.offset b.size) → IsTrue (is_some o) ↔ IsOwned state b
+    pub found_owned : (o : Option Leaf) → MatchOption o (IsNoLiveBuddySpan bd b.object b.offset b.size) (IsLiveBuddySpan bd b.object b.offset b.size) → IsTrue (is_some o) ↔ IsOwned state b
     found_owned None none = (λ no. absurd (cc), λ owned. absurd (let leaf = owned_leaf owned in none leaf.0 leaf.1))
     found_owned (Some leaf) is = (λ yes. leaf_owned leaf is, λ owned. refl)
 

@@ -14,7 +14,7 @@ use Rattle.std.proofs.lemmas.Map.Views.{list_any-from_Contains}
 use Rattle.gpu_alloc_base.proofs.Lists.{contains_head, contains_later}
 use Rattle.gpu_alloc_base.proofs.ListSets.{key_test}
 use Rattle.gpu_alloc_base.proofs.ListViews.{AreNamedApart, named_len}
-use Rattle.gpu_alloc_block.specs.Parts.{AreApart, Part, held_in, join, live_in}
+use Rattle.gpu_alloc_block.specs.Parts.{ArePartsApart, Part, held_in_parts, join, live_in_parts}
 use Rattle.gpu_alloc_block.specs.State.{HeldObject, Span, span_cmp}
 use Rattle.gpu_alloc_block.proofs.LiveSpans.{not_live, span_exact, span_total}
 use Rattle.gpu_alloc_block.proofs.Parts.Entries.{first, second, later_above, t_true, there_entry}
@@ -26,8 +26,8 @@ use Rattle.gpu_alloc_freelist.specs.FreeListState.{Listing}
 use Rattle.gpu_alloc.specs.Inside.{properties_in, IsBuddyFor, IsFitFor, IsListFor}
 use Rattle.gpu_alloc.specs.Listing.{AreOnce}
 use Rattle.gpu_alloc.specs.Own.{OwnTable}
-use Rattle.gpu_alloc.specs.Spans.{objects_in}
-use Rattle.gpu_alloc.specs.Whole.{AreWhole, IsKept, IsPlace, buddy_part, fit_part, list_part, parts_of, whole}
+use Rattle.gpu_alloc.specs.Spans.{held_objects_in}
+use Rattle.gpu_alloc.specs.Whole.{AreOneWhole, IsKept, IsPartFor, buddy_part, fit_part, list_part, parts_of, whole}
 use Rattle.gpu_alloc.specs.declared.limits.Limits.{Limits}
 use Rattle.gpu_alloc.specs.declared.spans.HeldRow.{HeldRow}
 use Rattle.gpu_alloc.proofs.Tables.Listed.{appended_cases, distinct_append, distinct_named, once_append, spans_append}
@@ -40,19 +40,19 @@ Held = finite.FinMap nat_cmp HeldObject
 abbrev pub Live : Type 0
 Live = set.FinSet span_cmp
 
-get_more : (p : Part) (ps : List Part) (q : ℕ) → finite.get (held_in (p ∷ ps)) q ≡ or_else (finite.get p.held q) (finite.get (held_in ps) q)
-get_more p ps q = get_join nat_cmp nat_cmp_total p.held (held_in ps) q
+get_more : (p : Part) (ps : List Part) (q : ℕ) → finite.get (held_in_parts (p ∷ ps)) q ≡ or_else (finite.get p.held q) (finite.get (held_in_parts ps) q)
+get_more p ps q = get_join nat_cmp nat_cmp_total p.held (held_in_parts ps) q
 
-live_more : (p : Part) (ps : List Part) (q : Span) → set.contains (live_in (p ∷ ps)) q ≡ (set.contains p.live q || set.contains (live_in ps) q)
-live_more p ps q = set.contains-union span_total p.live (live_in ps) q
+live_more : (p : Part) (ps : List Part) (q : Span) → set.contains (live_in_parts (p ∷ ps)) q ≡ (set.contains p.live q || set.contains (live_in_parts ps) q)
+live_more p ps q = set.contains-union span_total p.live (live_in_parts ps) q
 
 -- Look for a name.
 
-pub first_holds : (p : Part) (ps : List Part) (q : ℕ) (h : HeldObject) → finite.get p.held q ≡ Some h → finite.get (held_in (p ∷ ps)) q ≡ Some h
-first_holds p ps q h is = get_more p ps q ∙ ap (λ o. or_else o (finite.get (held_in ps) q)) is
+pub first_holds : (p : Part) (ps : List Part) (q : ℕ) (h : HeldObject) → finite.get p.held q ≡ Some h → finite.get (held_in_parts (p ∷ ps)) q ≡ Some h
+first_holds p ps q h is = get_more p ps q ∙ ap (λ o. or_else o (finite.get (held_in_parts ps) q)) is
 
-pub rest_holds : (p : Part) (ps : List Part) (q : ℕ) → finite.get p.held q ≡ None → finite.get (held_in (p ∷ ps)) q ≡ finite.get (held_in ps) q
-rest_holds p ps q none = get_more p ps q ∙ ap (λ o. or_else o (finite.get (held_in ps) q)) none
+pub rest_holds : (p : Part) (ps : List Part) (q : ℕ) → finite.get p.held q ≡ None → finite.get (held_in_parts (p ∷ ps)) q ≡ finite.get (held_in_parts ps) q
+rest_holds p ps q none = get_more p ps q ∙ ap (λ o. or_else o (finite.get (held_in_parts ps) q)) none
 
 -- Buddy allocators, free lists and allocators of fit chunks by memory type.
 
@@ -118,31 +118,31 @@ module _ {A : Type 0} (l : Limits A) (heaps : List Heap) (buddies : List Buddy) 
 abbrev pub AreSeparate : List Part → Type 0
 AreSeparate [] = Unit {0}
 AreSeparate (p ∷ ps) =
-    ((q : ℕ) (h : HeldObject) → finite.get p.held q ≡ Some h → finite.get (held_in ps) q ≡ None)
-    × ((q : Span) → IsTrue (set.contains p.live q) → set.contains (live_in ps) q ≡ false)
+    ((q : ℕ) (h : HeldObject) → finite.get p.held q ≡ Some h → finite.get (held_in_parts ps) q ≡ None)
+    × ((q : Span) → IsTrue (set.contains p.live q) → set.contains (live_in_parts ps) q ≡ false)
     × AreSeparate ps
 
-later_apart : (IsPlace : ℕ → HeldObject → Type 0) (p : Part) (ps : List Part) → AreApart IsPlace (p ∷ ps) → AreApart (λ i. IsPlace (suc i)) ps
-later_apart IsPlace p ps a = record {
+later_apart : (IsPartFor : ℕ → HeldObject → Type 0) (p : Part) (ps : List Part) → ArePartsApart IsPartFor (p ∷ ps) → ArePartsApart (λ i. IsPartFor (suc i)) ps
+later_apart IsPartFor p ps a = record {
   placed = λ i r q h at is. a.placed (suc i) r q h at is;
   once = λ i j r s q h k at_i at_j has_r has_s. (let same : suc i ≡ suc j = a.once (suc i) (suc j) r s q h k at_i at_j has_r has_s in omega (arith, same));
   inside = λ i r span at live. a.inside (suc i) r span at live;
 }
 
-pub separate : (IsPlace : ℕ → HeldObject → Type 0) (ps : List Part) → AreApart IsPlace ps → AreSeparate ps
-separate IsPlace [] a = tt
-separate IsPlace (p ∷ ps) a = (
-  λ q h has. none q h has (finite.get (held_in ps) q) refl,
-  λ q live. not_live (live_in ps) q (λ there.
+pub separate : (IsPartFor : ℕ → HeldObject → Type 0) (ps : List Part) → ArePartsApart IsPartFor ps → AreSeparate ps
+separate IsPartFor [] a = tt
+separate IsPartFor (p ∷ ps) a = (
+  λ q h has. none q h has (finite.get (held_in_parts ps) q) refl,
+  λ q live. not_live (live_in_parts ps) q (λ there.
       let found = live_at ps q there in
       let here = a.inside zero p q refl live in
       let later = a.inside (suc found.0) found.1 q found.2 found.3 in
       let same : zero ≡ suc found.0 = a.once zero (suc found.0) p found.1 q.object here.0 later.0 refl found.2 here.1 later.1 in
       omega (arith, same)),
-  separate (λ i. IsPlace (suc i)) ps (later_apart IsPlace p ps a),
+  separate (λ i. IsPartFor (suc i)) ps (later_apart IsPartFor p ps a),
 )
   where
-    none : (q : ℕ) (h : HeldObject) → finite.get p.held q ≡ Some h → (o : Option HeldObject) → finite.get (held_in ps) q ≡ o → finite.get (held_in ps) q ≡ None
+    none : (q : ℕ) (h : HeldObject) → finite.get p.held q ≡ Some h → (o : Option HeldObject) → finite.get (held_in_parts ps) q ≡ o → finite.get (held_in_parts ps) q ≡ None
     none q h has None is = is
     none q h has (Some k) is =
         let found = held_at ps q k is in
@@ -191,19 +191,19 @@ join_len m n other =
 
 -- so many were counted, and with what the parts that are left hold it is all
 pub record AreCounted (all count : ℕ) (ps : List Part) : Type 0 where
-  pub exact : count + finite.len (held_in ps) ≡ all
+  pub exact : count + finite.len (held_in_parts ps) ≡ all
   pub separate : AreSeparate ps
 
 -- the objects of one block are the first
-pub own_counted : (own : OwnTable) (buddies : List Buddy) (lists : List Listing) (fits : List Fitting) → AreWhole own buddies lists fits
+pub own_counted : (own : OwnTable) (buddies : List Buddy) (lists : List Listing) (fits : List Fitting) → AreOneWhole own buddies lists fits
     → AreCounted (finite.len (whole own buddies lists fits).held) (finite.len own.held) (left_from buddies lists fits 0)
 own_counted own buddies lists fits apart =
-    let parts = separate (IsPlace (length buddies) (length lists)) (parts_of own buddies lists fits) apart in
-    record { exact = sym (join_len own.held (held_in (left_from buddies lists fits 0)) parts.0); separate = parts.2 }
+    let parts = separate (IsPartFor (length buddies) (length lists)) (parts_of own buddies lists fits) apart in
+    record { exact = sym (join_len own.held (held_in_parts (left_from buddies lists fits 0)) parts.0); separate = parts.2 }
 
 pub counted_next : (all count more : ℕ) (p : Part) (ps : List Part) → AreCounted all count (p ∷ ps) → more ≡ finite.len p.held → AreCounted all (count + more) ps
 counted_next all count more p ps counted is = record {
-  exact = omega (arith, counted.exact, is, join_len p.held (held_in ps) counted.separate.0);
+  exact = omega (arith, counted.exact, is, join_len p.held (held_in_parts ps) counted.separate.0);
   separate = counted.separate.2;
 }
 
@@ -214,17 +214,17 @@ counted_all all count counted = omega (arith, counted.exact, finite.len-empty na
 
 -- all is what these rows say with what the parts that are left hold
 pub record AreMet (all : Held) (rows : List (ℕ × HeldRow)) (ps : List Part) : Type 0 where
-  pub exact : (q : ℕ) → finite.get all q ≡ or_else (finite.get (objects_in rows) q) (finite.get (held_in ps) q)
+  pub exact : (q : ℕ) → finite.get all q ≡ or_else (finite.get (held_objects_in rows) q) (finite.get (held_in_parts ps) q)
   pub once : IsDistinct nat_eq (keys_of rows)
-  pub apart : (q : ℕ) (h : HeldObject) → finite.get (objects_in rows) q ≡ Some h → finite.get (held_in ps) q ≡ None
+  pub apart : (q : ℕ) (h : HeldObject) → finite.get (held_objects_in rows) q ≡ Some h → finite.get (held_in_parts ps) q ≡ None
   pub separate : AreSeparate ps
 
-none_met : (q : ℕ) → finite.get (objects_in []) q ≡ None
+none_met : (q : ℕ) → finite.get (held_objects_in []) q ≡ None
 none_met q = finite.get-empty nat_cmp q
 
-pub met_none : (ps : List Part) → AreSeparate ps → AreMet (held_in ps) [] ps
+pub met_none : (ps : List Part) → AreSeparate ps → AreMet (held_in_parts ps) [] ps
 met_none ps separate = record {
-  exact = λ q. sym (ap (λ o. or_else o (finite.get (held_in ps) q)) (none_met q));
+  exact = λ q. sym (ap (λ o. or_else o (finite.get (held_in_parts ps) q)) (none_met q));
   once = distinct_named (λ (q : ℕ). q) [] tt;
   apart = λ q h has. (let bad : None ≡ Some h = sym (none_met q) ∙ has in absurd (cc));
   separate = separate;
@@ -238,9 +238,9 @@ same_or : (a b : Option HeldObject) → tables.or_else a b ≡ or_else a b
 same_or None b = refl
 same_or (Some x) b = refl
 
-met_after : (rows more : List (ℕ × HeldRow)) (q : ℕ) → finite.get (objects_in (rows ++ more)) q ≡ or_else (finite.get (objects_in rows) q) (finite.get (objects_in more) q)
+met_after : (rows more : List (ℕ × HeldRow)) (q : ℕ) → finite.get (held_objects_in (rows ++ more)) q ≡ or_else (finite.get (held_objects_in rows) q) (finite.get (held_objects_in more) q)
 met_after rows more q =
-    ap (λ (m : Held). finite.get m q) (objects_append rows more) ∙ get_over (objects_in more) rows q ∙ same_or (finite.get (objects_in rows) q) (finite.get (objects_in more) q)
+    ap (λ (m : Held). finite.get m q) (objects_append rows more) ∙ get_over (held_objects_in more) rows q ∙ same_or (finite.get (held_objects_in rows) q) (finite.get (held_objects_in more) q)
 
 none_after : (a b : Option HeldObject) → or_else a b ≡ None → b ≡ None
 none_after None b is = is
@@ -250,26 +250,26 @@ some_of : (a b : Option HeldObject) (h : HeldObject) → or_else a b ≡ Some h 
 some_of None b h is = inr is
 some_of (Some x) b h is = inl is
 
-pub met_next : (all : Held) (rows more now : List (ℕ × HeldRow)) (p : Part) (ps : List Part) → AreMet all rows (p ∷ ps) → now ≡ rows ++ more → objects_in more ≡ p.held → IsDistinct nat_eq (keys_of more) → AreMet all now ps
+pub met_next : (all : Held) (rows more now : List (ℕ × HeldRow)) (p : Part) (ps : List Part) → AreMet all rows (p ∷ ps) → now ≡ rows ++ more → held_objects_in more ≡ p.held → IsDistinct nat_eq (keys_of more) → AreMet all now ps
 met_next all rows more now p ps met now_is more_are once = subst (λ rs. AreMet all rs ps) (sym now_is) (record {
   exact = λ q.
-      met.exact q ∙ ap (or_else (finite.get (objects_in rows) q)) (get_more p ps q ∙ ap (λ (m : Held). or_else (finite.get m q) (finite.get (held_in ps) q)) (sym more_are))
-      ∙ or_both (finite.get (objects_in rows) q) (finite.get (objects_in more) q) (finite.get (held_in ps) q) ∙ ap (λ o. or_else o (finite.get (held_in ps) q)) (sym (met_after rows more q));
+      met.exact q ∙ ap (or_else (finite.get (held_objects_in rows) q)) (get_more p ps q ∙ ap (λ (m : Held). or_else (finite.get m q) (finite.get (held_in_parts ps) q)) (sym more_are))
+      ∙ or_both (finite.get (held_objects_in rows) q) (finite.get (held_objects_in more) q) (finite.get (held_in_parts ps) q) ∙ ap (λ o. or_else o (finite.get (held_in_parts ps) q)) (sym (met_after rows more q));
   once = subst (IsDistinct nat_eq) (sym (map-append (λ (e : ℕ × HeldRow). e.0) rows more)) (distinct_append (keys_of rows) (keys_of more) met.once once (λ q has also.
       let here = key_there rows q has in
       let there = key_there more q also in
       let some = first_holds p ps q there.0 (ap (λ (m : Held). finite.get m q) (sym more_are) ∙ there.1) in
       let bad : None ≡ Some there.0 = sym (met.apart q here.0 here.1) ∙ some in
       absurd (cc)));
-  apart = λ q h has. elim (some_of (finite.get (objects_in rows) q) (finite.get (objects_in more) q) h (sym (met_after rows more q) ∙ has)) [
-    | inl was ↦ none_after (finite.get p.held q) (finite.get (held_in ps) q) (sym (get_more p ps q) ∙ met.apart q h was)
+  apart = λ q h has. elim (some_of (finite.get (held_objects_in rows) q) (finite.get (held_objects_in more) q) h (sym (met_after rows more q) ∙ has)) [
+    | inl was ↦ none_after (finite.get p.held q) (finite.get (held_in_parts ps) q) (sym (get_more p ps q) ∙ met.apart q h was)
     | inr is ↦ met.separate.0 q h (ap (λ (m : Held). finite.get m q) (sym more_are) ∙ is)
   ];
   separate = met.separate.2;
 })
 
-pub met_all : (all : Held) (rows : List (ℕ × HeldRow)) → AreMet all rows [] → objects_in rows ≡ all
-met_all all rows met = finite.same_map nat_cmp_total nat_cmp-IsAntisymmetric _ _ (λ q. sym (met.exact q ∙ last (finite.get (objects_in rows) q) (finite.get-empty nat_cmp q)))
+pub met_all : (all : Held) (rows : List (ℕ × HeldRow)) → AreMet all rows [] → held_objects_in rows ≡ all
+met_all all rows met = finite.same_map nat_cmp_total nat_cmp-IsAntisymmetric _ _ (λ q. sym (met.exact q ∙ last (finite.get (held_objects_in rows) q) (finite.get-empty nat_cmp q)))
   where
     last : {e : Option HeldObject} (o : Option HeldObject) → e ≡ None → or_else o e ≡ o
     last None is = is
@@ -279,14 +279,14 @@ met_all all rows met = finite.same_map nat_cmp_total nat_cmp-IsAntisymmetric _ _
 
 -- all is these spans with what is live in the parts that are left
 pub record AreLiveMet (all : Live) (spans : List Span) (ps : List Part) : Type 0 where
-  pub exact : (q : Span) → set.contains all q ≡ (set.contains (set.from_list {R = span_cmp} spans) q || set.contains (live_in ps) q)
+  pub exact : (q : Span) → set.contains all q ≡ (set.contains (set.from_list {R = span_cmp} spans) q || set.contains (live_in_parts ps) q)
   pub once : AreOnce spans
-  pub apart : (q : Span) → IsTrue (set.contains (set.from_list {R = span_cmp} spans) q) → set.contains (live_in ps) q ≡ false
+  pub apart : (q : Span) → IsTrue (set.contains (set.from_list {R = span_cmp} spans) q) → set.contains (live_in_parts ps) q ≡ false
   pub separate : AreSeparate ps
 
-pub live_met_none : (ps : List Part) → AreSeparate ps → AreLiveMet (live_in ps) [] ps
+pub live_met_none : (ps : List Part) → AreSeparate ps → AreLiveMet (live_in_parts ps) [] ps
 live_met_none ps separate = record {
-  exact = λ q. sym (ap (λ b. b || set.contains (live_in ps) q) (set.contains-empty span_cmp q));
+  exact = λ q. sym (ap (λ b. b || set.contains (live_in_parts ps) q) (set.contains-empty span_cmp q));
   once = tt;
   apart = λ q has. (let bad : false ≡ true = sym (set.contains-empty span_cmp q) ∙ has in absurd (cc));
   separate = separate;
@@ -325,14 +325,14 @@ listed_live spans q has = set.contains-from_list span_total spans q ∙ list_any
 pub live_met_next : (all : Live) (spans more now : List Span) (p : Part) (ps : List Part) → AreLiveMet all spans (p ∷ ps) → now ≡ spans ++ more → set.from_list {R = span_cmp} more ≡ p.live → AreOnce more → AreLiveMet all now ps
 live_met_next all spans more now p ps met now_is more_are once = subst (λ rs. AreLiveMet all rs ps) (sym now_is) (record {
   exact = λ q.
-      met.exact q ∙ ap (λ b. set.contains (set.from_list {R = span_cmp} spans) q || b) (live_more p ps q ∙ ap (λ (l : Live). set.contains l q || set.contains (live_in ps) q) (sym more_are))
-      ∙ either (set.contains (set.from_list {R = span_cmp} spans) q) (set.contains (set.from_list {R = span_cmp} more) q) (set.contains (live_in ps) q) ∙ ap (λ b. b || set.contains (live_in ps) q) (sym (live_after spans more q));
+      met.exact q ∙ ap (λ b. set.contains (set.from_list {R = span_cmp} spans) q || b) (live_more p ps q ∙ ap (λ (l : Live). set.contains l q || set.contains (live_in_parts ps) q) (sym more_are))
+      ∙ either (set.contains (set.from_list {R = span_cmp} spans) q) (set.contains (set.from_list {R = span_cmp} more) q) (set.contains (live_in_parts ps) q) ∙ ap (λ b. b || set.contains (live_in_parts ps) q) (sym (live_after spans more q));
   once = once_append spans more met.once once (λ q has also.
-      let some = live_more p ps q ∙ live_before (set.contains p.live q) (set.contains (live_in ps) q) (ap (λ (l : Live). set.contains l q) (sym more_are) ∙ listed_live more q also) in
+      let some = live_more p ps q ∙ live_before (set.contains p.live q) (set.contains (live_in_parts ps) q) (ap (λ (l : Live). set.contains l q) (sym more_are) ∙ listed_live more q also) in
       let bad : false ≡ true = sym (met.apart q (listed_live spans q has)) ∙ some in
       absurd (cc));
   apart = λ q has. elim (one_of (set.contains (set.from_list {R = span_cmp} spans) q) (set.contains (set.from_list {R = span_cmp} more) q) (sym (live_after spans more q) ∙ has)) [
-    | inl was ↦ dead_after (set.contains p.live q) (set.contains (live_in ps) q) (sym (live_more p ps q) ∙ met.apart q was)
+    | inl was ↦ dead_after (set.contains p.live q) (set.contains (live_in_parts ps) q) (sym (live_more p ps q) ∙ met.apart q was)
     | inr is ↦ met.separate.1 q (ap (λ (l : Live). set.contains l q) (sym more_are) ∙ is)
   ];
   separate = met.separate.2;

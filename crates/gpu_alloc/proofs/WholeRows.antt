@@ -19,13 +19,13 @@ use Rattle.gpu_alloc_base.proofs.Lists.{contains_cases, contains_head, contains_
 use Rattle.gpu_alloc_base.proofs.ListSets.{in_set, key_test}
 use Rattle.gpu_alloc_base.proofs.ListViews.{IsOneToOne, AreNamedApart, in_names, named_absent, named_len, named_there, seek_name}
 use Rattle.gpu_alloc_base.proofs.SlabViews.{found_by_key, get_by_key}
-use Rattle.gpu_alloc_block.specs.Parts.{AreNamed, Chunks, by_name, by_span}
+use Rattle.gpu_alloc_block.specs.Parts.{Chunks, HaveOwnObjects, by_name, by_span}
 use Rattle.gpu_alloc_block.specs.State.{HeldObject, Span, span_cmp}
 use Rattle.gpu_alloc_block.proofs.LiveSpans.{span_exact, span_total}
 use Rattle.gpu_alloc_block.proofs.Parts.ByName.{name_there}
 use Rattle.gpu_alloc_block.proofs.Parts.Entries.{item_there, there_entry}
 use Rattle.gpu_alloc.specs.Listing.{AreOnce}
-use Rattle.gpu_alloc.specs.Spans.{entry_of, objects_in}
+use Rattle.gpu_alloc.specs.Spans.{held_entry_of, held_objects_in}
 use Rattle.gpu_alloc.specs.declared.spans.HeldRow.{HeldRow}
 use Rattle.gpu_alloc.proofs.Tables.Listed.{distinct_named, mapped_twice, once_named, rows_apart}
 
@@ -45,7 +45,7 @@ one_called f (e ∷ es) apart a b has_a has_b same = elim (contains_cases e a es
 
 -- Chunks, as a list has them: what it says of a chunk is held under the chunk's key, and each chunk is in it.
 
-module _ {E : Type 0} (key : E → ℕ) (said : E → Chunk) (object_of : ℕ → Chunk → HeldObject) (chunks : Chunks) (named : AreNamed chunks) (listed : List E)
+module _ {E : Type 0} (key : E → ℕ) (said : E → Chunk) (object_of : ℕ → Chunk → HeldObject) (chunks : Chunks) (named : HaveOwnObjects chunks) (listed : List E)
     (is_held : (e : E) → Contains listed e → finite.get chunks (key e) ≡ Some (said e))
     (entry_for : (k : ℕ) (c : Chunk) → finite.get chunks k ≡ Some c → (e : E) × Contains listed e × (said e ≡ c))
     (apart : AreNamedApart (λ (e : E). (said e).object) listed) where
@@ -74,9 +74,9 @@ module _ {E : Type 0} (key : E → ℕ) (said : E → Chunk) (object_of : ℕ �
   ])
 
   -- rows that say the same are all that is held, each once
-  module _ (row : E → ℕ × HeldRow) (says : (e : E) → ◌≡◌ {A = ℕ × HeldObject} (entry_of (row e)) (name e, value e)) where
-    pub held_rows_are : objects_in (map row listed) ≡ by_name object_of chunks
-    held_rows_are = ap (λ (es : List (ℕ × HeldObject)). finite.from_entries es) (mapped_twice row entry_of (λ e. (name e, value e)) says listed) ∙ by_rows
+  module _ (row : E → ℕ × HeldRow) (says : (e : E) → ◌≡◌ {A = ℕ × HeldObject} (held_entry_of (row e)) (name e, value e)) where
+    pub held_rows_are : held_objects_in (map row listed) ≡ by_name object_of chunks
+    held_rows_are = ap (λ (es : List (ℕ × HeldObject)). finite.from_entries es) (mapped_twice row held_entry_of (λ e. (name e, value e)) says listed) ∙ by_rows
 
     pub held_rows_once : IsDistinct nat_eq (keys_of (map row listed))
     held_rows_once = subst (IsDistinct nat_eq) (sym (mapped_twice row (λ x. x.0) name (λ e. ap (λ (x : ℕ × HeldObject). x.0) (says e)) listed)) (distinct_named name listed apart)
@@ -87,7 +87,7 @@ module _ {E : Type 0} (key : E → ℕ) (said : E → Chunk) (object_of : ℕ �
 
 -- So it is where they are the rows of a slab, each chunk under its row's key.
 
-module _ {Row : Type 0} (said : Row → Chunk) (object_of : Chunk → HeldObject) (chunks : Chunks) (named : AreNamed chunks) (rows : Slab Row) (exact : chunks ≡ by_key said rows) (listed : List (ℕ × Row)) (are : listed ≡ entries rows) where
+module _ {Row : Type 0} (said : Row → Chunk) (object_of : Chunk → HeldObject) (chunks : Chunks) (named : HaveOwnObjects chunks) (rows : Slab Row) (exact : chunks ≡ by_key said rows) (listed : List (ℕ × Row)) (are : listed ≡ entries rows) where
   abbrev of_key : ℕ → Chunk → HeldObject
   of_key key c = object_of c
 
@@ -124,8 +124,8 @@ module _ {Row : Type 0} (said : Row → Chunk) (object_of : Chunk → HeldObject
   pub keyed_unheld : (q : ℕ) → ((e : ℕ × Row) → Contains listed e → (said_of e).object ≢ q) → finite.get (by_name of_key chunks) q ≡ None
   keyed_unheld = unlisted_unheld key_of said_of of_key chunks named listed key_held entry_by_key keys_apart
 
-  module _ (row : ℕ × Row → ℕ × HeldRow) (says : (e : ℕ × Row) → ◌≡◌ {A = ℕ × HeldObject} (entry_of (row e)) ((said_of e).object, object_of (said_of e))) where
-    pub keyed_rows_are : objects_in (map row listed) ≡ by_name of_key chunks
+  module _ (row : ℕ × Row → ℕ × HeldRow) (says : (e : ℕ × Row) → ◌≡◌ {A = ℕ × HeldObject} (held_entry_of (row e)) ((said_of e).object, object_of (said_of e))) where
+    pub keyed_rows_are : held_objects_in (map row listed) ≡ by_name of_key chunks
     keyed_rows_are = held_rows_are key_of said_of of_key chunks named listed key_held entry_by_key keys_apart row says
 
     pub keyed_rows_once : IsDistinct nat_eq (keys_of (map row listed))

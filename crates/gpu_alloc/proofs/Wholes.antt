@@ -25,21 +25,21 @@ use Rattle.gpu_alloc_block.proofs.Parts.Entries.{there_entry}
 use Rattle.gpu_alloc_block.proofs.Parts.Steps.{holds_of, own_part, part_span, object_comes, last_goes}
 use Rattle.gpu_alloc_block.proofs.Parts.Stores as store
 use Rattle.gpu_alloc_block.proofs.Parts.Unions.{none_at, none_of, live_at}
-use Rattle.gpu_alloc_buddy.specs.BuddySound.{IsSound}
-use Rattle.gpu_alloc_buddy.specs.BuddyState.{Buddy, IsLiveLeaf, space_of}
+use Rattle.gpu_alloc_buddy.specs.BuddySound.{IsSoundBuddy}
+use Rattle.gpu_alloc_buddy.specs.BuddyState.{Buddy, IsLiveBuddyLeaf, space_of}
 use Rattle.gpu_alloc_pairs.proofs.LiveSpans.{one_leaf}
-use Rattle.gpu_alloc_freelist.specs.FreeListSound.{IsSound as IsSoundList}
+use Rattle.gpu_alloc_freelist.specs.FreeListSound.{IsSoundListing}
 use Rattle.gpu_alloc_freelist.specs.FreeListState.{Listing, IsLiveSlot}
-use Rattle.gpu_alloc_fit.specs.FitSound.{IsSound as IsSoundFit}
+use Rattle.gpu_alloc_fit.specs.FitSound.{IsSoundFitting}
 use Rattle.gpu_alloc_fits.specs.Space.{IsLiveSlot as IsLiveFit}
 use Rattle.gpu_alloc.specs.Inside.{chunk_object, fit_object, list_object, span_of_leaf, span_of_slot}
 use Rattle.gpu_alloc.specs.Own.{OwnTable, own_held, own_span, IsRowOf}
 use Rattle.gpu_alloc.specs.declared.own.OwnRow.{OwnRow}
-use Rattle.gpu_alloc.specs.Whole.{own_part as part_of_own, buddy_part, fit_part, list_part, parts_of, whole, AreWhole, IsPlace}
+use Rattle.gpu_alloc.specs.Whole.{own_part as part_of_own, buddy_part, fit_part, list_part, parts_of, whole, AreOneWhole, IsPartFor}
 use Rattle.gpu_alloc_fit.specs.Fit.{Fitting}
 
 -- an object has one place
-pub single : (buddies lists i j : ℕ) (h : HeldObject) → IsPlace buddies lists i h → IsPlace buddies lists j h → i ≡ j
+pub single : (buddies lists i j : ℕ) (h : HeldObject) → IsPartFor buddies lists i h → IsPartFor buddies lists j h → i ≡ j
 single buddies lists zero zero h a b = refl
 single buddies lists zero (suc j) h a (inl b) = let both = ap is_shared (sym b.0) ∙ a in absurd (cc)
 single buddies lists zero (suc j) h a (inr (inl b)) = let both = ap is_shared (sym b.1) ∙ a in absurd (cc)
@@ -138,12 +138,12 @@ at_of_map f (x ∷ xs) (suc i) y at = at_of_map f xs i y at
 
 -- Objects of one block.
 
-module _ (own : OwnTable) (buddies : List Buddy) (lists : List Listing) (fits : List Fitting) (apart : AreWhole own buddies lists fits) where
+module _ (own : OwnTable) (buddies : List Buddy) (lists : List Listing) (fits : List Fitting) (apart : AreOneWhole own buddies lists fits) where
   abbrev ps : List Part
   ps = parts_of own buddies lists fits
 
   abbrev Place : ℕ → HeldObject → Type 0
-  Place = IsPlace (length buddies) (length lists)
+  Place = IsPartFor (length buddies) (length lists)
 
   pub held_whole : (object : ℕ) (h : HeldObject) → finite.get own.held object ≡ Some h → finite.get (whole own buddies lists fits).held object ≡ Some h
   held_whole object h has = holds_of Place ps apart zero (part_of_own own) object h refl has
@@ -172,13 +172,13 @@ module _ (own : OwnTable) (buddies : List Buddy) (lists : List Listing) (fits : 
 
 -- Room is made for one more, and nothing else changes.
 
-module _ (own now : OwnTable) (buddies : List Buddy) (lists : List Listing) (fits : List Fitting) (apart : AreWhole own buddies lists fits) (kept : now ≡ record own { room = now.room }) (object : ℕ) (none : finite.get (whole own buddies lists fits).held object ≡ None) where
+module _ (own now : OwnTable) (buddies : List Buddy) (lists : List Listing) (fits : List Fitting) (apart : AreOneWhole own buddies lists fits) (kept : now ≡ record own { room = now.room }) (object : ℕ) (none : finite.get (whole own buddies lists fits).held object ≡ None) where
   pub unheld_then : finite.get now.held object ≡ None
   unheld_then = ap (λ (x : OwnTable). finite.get x.held object) kept ∙ unheld_here own buddies lists fits apart object none
 
 -- A memory type's buddy allocator.
 
-module _ (own : OwnTable) (buddies : List Buddy) (lists : List Listing) (fits : List Fitting) (apart : AreWhole own buddies lists fits) (index : ℕ) (b : Buddy) (at : IsAt buddies index b) (inside : index < length buddies) (sound : IsSound b) (typed : b.memory_type ≡ index) where
+module _ (own : OwnTable) (buddies : List Buddy) (lists : List Listing) (fits : List Fitting) (apart : AreOneWhole own buddies lists fits) (index : ℕ) (b : Buddy) (at : IsAt buddies index b) (inside : index < length buddies) (sound : IsSoundBuddy b) (typed : b.memory_type ≡ index) where
   abbrev types : ℕ
   types = length buddies
 
@@ -188,43 +188,43 @@ module _ (own : OwnTable) (buddies : List Buddy) (lists : List Listing) (fits : 
   pub at_buddy : IsAt (parts_of own buddies lists fits) (suc index) (buddy_part b)
   at_buddy = at_first buddy_part buddies (map list_part lists ++ map fit_part fits) index b at
 
-  one_span : (x y : Leaf) → IsLiveLeaf b x → IsLiveLeaf b y → ◌≡◌ {A = Span} (span_of_leaf x) (span_of_leaf y) → x ≡ y
+  one_span : (x y : Leaf) → IsLiveBuddyLeaf b x → IsLiveBuddyLeaf b y → ◌≡◌ {A = Span} (span_of_leaf x) (span_of_leaf y) → x ≡ y
   one_span x y live also same = one_leaf (space_of b) sound.space x y live also (ap (λ (s : Span). s.object) same) (ap (λ (s : Span). s.offset) same)
 
   module _ (new : Buddy) (same : new.memory_type ≡ b.memory_type) where
     buddy_held_as : (chunks : Chunks) → new.chunks ≡ chunks → (buddy_part new).held ≡ by_name object_in chunks
     buddy_held_as chunks is = λ k. by_name (λ _ c. record { memory_type = same k; counted = c.size; kind = BuddyChunk }) (is k)
 
-    makes : {held : Held} {live : Live} → Makes (IsPlace types (length lists)) (set (parts_of own buddies lists fits) (suc index) (buddy_part new)) held live → Makes (IsPlace (length (set buddies index new)) (length lists)) (parts_of own (set buddies index new) lists fits) held live
+    makes : {held : Held} {live : Live} → Makes (IsPartFor types (length lists)) (set (parts_of own buddies lists fits) (suc index) (buddy_part new)) held live → Makes (IsPartFor (length (set buddies index new)) (length lists)) (parts_of own (set buddies index new) lists fits) held live
     makes {held} {live} it =
-        subst (λ n. Makes (IsPlace n (length lists)) (parts_of own (set buddies index new) lists fits) held live) (sym (length-set buddies index new))
-        (subst (λ rest. Makes (IsPlace types (length lists)) (part_of_own own ∷ rest) held live) (set_first buddy_part buddies (map list_part lists ++ map fit_part fits) index b new at) it)
+        subst (λ n. Makes (IsPartFor n (length lists)) (parts_of own (set buddies index new) lists fits) held live) (sym (length-set buddies index new))
+        (subst (λ rest. Makes (IsPartFor types (length lists)) (part_of_own own ∷ rest) held live) (set_first buddy_part buddies (map list_part lists ++ map fit_part fits) index b new at) it)
 
     pub leaf_comes : (leaf : Leaf) (c : Chunk) → finite.get b.chunks leaf.chunk ≡ Some c → leaf.object ≡ c.object → new.chunks ≡ b.chunks → new.live ≡ set_of.insert b.live leaf
-        → Makes (IsPlace (length (set buddies index new)) (length lists)) (parts_of own (set buddies index new) lists fits) (whole own buddies lists fits).held (set_of.insert (whole own buddies lists fits).live (span_of_leaf leaf))
+        → Makes (IsPartFor (length (set buddies index new)) (length lists)) (parts_of own (set buddies index new) lists fits) (whole own buddies lists fits).held (set_of.insert (whole own buddies lists fits).live (span_of_leaf leaf))
     leaf_comes leaf c is named chunks live =
-        makes (store.row_comes leaf_total leaf_exact span_of_leaf (IsPlace types (length lists)) (parts_of own buddies lists fits) apart (suc index) object_in b.chunks b.live sound.space.one_object at_buddy (buddy_part new) leaf leaf.chunk c is named
+        makes (store.row_comes leaf_total leaf_exact span_of_leaf (IsPartFor types (length lists)) (parts_of own buddies lists fits) apart (suc index) object_in b.chunks b.live sound.space.one_object at_buddy (buddy_part new) leaf leaf.chunk c is named
         (buddy_held_as b.chunks chunks) (ap (by_span span_of_leaf) live))
 
     pub buddy_chunk_comes : (leaf : Leaf) (c : Chunk) → finite.get (whole own buddies lists fits).held leaf.object ≡ None → leaf.object ≡ c.object → finite.get b.chunks leaf.chunk ≡ None
         → new.chunks ≡ finite.insert b.chunks leaf.chunk c → new.live ≡ set_of.insert b.live leaf
-        → Makes (IsPlace (length (set buddies index new)) (length lists)) (parts_of own (set buddies index new) lists fits) (finite.insert (whole own buddies lists fits).held leaf.object (chunk_object b c)) (set_of.insert (whole own buddies lists fits).live (span_of_leaf leaf))
+        → Makes (IsPartFor (length (set buddies index new)) (length lists)) (parts_of own (set buddies index new) lists fits) (finite.insert (whole own buddies lists fits).held leaf.object (chunk_object b c)) (set_of.insert (whole own buddies lists fits).live (span_of_leaf leaf))
     buddy_chunk_comes leaf c none named free chunks live =
-        makes (store.chunk_comes leaf_total leaf_exact span_of_leaf (IsPlace types (length lists)) (parts_of own buddies lists fits) apart (suc index) object_in b.chunks b.live sound.space.one_object at_buddy (buddy_part new) leaf leaf.chunk c none named free
+        makes (store.chunk_comes leaf_total leaf_exact span_of_leaf (IsPartFor types (length lists)) (parts_of own buddies lists fits) apart (suc index) object_in b.chunks b.live sound.space.one_object at_buddy (buddy_part new) leaf leaf.chunk c none named free
         (inl (refl, typed, inside)) (buddy_held_as _ chunks) (ap (by_span span_of_leaf) live))
 
-    pub leaf_goes : (leaf : Leaf) → IsLiveLeaf b leaf → new.chunks ≡ b.chunks → new.live ≡ set_of.remove b.live leaf
-        → Makes (IsPlace (length (set buddies index new)) (length lists)) (parts_of own (set buddies index new) lists fits) (whole own buddies lists fits).held (set_of.remove (whole own buddies lists fits).live (span_of_leaf leaf))
+    pub leaf_goes : (leaf : Leaf) → IsLiveBuddyLeaf b leaf → new.chunks ≡ b.chunks → new.live ≡ set_of.remove b.live leaf
+        → Makes (IsPartFor (length (set buddies index new)) (length lists)) (parts_of own (set buddies index new) lists fits) (whole own buddies lists fits).held (set_of.remove (whole own buddies lists fits).live (span_of_leaf leaf))
     leaf_goes leaf was chunks live =
         let lies = sound.space.inside leaf was in
-        makes (store.row_goes leaf_total leaf_exact span_of_leaf (IsPlace types (length lists)) (parts_of own buddies lists fits) apart (suc index) object_in b.chunks b.live sound.space.one_object at_buddy (buddy_part new) one_span leaf was leaf.chunk lies.chunk lies.held lies.object
+        makes (store.row_goes leaf_total leaf_exact span_of_leaf (IsPartFor types (length lists)) (parts_of own buddies lists fits) apart (suc index) object_in b.chunks b.live sound.space.one_object at_buddy (buddy_part new) one_span leaf was leaf.chunk lies.chunk lies.held lies.object
         (ap (by_span span_of_leaf) live) (buddy_held_as b.chunks chunks))
 
-    pub last_leaf_goes : (leaf : Leaf) → IsLiveLeaf b leaf → ((other : Leaf) → IsLiveLeaf b other → other.chunk ≡ leaf.chunk → other ≡ leaf) → new.chunks ≡ finite.remove b.chunks leaf.chunk → new.live ≡ set_of.remove b.live leaf
-        → Makes (IsPlace (length (set buddies index new)) (length lists)) (parts_of own (set buddies index new) lists fits) (finite.remove (whole own buddies lists fits).held leaf.object) (set_of.remove (whole own buddies lists fits).live (span_of_leaf leaf))
+    pub last_leaf_goes : (leaf : Leaf) → IsLiveBuddyLeaf b leaf → ((other : Leaf) → IsLiveBuddyLeaf b other → other.chunk ≡ leaf.chunk → other ≡ leaf) → new.chunks ≡ finite.remove b.chunks leaf.chunk → new.live ≡ set_of.remove b.live leaf
+        → Makes (IsPartFor (length (set buddies index new)) (length lists)) (parts_of own (set buddies index new) lists fits) (finite.remove (whole own buddies lists fits).held leaf.object) (set_of.remove (whole own buddies lists fits).live (span_of_leaf leaf))
     last_leaf_goes leaf was last chunks live =
         let lies = sound.space.inside leaf was in
-        makes (store.last_row_goes leaf_total leaf_exact span_of_leaf (IsPlace types (length lists)) (parts_of own buddies lists fits) apart (suc index) object_in b.chunks b.live sound.space.one_object at_buddy (buddy_part new) one_span leaf was leaf.chunk lies.chunk lies.held lies.object
+        makes (store.last_row_goes leaf_total leaf_exact span_of_leaf (IsPartFor types (length lists)) (parts_of own buddies lists fits) apart (suc index) object_in b.chunks b.live sound.space.one_object at_buddy (buddy_part new) one_span leaf was leaf.chunk lies.chunk lies.held lies.object
         (ap (by_span span_of_leaf) live)
         (λ other stood named. let of = sound.space.inside other stood in last other stood (sound.space.one_object other.chunk leaf.chunk of.chunk lies.chunk of.held lies.held (sym of.object ∙ named)))
         (buddy_held_as _ chunks))
@@ -232,7 +232,7 @@ module _ (own : OwnTable) (buddies : List Buddy) (lists : List Listing) (fits : 
 -- A memory type's free list.
 
 -- no two live slots have one span
-pub one_slot : (l : Listing) → IsSoundList l → (a b : Slot) → IsLiveSlot l.space a → IsLiveSlot l.space b → ◌≡◌ {A = Span} (span_of_slot a) (span_of_slot b) → a ≡ b
+pub one_slot : (l : Listing) → IsSoundListing l → (a b : Slot) → IsLiveSlot l.space a → IsLiveSlot l.space b → ◌≡◌ {A = Span} (span_of_slot a) (span_of_slot b) → a ≡ b
 one_slot l sound a b live_a live_b same =
     let in_a = sound.space.inside a live_a in
     let in_b = sound.space.inside b live_b in
@@ -240,7 +240,7 @@ one_slot l sound a b live_a live_b same =
     let number = sound.one_object a.chunk b.chunk in_a.chunk in_b.chunk in_a.held in_b.held objects in
     λ k. record { object = (same k).object; chunk = number k; offset = (same k).offset; size = (same k).size }
 
-module _ (own : OwnTable) (buddies : List Buddy) (lists : List Listing) (fits : List Fitting) (apart : AreWhole own buddies lists fits) (index : ℕ) (l : Listing) (at : IsAt lists index l) (sound : IsSoundList l) (typed : l.memory_type ≡ index) where
+module _ (own : OwnTable) (buddies : List Buddy) (lists : List Listing) (fits : List Fitting) (apart : AreOneWhole own buddies lists fits) (index : ℕ) (l : Listing) (at : IsAt lists index l) (sound : IsSoundListing l) (typed : l.memory_type ≡ index) where
   abbrev types_before : ℕ
   types_before = length buddies
 
@@ -251,45 +251,45 @@ module _ (own : OwnTable) (buddies : List Buddy) (lists : List Listing) (fits : 
     list_held_as : (chunks : Chunks) → new.space.chunks ≡ chunks → (list_part new).held ≡ by_name (list_object l) chunks
     list_held_as chunks is = λ k. by_name (λ number c. record { memory_type = same k; counted = c.size; kind = FreeListChunk number }) (is k)
 
-    makes_list : {held : Held} {live : Live} → Makes (IsPlace types_before (length lists)) (set (parts_of own buddies lists fits) (suc (types_before + index)) (list_part new)) held live
-        → Makes (IsPlace types_before (length (set lists index new))) (parts_of own buddies (set lists index new) fits) held live
+    makes_list : {held : Held} {live : Live} → Makes (IsPartFor types_before (length lists)) (set (parts_of own buddies lists fits) (suc (types_before + index)) (list_part new)) held live
+        → Makes (IsPartFor types_before (length (set lists index new))) (parts_of own buddies (set lists index new) fits) held live
     makes_list {held} {live} it =
-        subst (λ n. Makes (IsPlace types_before n) (parts_of own buddies (set lists index new) fits) held live) (sym (length-set lists index new))
-        (subst (λ rest. Makes (IsPlace types_before (length lists)) (part_of_own own ∷ rest) held live)
+        subst (λ n. Makes (IsPartFor types_before n) (parts_of own buddies (set lists index new) fits) held live) (sym (length-set lists index new))
+        (subst (λ rest. Makes (IsPartFor types_before (length lists)) (part_of_own own ∷ rest) held live)
         (set_later buddy_part buddies (map list_part lists ++ map fit_part fits) index (list_part new) ∙ ap (λ ys. map buddy_part buddies ++ ys) (set_first list_part lists (map fit_part fits) index l new at)) it)
 
     pub slot_comes : (slot : Slot) (c : Chunk) → finite.get l.space.chunks slot.chunk ≡ Some c → slot.object ≡ c.object → new.space.chunks ≡ l.space.chunks → new.space.live ≡ set_of.insert l.space.live slot
-        → Makes (IsPlace types_before (length (set lists index new))) (parts_of own buddies (set lists index new) fits) (whole own buddies lists fits).held (set_of.insert (whole own buddies lists fits).live (span_of_slot slot))
+        → Makes (IsPartFor types_before (length (set lists index new))) (parts_of own buddies (set lists index new) fits) (whole own buddies lists fits).held (set_of.insert (whole own buddies lists fits).live (span_of_slot slot))
     slot_comes slot c is named chunks live =
-        makes_list (store.row_comes slot_total slot_exact span_of_slot (IsPlace types_before (length lists)) (parts_of own buddies lists fits) apart (suc (types_before + index)) (list_object l) l.space.chunks l.space.live sound.one_object at_list (list_part new) slot slot.chunk c is named
+        makes_list (store.row_comes slot_total slot_exact span_of_slot (IsPartFor types_before (length lists)) (parts_of own buddies lists fits) apart (suc (types_before + index)) (list_object l) l.space.chunks l.space.live sound.one_object at_list (list_part new) slot slot.chunk c is named
         (list_held_as l.space.chunks chunks) (ap (by_span span_of_slot) live))
 
     pub list_chunk_comes : (slot : Slot) (number : ℕ) (c : Chunk) → finite.get (whole own buddies lists fits).held slot.object ≡ None → slot.object ≡ c.object → finite.get l.space.chunks number ≡ None
         → new.space.chunks ≡ finite.insert l.space.chunks number c → new.space.live ≡ set_of.insert l.space.live slot
-        → Makes (IsPlace types_before (length (set lists index new))) (parts_of own buddies (set lists index new) fits) (finite.insert (whole own buddies lists fits).held slot.object (list_object l number c)) (set_of.insert (whole own buddies lists fits).live (span_of_slot slot))
+        → Makes (IsPartFor types_before (length (set lists index new))) (parts_of own buddies (set lists index new) fits) (finite.insert (whole own buddies lists fits).held slot.object (list_object l number c)) (set_of.insert (whole own buddies lists fits).live (span_of_slot slot))
     list_chunk_comes slot number c none named free chunks live =
-        makes_list (store.chunk_comes slot_total slot_exact span_of_slot (IsPlace types_before (length lists)) (parts_of own buddies lists fits) apart (suc (types_before + index)) (list_object l) l.space.chunks l.space.live sound.one_object at_list (list_part new) slot number c none named free
+        makes_list (store.chunk_comes slot_total slot_exact span_of_slot (IsPartFor types_before (length lists)) (parts_of own buddies lists fits) apart (suc (types_before + index)) (list_object l) l.space.chunks l.space.live sound.one_object at_list (list_part new) slot number c none named free
         (inr (inl (number, refl, ap (λ n. types_before + n) typed))) (list_held_as _ chunks) (ap (by_span span_of_slot) live))
 
     pub slot_goes : (slot : Slot) → IsLiveSlot l.space slot → new.space.chunks ≡ l.space.chunks → new.space.live ≡ set_of.remove l.space.live slot
-        → Makes (IsPlace types_before (length (set lists index new))) (parts_of own buddies (set lists index new) fits) (whole own buddies lists fits).held (set_of.remove (whole own buddies lists fits).live (span_of_slot slot))
+        → Makes (IsPartFor types_before (length (set lists index new))) (parts_of own buddies (set lists index new) fits) (whole own buddies lists fits).held (set_of.remove (whole own buddies lists fits).live (span_of_slot slot))
     slot_goes slot was chunks live =
         let lies = sound.space.inside slot was in
-        makes_list (store.row_goes slot_total slot_exact span_of_slot (IsPlace types_before (length lists)) (parts_of own buddies lists fits) apart (suc (types_before + index)) (list_object l) l.space.chunks l.space.live sound.one_object at_list (list_part new) (one_slot l sound) slot was slot.chunk lies.chunk lies.held lies.object
+        makes_list (store.row_goes slot_total slot_exact span_of_slot (IsPartFor types_before (length lists)) (parts_of own buddies lists fits) apart (suc (types_before + index)) (list_object l) l.space.chunks l.space.live sound.one_object at_list (list_part new) (one_slot l sound) slot was slot.chunk lies.chunk lies.held lies.object
         (ap (by_span span_of_slot) live) (list_held_as l.space.chunks chunks))
 
     pub list_chunk_goes : (number : ℕ) (c : Chunk) → finite.get l.space.chunks number ≡ Some c → ((slot : Slot) → IsLiveSlot l.space slot → slot.chunk ≢ number)
         → new.space.chunks ≡ finite.remove l.space.chunks number → new.space.live ≡ l.space.live
-        → Makes (IsPlace types_before (length (set lists index new))) (parts_of own buddies (set lists index new) fits) (finite.remove (whole own buddies lists fits).held c.object) (whole own buddies lists fits).live
+        → Makes (IsPartFor types_before (length (set lists index new))) (parts_of own buddies (set lists index new) fits) (finite.remove (whole own buddies lists fits).held c.object) (whole own buddies lists fits).live
     list_chunk_goes number c is unused chunks live =
-        makes_list (store.chunk_goes slot_total slot_exact span_of_slot (IsPlace types_before (length lists)) (parts_of own buddies lists fits) apart (suc (types_before + index)) (list_object l) l.space.chunks l.space.live sound.one_object at_list (list_part new) number c is
+        makes_list (store.chunk_goes slot_total slot_exact span_of_slot (IsPartFor types_before (length lists)) (parts_of own buddies lists fits) apart (suc (types_before + index)) (list_object l) l.space.chunks l.space.live sound.one_object at_list (list_part new) number c is
         (λ slot stood named. let lies = sound.space.inside slot stood in unused slot stood (sound.one_object slot.chunk number lies.chunk c lies.held is (sym lies.object ∙ named)))
         (list_held_as _ chunks) (ap (by_span span_of_slot) live))
 
 -- A memory type's allocator of fit chunks.
 
 -- no two live slots have one span
-pub one_fit : (f : Fitting) → IsSoundFit f → (a b : Slot) → IsLiveFit f.space a → IsLiveFit f.space b → ◌≡◌ {A = Span} (span_of_slot a) (span_of_slot b) → a ≡ b
+pub one_fit : (f : Fitting) → IsSoundFitting f → (a b : Slot) → IsLiveFit f.space a → IsLiveFit f.space b → ◌≡◌ {A = Span} (span_of_slot a) (span_of_slot b) → a ≡ b
 one_fit f sound a b live_a live_b same =
     let in_a = sound.space.inside a live_a in
     let in_b = sound.space.inside b live_b in
@@ -297,9 +297,9 @@ one_fit f sound a b live_a live_b same =
     let key = sound.space.one_object a.chunk b.chunk in_a.chunk in_b.chunk in_a.held in_b.held objects in
     λ k. record { object = (same k).object; chunk = key k; offset = (same k).offset; size = (same k).size }
 
-module _ (own : OwnTable) (buddies : List Buddy) (lists : List Listing) (fits : List Fitting) (apart : AreWhole own buddies lists fits) (index : ℕ) (f : Fitting) (at : IsAt fits index f) (sound : IsSoundFit f) (typed : f.memory_type ≡ index) where
+module _ (own : OwnTable) (buddies : List Buddy) (lists : List Listing) (fits : List Fitting) (apart : AreOneWhole own buddies lists fits) (index : ℕ) (f : Fitting) (at : IsAt fits index f) (sound : IsSoundFitting f) (typed : f.memory_type ≡ index) where
   abbrev Spot : ℕ → HeldObject → Type 0
-  Spot = IsPlace (length buddies) (length lists)
+  Spot = IsPartFor (length buddies) (length lists)
 
   abbrev fit_spot : ℕ
   fit_spot = suc (length buddies + (length lists + index))
@@ -410,7 +410,7 @@ module _ (own : OwnTable) (buddies : List Buddy) (lists : List Listing) (fits : 
   nothing_live = set_of.same_set span_total span_exact _ _ (λ q.
       not_live (whole own buddies lists fits).live q (λ stands. let there = live_at (parts_of own buddies lists fits) q stands in none_live there.0 there.1 q there.2 there.3) ∙ sym (set_of.contains-empty span_cmp q))
 
-  pub apart_unused : AreWhole own buddies lists fits
+  pub apart_unused : AreOneWhole own buddies lists fits
   apart_unused = record {
     placed = λ i p object h at has. absurd (let none = none_held i p object at in cc);
     once = λ i j p q object h k at also has had. absurd (let none = none_held i p object at in cc);

@@ -19,7 +19,7 @@ use Rattle.gpu_alloc_usage.specs.Ranking.{candidates, compatible, implied}
 use Rattle.gpu_alloc.specs.Candidates.{candidate}
 use Rattle.gpu_alloc.specs.FitSharing.{fit_alignment, fit_size, fits_first}
 use Rattle.gpu_alloc.specs.Request.{in_pages, is_required}
-use Rattle.gpu_alloc_block.specs.State.{HeldObject, Span, Block, span_of, State, IsLive, IsOwned, AreApart, is_shared}
+use Rattle.gpu_alloc_block.specs.State.{HeldObject, Span, Block, span_of, State, IsLive, IsOwned, AreSpansApart, is_shared}
 use Rattle.gpu_alloc.specs.declared.allocator.Ask.{Ask}
 use Rattle.gpu_alloc.specs.declared.allocator.Strategy.{Strategy}
 use Rattle.gpu_alloc.specs.declared.allocator.Strategy.TheVariants.{OwnObject, InBuddyChunk, InFreeList, InFitChunk}
@@ -62,14 +62,14 @@ strategy s r None t = unhinted s r t
 -- What becomes of a candidate.
 
 -- A candidate is passed over: its heap is smaller than the request, or the way it would be served passes over it.
-abbrev pub IsPassed : State → Request → Option Dedicated → ℕ → List Event → Type 0
-IsPassed s r hint t es =
+abbrev pub IsCandidatePassed : State → Request → Option Dedicated → ℕ → List Event → Type 0
+IsCandidatePassed s r hint t es =
     ((heap_size s.properties t < r.size) × (es ≡ []))
     ⊎ ((r.size ≤ heap_size s.properties t) × case.IsPassed (candidate (strategy s r hint t) s r t) es)
 
 -- A candidate decides: its heap is no smaller than the request, and the way it is served gives the answer.
-abbrev pub Decides : State → Request → Option Dedicated → ℕ → List Event → Result Block AllocationError → State → Type 0
-Decides s r hint t es answer new =
+abbrev pub CandidateDecides : State → Request → Option Dedicated → ℕ → List Event → Result Block AllocationError → State → Type 0
+CandidateDecides s r hint t es answer new =
     (r.size ≤ heap_size s.properties t) × case.Decides (candidate (strategy s r hint t) s r t) es answer new
 
 -- a candidate's error: without device memory it is passed over
@@ -85,11 +85,11 @@ abbrev pub TriesBy : Strategy → State → Request → ℕ → List Event → R
 TriesBy w s r t es answer new = case.Tries (candidate w s r t) es answer new
 
 -- One candidate was tried: it is passed over, or it decides.
-abbrev pub Tries : State → Request → Option Dedicated → ℕ → List Event → Result (Option Block) AllocationError → State
+abbrev pub TriesCandidate : State → Request → Option Dedicated → ℕ → List Event → Result (Option Block) AllocationError → State
     → Type 0
-Tries s r hint t es (Ok None) new = IsPassed s r hint t es × (new ≡ s)
-Tries s r hint t es (Ok (Some b)) new = Decides s r hint t es (Ok b) new
-Tries s r hint t es (Err e) new = Decides s r hint t es (Err e) new
+TriesCandidate s r hint t es (Ok None) new = IsCandidatePassed s r hint t es × (new ≡ s)
+TriesCandidate s r hint t es (Ok (Some b)) new = CandidateDecides s r hint t es (Ok b) new
+TriesCandidate s r hint t es (Err e) new = CandidateDecides s r hint t es (Err e) new
 
 -- What each candidate is asked: the same request, perhaps with a hint.
 abbrev pub ask : Request → Option Dedicated → ℕ → Ask
@@ -97,15 +97,15 @@ ask r hint t = record { request = r; hint = hint }
 
 -- one candidate was tried for its request
 abbrev pub TriesAsked : State → (ℕ → Ask) → ℕ → List Event → Result (Option Block) AllocationError → State → Type 0
-TriesAsked s asked t es answer new = Tries s (asked t).request (asked t).hint t es answer new
+TriesAsked s asked t es answer new = TriesCandidate s (asked t).request (asked t).hint t es answer new
 
 -- In rank, the first candidate that is not passed over decides. Where all are, there is no device memory.
 abbrev pub TriesAll : State → (ℕ → Ask) → List ℕ → List Event → Result Block AllocationError → State → Type 0
 TriesAll s asked [] es answer new = (es ≡ []) × (answer ≡ Err OutOfDeviceMemory) × (new ≡ s)
 TriesAll s asked (t ∷ ts) es answer new =
-    ((first rest : List Event) × (es ≡ first ++ rest) × IsPassed s (asked t).request (asked t).hint t first
+    ((first rest : List Event) × (es ≡ first ++ rest) × IsCandidatePassed s (asked t).request (asked t).hint t first
     × TriesAll s asked ts rest answer new)
-    ⊎ Decides s (asked t).request (asked t).hint t es answer new
+    ⊎ CandidateDecides s (asked t).request (asked t).hint t es answer new
 
 -- nothing is asked, and nothing changes
 abbrev pub Refuses : State → AllocationError → List Event → Result Block AllocationError → State → Type 0
@@ -246,12 +246,12 @@ abbrev pub IsAsAsked : State → Request → ℕ → Block → Type 0
 IsAsAsked s r t b = (b.size ≡ fit_size s r t) × IsMultipleOf (fit_alignment s r t) b.offset
 
 -- a block of a fit chunk is as requested
-unfoldable pub IsExact : State → Request → Block → Type 0
-IsExact s r b = b.kind ≡ FitChunk → IsAsAsked s r b.memory_type b
+unfoldable pub IsExactFit : State → Request → Block → Type 0
+IsExactFit s r b = b.kind ≡ FitChunk → IsAsAsked s r b.memory_type b
 
 -- that clause, spelled out
 abbrev pub ExactIsTold : Type 0
-ExactIsTold = (s : State) (r : Request) (b : Block) → IsExact s r b → b.kind ≡ FitChunk → IsAsAsked s r b.memory_type b
+ExactIsTold = (s : State) (r : Request) (b : Block) → IsExactFit s r b → b.kind ≡ FitChunk → IsAsAsked s r b.memory_type b
 
 -- what a caller may know of a granted block without following the decision
 pub record IsGranted (s : State) (r : Request) (new : State) (b : Block) : Type 0 where
@@ -272,4 +272,4 @@ pub record IsGranted (s : State) (r : Request) (new : State) (b : Block) : Type 
   pub atom : b.atom ≡ atom_of s.properties b.memory_type
   pub some_atom : 0 < b.atom
   pub owned : IsOwned new b
-  pub was_free : (span : Span) → IsLive s span → AreApart span (span_of b)
+  pub was_free : (span : Span) → IsLive s span → AreSpansApart span (span_of b)

@@ -50,8 +50,8 @@ abbrev pub buddy_block : State → ℕ → Span → Block
 buddy_block s t span = granted_block s t BuddyChunk span
 
 -- the front of an object
-abbrev pub front_of : ℕ → ℕ → Span
-front_of object size = record { object = object; offset = 0; size = size }
+abbrev pub object_front : ℕ → ℕ → Span
+object_front object size = record { object = object; offset = 0; size = size }
 
 -- one more span is live
 abbrev pub with_span : State → Span → State

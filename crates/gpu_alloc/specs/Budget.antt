@@ -13,7 +13,7 @@ use Rattle.gpu_alloc_block.specs.State.{HeldObject, Block, State, heap_limit, le
 use Rattle.gpu_alloc_block.specs.declared.block.Kind.{Kind}
 use Rattle.gpu_alloc_block.specs.declared.block.Kind.TheVariants.{Dedicated as DedicatedObject, Imported, BuddyChunk}
 use Rattle.gpu_alloc_block.specs.declared.block.Kind.TheVariants.{FreeListChunk, FitChunk}
-use Rattle.gpu_alloc.specs.Allocation.{Tries, strategy}
+use Rattle.gpu_alloc.specs.Allocation.{TriesCandidate, strategy}
 use Rattle.gpu_alloc.specs.Candidates.{candidate}
 use Rattle.gpu_alloc.specs.declared.request.Dedicated.{Dedicated}
 use Rattle.gpu_alloc.specs.declared.request.Request.{Request}
@@ -80,7 +80,7 @@ IsDevicesAnswer c es (Err TooManyObjects) = ⊥
 abbrev pub IsAskedWithinBudget : Type 0
 IsAskedWithinBudget =
     (s : State) (r : Request) (hint : Option Dedicated) (t : ℕ) (es : List Event)
-    (answer : Result (Option Block) AllocationError) (new : State) → Tries s r hint t es answer new
+    (answer : Result (Option Block) AllocationError) (new : State) → TriesCandidate s r hint t es answer new
     → r.size ≤ heap_size s.properties t → HasQuestion (candidate (strategy s r hint t) s r t)
     → IsWithinBudget (candidate (strategy s r hint t) s r t)
     → IsDevicesAnswer (candidate (strategy s r hint t) s r t) es answer

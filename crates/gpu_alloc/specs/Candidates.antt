@@ -5,7 +5,7 @@ use Rattle.std.specs.FinSet as set
 use Rattle.gpu_alloc_base.specs.Case.{Case}
 use Rattle.gpu_alloc_base.specs.NewChunk.{ChunkQuestion, flags_of}
 use Rattle.gpu_alloc_buddy.specs.Buddy.{Fits}
-use Rattle.gpu_alloc.specs.BuddySharing.{buddy_size, buddy_question, buddy_block, front_of, HasBuddyPlace, IsPieceFront}
+use Rattle.gpu_alloc.specs.BuddySharing.{buddy_size, buddy_question, buddy_block, object_front, HasBuddyPlace, IsPieceFront}
 use Rattle.gpu_alloc.specs.BuddySharing.{with_span, with_buddy_chunk}
 use Rattle.gpu_alloc.specs.FitSharing.{fit_alignment, fit_block, fit_question, fit_size, with_fit_chunk}
 use Rattle.gpu_alloc.specs.FitSharing.{HasFitPlace, IsInFreeRun}
@@ -26,7 +26,7 @@ own_question s size t = record { size = size; memory_type = t; flags = flags_of 
 
 -- an unmapped block that is the whole of an object of its own
 abbrev pub whole_block : State → ℕ → ℕ → ℕ → Block
-whole_block s object size t = granted_block s t DedicatedObject (front_of object size)
+whole_block s object size t = granted_block s t DedicatedObject (object_front object size)
 
 -- one more object is held, with the block in it
 abbrev pub holding : State → HeldObject → Block → State
@@ -81,7 +81,7 @@ buddy_candidate s size t = record {
   object = λ b. b.object;
   IsInPlace = IsFrontBlock s t size;
   with_block = λ b. with_span s (span_of b);
-  IsInNewObject = λ b. IsNewBlock s b (buddy_block s t (front_of b.object size));
+  IsInNewObject = λ b. IsNewBlock s b (buddy_block s t (object_front b.object size));
   with_object = λ b. with_span (with_buddy_chunk s t b.object (buddy_question s t size).size) (span_of b);
 }
 
@@ -129,7 +129,7 @@ fit_candidate s size alignment t = record {
   object = λ b. b.object;
   IsInPlace = IsFitBlock s t size alignment;
   with_block = λ b. with_span s (span_of b);
-  IsInNewObject = λ b. IsNewBlock s b (fit_block s t (front_of b.object size));
+  IsInNewObject = λ b. IsNewBlock s b (fit_block s t (object_front b.object size));
   with_object = λ b. with_span (with_fit_chunk s t b.object (fit_question s t size).size) (span_of b);
 }
 

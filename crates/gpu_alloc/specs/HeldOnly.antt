@@ -5,7 +5,7 @@ use Rattle.gpu_alloc_base.specs.declared.error.AllocationError.{AllocationError}
 use Rattle.gpu_alloc_base.specs.declared.error.AllocationError.TheVariants.{OutOfDeviceMemory, OutOfHostMemory}
 use Rattle.gpu_alloc_base.specs.declared.error.AllocationError.TheVariants.{NoCompatibleMemoryTypes}
 use Rattle.gpu_alloc_block.specs.State.{Block, State}
-use Rattle.gpu_alloc.specs.Allocation.{Decides, Plan, plan, plan_in_pages, strategy}
+use Rattle.gpu_alloc.specs.Allocation.{CandidateDecides, Plan, plan, plan_in_pages, strategy}
 use Rattle.gpu_alloc.specs.Candidates.{candidate}
 use Rattle.gpu_alloc.specs.Request.{in_pages}
 use Rattle.gpu_alloc.specs.declared.allocator.Ask.{Ask}
@@ -35,7 +35,7 @@ IsFirstWithPlace s asked (t ∷ ts) found =
 abbrev pub ServesHeld : State → (ℕ → Ask) → Option ℕ → Result (Option Block) AllocationError → State → Type 0
 ServesHeld s asked None answer new = (answer ≡ Ok None) × (new ≡ s)
 ServesHeld s asked (Some t) (Ok None) new = ⊥
-ServesHeld s asked (Some t) (Ok (Some b)) new = Decides s (asked t).request (asked t).hint t [] (Ok b) new
+ServesHeld s asked (Some t) (Ok (Some b)) new = CandidateDecides s (asked t).request (asked t).hint t [] (Ok b) new
 ServesHeld s asked (Some t) (Err e) new = (e ≡ OutOfHostMemory) × (new ≡ s)
 
 -- it is refused, and nothing changes

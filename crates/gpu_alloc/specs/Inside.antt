@@ -12,8 +12,8 @@ use Rattle.gpu_alloc_base.specs.declared.buddy_block.Leaf.{Leaf}
 use Rattle.gpu_alloc_base.specs.declared.config.Config.{Config}
 use Rattle.gpu_alloc_base.specs.declared.free_list_block.Slot.{Slot}
 use Rattle.gpu_alloc_base.specs.declared.heap.Heap.{Heap}
-use Rattle.gpu_alloc_buddy.specs.BuddySound.{IsSound}
-use Rattle.gpu_alloc_buddy.specs.BuddyState.{Buddy, IsLiveLeaf}
+use Rattle.gpu_alloc_buddy.specs.BuddySound.{IsSoundBuddy}
+use Rattle.gpu_alloc_buddy.specs.BuddyState.{Buddy, IsLiveBuddyLeaf}
 use Rattle.gpu_alloc_base.specs.Chunks.{Chunk}
 use Rattle.gpu_alloc_fit.specs.Fit.{Fitting}
 use Rattle.gpu_alloc_fit.specs.FitSound as fit
@@ -137,14 +137,14 @@ leaf_at span place =
     record { object = span.object; chunk = place.chunk; offset = span.offset; size = span.size; index = place.index }
 
 -- Both have the same chunks and the same blocks in them.
-pub record IsLinked (t : Table) (b : Buddy) : Type 0 where
+pub record IsTableOfBuddy (t : Table) (b : Buddy) : Type 0 where
   pub chunks : (key : ℕ) (c : Chunk) → map_of.get b.chunks key ≡ Some c
       → map_of.get t.held c.object ≡ Some (chunk_object b c)
   pub objects : (object : ℕ) (h : HeldObject) → IsChunkOf t b.memory_type object h → (key : ℕ)
       × (map_of.get b.chunks key ≡ Some (record { object = object; size = h.counted }))
-  pub leaves : (leaf : Leaf) → IsLiveLeaf b leaf → IsLiveIn t (span_of_leaf leaf)
+  pub leaves : (leaf : Leaf) → IsLiveBuddyLeaf b leaf → IsLiveIn t (span_of_leaf leaf)
   pub spans : (span : Span) (h : HeldObject) → IsLiveIn t span → IsChunkOf t b.memory_type span.object h
-      → (place : Place) × IsLiveLeaf b (leaf_at span place)
+      → (place : Place) × IsLiveBuddyLeaf b (leaf_at span place)
 
 -- what a memory type's buddy allocator was given
 pub record IsForType (c : Config) (p : Properties) (index : ℕ) (b : Buddy) : Type 0 where
@@ -156,7 +156,7 @@ pub record IsForType (c : Config) (p : Properties) (index : ℕ) (b : Buddy) : T
 -- and it is sound
 pub record IsBuddyFor (c : Config) (p : Properties) (index : ℕ) (b : Buddy) : Type 0 where
   pub for_type : IsForType c p index b
-  pub sound : IsSound b
+  pub sound : IsSoundBuddy b
 
 -- each memory type has a buddy allocator
 pub record AreBuddies (c : Config) (p : Properties) (buddies : List Buddy) : Type 0 where
@@ -201,7 +201,7 @@ pub record IsListForType (c : Config) (p : Properties) (index : ℕ) (l : Listin
 -- and it is sound
 pub record IsListFor (c : Config) (p : Properties) (index : ℕ) (l : Listing) : Type 0 where
   pub for_type : IsListForType c p index l
-  pub sound : list.IsSound l
+  pub sound : list.IsSoundListing l
 
 -- each memory type has a free list
 pub record AreLists (c : Config) (p : Properties) (lists : List Listing) : Type 0 where
@@ -240,7 +240,7 @@ pub record IsFitForType (c : Config) (p : Properties) (index : ℕ) (f : Fitting
 -- and it is sound
 pub record IsFitFor (c : Config) (p : Properties) (index : ℕ) (f : Fitting) : Type 0 where
   pub for_type : IsFitForType c p index f
-  pub sound : fit.IsSound f
+  pub sound : fit.IsSoundFitting f
 
 -- each memory type has an allocator of fit chunks
 pub record AreFits (c : Config) (p : Properties) (fits : List Fitting) : Type 0 where

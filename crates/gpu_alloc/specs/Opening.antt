@@ -5,7 +5,7 @@ use Rattle.std.specs.FinSet as set
 use Rattle.gpu_alloc_types.specs.Properties.{Properties, heap_size, props_at, atom_of}
 use Rattle.gpu_alloc_types.specs.declared.types.MemoryHeap.{MemoryHeap}
 use Rattle.gpu_alloc_buddy.specs.Buddy as buddy
-use Rattle.gpu_alloc_buddy.specs.BuddySound.{IsSound}
+use Rattle.gpu_alloc_buddy.specs.BuddySound.{IsSoundBuddy}
 use Rattle.gpu_alloc_buddy.specs.BuddyState.{Buddy}
 use Rattle.gpu_alloc_fit.specs.Fit as fit
 use Rattle.gpu_alloc_fit.specs.Fit.{Fitting}
@@ -50,7 +50,7 @@ first_buddy c p t =
     buddy.opened (minimal_size c heap) (initial_size c heap) t (props_at p t) (atom_of p t)
 
 abbrev pub AreFirstBuddies : Config → Properties → List Buddy → Type 0
-AreFirstBuddies c p buddies = (t : ℕ) → IfSome (slice_get buddies t) (λ b. (b ≡ first_buddy c p t) × IsSound b)
+AreFirstBuddies c p buddies = (t : ℕ) → IfSome (slice_get buddies t) (λ b. (b ≡ first_buddy c p t) × IsSoundBuddy b)
 
 -- a memory type's free list, with no chunk
 abbrev pub first_listing : Config → Properties → ℕ → Listing
@@ -68,8 +68,8 @@ first_fitting c p t =
 
 abbrev pub AreFirstFittings : Config → Properties → List Fitting → Type 0
 AreFirstFittings c p fits =
-    (t : ℕ) → IfSome (slice_get fits t) (λ f. (f ≡ first_fitting c p t) × fit_sound.IsSound f)
+    (t : ℕ) → IfSome (slice_get fits t) (λ f. (f ≡ first_fitting c p t) × fit_sound.IsSoundFitting f)
 
 abbrev pub AreFirstListings : Config → Properties → List Listing → Type 0
 AreFirstListings c p lists =
-    (t : ℕ) → IfSome (slice_get lists t) (λ l. (l ≡ first_listing c p t) × list_sound.IsSound l)
+    (t : ℕ) → IfSome (slice_get lists t) (λ l. (l ≡ first_listing c p t) × list_sound.IsSoundListing l)

@@ -19,8 +19,8 @@ pub record OwnTable : Type 0 where
 
 -- What a row says.
 
-abbrev pub name_in : OwnRow → ℕ
-name_in row = row.object
+abbrev pub own_row_name : OwnRow → ℕ
+own_row_name row = row.object
 
 abbrev pub own_span : OwnRow → Span
 own_span row = record { object = row.object; offset = row.offset; size = row.size }
@@ -32,11 +32,11 @@ own_held row = record { memory_type = row.memory_type; counted = row.size; kind 
 abbrev pub row_of : OwnRow → HeldRow
 row_of row = record { memory_type = (own_held row).memory_type; counted = (own_held row).counted; kind = (own_held row).kind }
 
-abbrev pub span_of : OwnRow → LiveSpan
-span_of row = record { object = row.object; offset = row.offset; size = row.size; chunk = 0; index = 0 }
+abbrev pub live_span_of : OwnRow → LiveSpan
+live_span_of row = record { object = row.object; offset = row.offset; size = row.size; chunk = 0; index = 0 }
 
 abbrev pub own_table : Slab OwnRow → ℕ → OwnTable
-own_table rows room = record { held = map_by name_in own_held rows; live = set_by own_span rows; room = room }
+own_table rows room = record { held = map_by own_row_name own_held rows; live = set_by own_span rows; room = room }
 
 -- the object stands under the key
 abbrev pub StandsUnder : Slab OwnRow → ℕ → ℕ → Type 0

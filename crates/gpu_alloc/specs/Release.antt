@@ -40,24 +40,24 @@ LetsGo s gone es new =
 -- Free-list chunks of a memory type.
 
 -- the last run lies in this chunk
-abbrev pub HasLastRun : State → ℕ → ℕ → Type 0
-HasLastRun s t number = (r : FreeListRegion) × (IsLastRun (IsFreeInChunk s t) r × (r.chunk ≡ number))
+abbrev pub HasLastListRun : State → ℕ → ℕ → Type 0
+HasLastListRun s t number = (r : FreeListRegion) × (IsLastRun (IsFreeInChunk s t) r × (r.chunk ≡ number))
 
 -- the object is the chunk with this number and may be released: nothing in it is live, and where the last run's chunk
 -- is kept, it is another one
-pub record MayGo (s : State) (t : ℕ) (keep_last : Bool) (number object : ℕ) : Type 0 where
+pub record ListChunkMayGo (s : State) (t : ℕ) (keep_last : Bool) (number object : ℕ) : Type 0 where
   pub chunk : IsListChunk s t number object
   pub unused : IsUnused s object
-  pub not_last : keep_last ≡ true → HasLastRun s t number → ⊥
+  pub not_last : keep_last ≡ true → HasLastListRun s t number → ⊥
 
 -- These are all the objects that may be released, in rising number.
 pub record AreChunksGone (s : State) (t : ℕ) (keep_last : Bool) (gone : List ℕ) : Type 0 where
   pub rising : (i j d m n : ℕ) → i < j → j < length gone
       → IsListChunk s t m (get_or gone i d) → IsListChunk s t n (get_or gone j d) → m < n
-  pub all : (object : ℕ) → Contains gone object ↔ ((number : ℕ) × MayGo s t keep_last number object)
+  pub all : (object : ℕ) → Contains gone object ↔ ((number : ℕ) × ListChunkMayGo s t keep_last number object)
 
 -- These are all the chunks of a memory type that may be released. They are, and the device has the other objects then.
-pub record GivesBack (s : State) (t : ℕ) (keep_last : Bool) (gone : List ℕ) (es : List Event) (new : State)
+pub record LetsChunksGo (s : State) (t : ℕ) (keep_last : Bool) (gone : List ℕ) (es : List Event) (new : State)
     (old_objects new_objects : ℕ → Option Object) : Type 0 where
   pub chunks : AreChunksGone s t keep_last gone
   pub lets : LetsGo s gone es new
@@ -71,7 +71,7 @@ pub record IsUnusedFit (s : State) (t object : ℕ) : Type 0 where
   pub unused : IsUnused s object
 
 -- nothing is live in the object, nor in another fit chunk of its memory type
-pub record IsSpare (s : State) (object : ℕ) : Type 0 where
+pub record IsSpareFit (s : State) (object : ℕ) : Type 0 where
   pub unused : IsUnused s object
   pub chunk : HeldObject
   pub held : finite.get s.held object ≡ Some chunk
@@ -85,7 +85,7 @@ pub record AreFitsGone (s : State) (t : ℕ) (gone : List ℕ) : Type 0 where
   pub all : (object : ℕ) → Contains gone object ↔ IsUnusedFit s t object
 
 -- They are released, and the device has the other objects then.
-pub record GivesFitsBack (s : State) (t : ℕ) (gone : List ℕ) (es : List Event) (new : State)
+pub record LetsFitsGo (s : State) (t : ℕ) (gone : List ℕ) (es : List Event) (new : State)
     (old_objects new_objects : ℕ → Option Object) : Type 0 where
   pub chunks : AreFitsGone s t gone
   pub lets : LetsGo s gone es new
@@ -99,7 +99,7 @@ GoesWith Imported s object gone = gone ≡ object ∷ []
 GoesWith BuddyChunk s object gone = (IsUnused s object × (gone ≡ object ∷ [])) ⊎ ((IsUnused s object → ⊥) × (gone ≡ []))
 GoesWith (FreeListChunk number) s object gone =
     (chunk : HeldObject) × (finite.get s.held object ≡ Some chunk) × AreChunksGone s chunk.memory_type true gone
-GoesWith FitChunk s object gone = (IsSpare s object × (gone ≡ object ∷ [])) ⊎ ((IsSpare s object → ⊥) × (gone ≡ []))
+GoesWith FitChunk s object gone = (IsSpareFit s object × (gone ≡ object ∷ [])) ⊎ ((IsSpareFit s object → ⊥) × (gone ≡ []))
 
 abbrev pub Frees : State → Block → List Event → State → Type 0
 Frees s b es new =
@@ -122,7 +122,7 @@ pub record AreGoneOfType (s : State) (t : ℕ) (gone : List ℕ) : Type 0 where
 
 -- these are all chunks of a memory type without a live block; they are released, and the device has the other objects
 -- then
-pub record GivesTypeBack (s : State) (t : ℕ) (gone : List ℕ) (es : List Event) (new : State)
+pub record LetsTypeGo (s : State) (t : ℕ) (gone : List ℕ) (es : List Event) (new : State)
     (old_objects new_objects : ℕ → Option Object) : Type 0 where
   pub chunks : AreGoneOfType s t gone
   pub lets : LetsGo s gone es new
@@ -146,7 +146,7 @@ IsCleanedUp s object h = (may_be_unused h.kind ≡ true) × IsUnused s object
 
 -- What a call releases: some objects that were held, each once and in this order, and nothing else. The allocator no
 -- longer holds them, and the device no longer has them. Every other object is held and on the device as before.
-pub record GoesBack {D : Type 0} (step : D → Event → D → Type 0) (objects : D → ℕ → Option Object) (s : State)
+pub record LetsObjectsGo {D : Type 0} (step : D → Event → D → Type 0) (objects : D → ℕ → Option Object) (s : State)
     (from : D) (new : State) (to : D) : Type 0 where
   pub gone : List ℕ
   pub asked : Chain step from (map Deallocated gone) to

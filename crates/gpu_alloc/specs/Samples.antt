@@ -20,8 +20,8 @@ one_type heap bits atom = record {
 }
 
 -- an allocator with the potato's sizes, for a device with one type
-abbrev pub over : ℕ → ℕ → ℕ → State
-over heap bits atom = opened potato (one_type heap bits atom)
+abbrev pub potato_for_one_type : ℕ → ℕ → ℕ → State
+potato_for_one_type heap bits atom = opened potato (one_type heap bits atom)
 
 -- the same where fit chunks are chosen
 abbrev pub fits_over : ℕ → ℕ → ℕ → State

@@ -9,7 +9,7 @@ use Rattle.gpu_alloc.specs.FitSharing.{IsFitChunk}
 use Rattle.gpu_alloc.specs.FreeListSharing.{IsListChunk, latest_number}
 use Rattle.gpu_alloc_block.specs.declared.sharing.Sharing.{Sharing}
 use Rattle.gpu_alloc_block.specs.declared.sharing.Sharing.TheVariants.{Buddy, Fit}
-use Rattle.gpu_alloc_block.specs.State.{HeldObject, Span, State, IsLive, AreApart, is_shared}
+use Rattle.gpu_alloc_block.specs.State.{HeldObject, Span, State, IsLive, AreSpansApart, is_shared}
 
 -- whether an object may be held in which nothing is live: a free-list chunk, or a fit chunk
 abbrev pub may_be_unused : Kind → Bool
@@ -59,7 +59,7 @@ pub record IsSound (s : State) : Type 0 where
   pub buddy : (span : Span) (h : HeldObject) → IsLive s span → map.get s.held span.object ≡ Some h
       → h.kind ≡ BuddyChunk → IsPowerOfTwo span.size × IsMultipleOf span.size span.offset
   -- different live spans share no byte
-  pub apart : (x y : Span) → IsLive s x → IsLive s y → x ≢ y → AreApart x y
+  pub apart : (x y : Span) → IsLive s x → IsLive s y → x ≢ y → AreSpansApart x y
   -- each held object of one block and each held buddy chunk has a live span
   pub used : (object : ℕ) → IfSome (map.get s.held object) (λ h. may_be_unused h.kind ≡ false → HasLiveSpan s object)
   -- the chunks of a memory type's free list have numbers of their own, from 1 to the latest

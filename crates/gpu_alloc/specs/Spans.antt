@@ -27,9 +27,9 @@ abbrev pub held_of : HeldRow → HeldObject
 held_of row = record { memory_type = row.memory_type; counted = row.counted; kind = row.kind }
 
 -- an object by its name
-abbrev pub entry_of : ℕ × HeldRow → ℕ × HeldObject
-entry_of e = (e.0, held_of e.1)
+abbrev pub held_entry_of : ℕ × HeldRow → ℕ × HeldObject
+held_entry_of e = (e.0, held_of e.1)
 
 -- held objects by name, from their entries
-abbrev pub objects_in : List (ℕ × HeldRow) → map_of.FinMap nat_cmp HeldObject
-objects_in entries = map_of.from_entries (map entry_of entries)
+abbrev pub held_objects_in : List (ℕ × HeldRow) → map_of.FinMap nat_cmp HeldObject
+held_objects_in entries = map_of.from_entries (map held_entry_of entries)

@@ -4,7 +4,7 @@ use Rattle.std.specs.Prelude.{◌≡◌, ◌⊎◌, ℕ, zero, suc, ◌+◌, ◌
 use Rattle.gpu_alloc_types.specs.Properties.{Properties}
 use Rattle.gpu_alloc_base.specs.declared.config.Config.{Config}
 use Rattle.gpu_alloc_base.specs.declared.heap.Heap.{Heap}
-use Rattle.gpu_alloc_block.specs.Parts.{Part, held_in, live_in, by_name, by_span, AreApart}
+use Rattle.gpu_alloc_block.specs.Parts.{Part, held_in_parts, live_in_parts, by_name, by_span, ArePartsApart}
 use Rattle.gpu_alloc_block.specs.State.{HeldObject, is_shared}
 use Rattle.gpu_alloc_block.specs.declared.block.Kind.TheVariants.{BuddyChunk, FreeListChunk, FitChunk}
 use Rattle.gpu_alloc_block.specs.declared.sharing.Sharing.{Sharing}
@@ -35,19 +35,19 @@ parts_of own buddies lists fits =
 
 -- Which part may hold an object: that of objects of one block, or its memory type's buddy allocator, free list or
 -- allocator of fit chunks, given how many there are of the first two.
-abbrev pub IsPlace : ℕ → ℕ → ℕ → HeldObject → Type 0
-IsPlace buddies lists zero h = is_shared h.kind ≡ false
-IsPlace buddies lists (suc i) h = ((h.kind ≡ BuddyChunk) × (h.memory_type ≡ i) × (i < buddies))
+abbrev pub IsPartFor : ℕ → ℕ → ℕ → HeldObject → Type 0
+IsPartFor buddies lists zero h = is_shared h.kind ≡ false
+IsPartFor buddies lists (suc i) h = ((h.kind ≡ BuddyChunk) × (h.memory_type ≡ i) × (i < buddies))
     ⊎ (((number : ℕ) × (h.kind ≡ FreeListChunk number) × (buddies + h.memory_type ≡ i))
     ⊎ ((h.kind ≡ FitChunk) × (buddies + (lists + h.memory_type) ≡ i)))
 
 -- all of it
 abbrev pub whole : OwnTable → List Buddy → List Listing → List Fitting → Table
 whole own buddies lists fits =
-    record { held = held_in (parts_of own buddies lists fits); live = live_in (parts_of own buddies lists fits) }
+    record { held = held_in_parts (parts_of own buddies lists fits); live = live_in_parts (parts_of own buddies lists fits) }
 
-abbrev pub AreWhole : OwnTable → List Buddy → List Listing → List Fitting → Type 0
-AreWhole own buddies lists fits = AreApart (IsPlace (length buddies) (length lists)) (parts_of own buddies lists fits)
+abbrev pub AreOneWhole : OwnTable → List Buddy → List Listing → List Fitting → Type 0
+AreOneWhole own buddies lists fits = ArePartsApart (IsPartFor (length buddies) (length lists)) (parts_of own buddies lists fits)
 
 -- what an allocator's fields keep between calls
 pub record IsKept (sharing : Sharing) (c : Config) (p : Properties) (heaps : List Heap) (buddies : List Buddy)
@@ -57,4 +57,4 @@ pub record IsKept (sharing : Sharing) (c : Config) (p : Properties) (heaps : Lis
   pub listed : AreLists c p lists
   pub fitted : AreFits c p fits
   pub chosen : IsChosen sharing (whole own buddies lists fits)
-  pub apart : AreWhole own buddies lists fits
+  pub apart : AreOneWhole own buddies lists fits

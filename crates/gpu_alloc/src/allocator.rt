@@ -9,10 +9,10 @@ ghost use Rattle.gpu_alloc_types.specs.Flags.{usage_bits};
 ghost use Rattle.gpu_alloc_types.specs.Device.{Event, Chain};
 ghost use Rattle.gpu_alloc_block.specs.Agreement.{Agrees, BlockAgrees, KeepsBlocks};
 ghost use Rattle.gpu_alloc_block.specs.Kept.{LeavesInHand, AddsInHand, RemovesInHand};
-ghost use Rattle.gpu_alloc.specs.Allocation.{passing, fits_a_chunk, Tries, TriesBy, TriesAll};
+ghost use Rattle.gpu_alloc.specs.Allocation.{passing, fits_a_chunk, TriesCandidate, TriesBy, TriesAll};
 ghost use Rattle.gpu_alloc_usage.specs.Ranking.{implied, named, ranking};
 ghost use Rattle.gpu_alloc.specs.Allocation.{Allocates, AllocatesBy, ObjectsAfter, ObjectsTried, IsGranted};
-ghost use Rattle.gpu_alloc.specs.Allocation.{IsAloneWhereServed, IsExact, asked_of, candidates_of, plan_with};
+ghost use Rattle.gpu_alloc.specs.Allocation.{IsAloneWhereServed, IsExactFit, asked_of, candidates_of, plan_with};
 ghost use Rattle.gpu_alloc.specs.Atoms.{KeepsAtoms};
 ghost use Rattle.gpu_alloc.specs.Candidates.{own_candidate};
 ghost use Rattle.gpu_alloc_base.specs.Case.{IsOverBudget, IsWithinBudget};
@@ -20,7 +20,7 @@ ghost use Rattle.gpu_alloc.specs.declared.allocator.Strategy.TheVariants.{OwnObj
 ghost use Rattle.gpu_alloc.specs.FitSharing.{fits_first};
 ghost use Rattle.gpu_alloc_block.specs.declared.sharing.Sharing.TheVariants.{Buddy as BuddyChosen, Fit as FitChosen};
 ghost use Rattle.gpu_alloc.specs.Owned.{Leaves, Adds, Removes, LeavesNoRest, StaysAgreed};
-ghost use Rattle.gpu_alloc.specs.Release.{Frees, ObjectsFreed, Cleans, ObjectsCleaned, IsCleanedUp, GoesBack};
+ghost use Rattle.gpu_alloc.specs.Release.{Frees, ObjectsFreed, Cleans, ObjectsCleaned, IsCleanedUp, LetsObjectsGo};
 ghost use Rattle.gpu_alloc.specs.Request.{IsAskable};
 ghost use Rattle.gpu_alloc.specs.Sound as Sound;
 ghost use Rattle.gpu_alloc_block.specs.State.{HeldObject, Span, IsLive, IsOwned, ledger, total};
@@ -182,7 +182,7 @@ impl<M: MemoryObject, A: Allocator> GpuAllocator<M, A> {
         // What follows from it.
         ensures granted { IfOk result (IsGranted self.old request self.new) }
         ensures alone { IfOk result (IsAloneWhereServed self.old request None) }
-        ensures exact { IfOk result (IsExact self.old request) }
+        ensures exact { IfOk result (IsExactFit self.old request) }
         ensures ready { IfOk result (λ block. BlockAgrees block (D.properties device.new) (D.objects device.new)) }
         ensures added { IfOk result (Adds self.old self.new) }
         ensures refused { OnErr result (self.new ≡ self.old) }
@@ -230,7 +230,7 @@ impl<M: MemoryObject, A: Allocator> GpuAllocator<M, A> {
         ensures granted { IfOk result (IsGranted self.old request self.new) }
         ensures ready { IfOk result (λ block. BlockAgrees block (D.properties device.new) (D.objects device.new)) }
         ensures alone { IfOk result (IsAloneWhereServed self.old request (Some dedicated)) }
-        ensures exact { IfOk result (IsExact self.old request) }
+        ensures exact { IfOk result (IsExactFit self.old request) }
         ensures own { dedicated ≡ Dedicated.Required → IfOk result (λ block. block.kind ≡ Kind.Dedicated) }
         ensures added { IfOk result (Adds self.old self.new) }
         ensures refused { OnErr result (self.new ≡ self.old) }
@@ -343,7 +343,7 @@ impl<M: MemoryObject, A: Allocator> GpuAllocator<M, A> {
         requires known { memory_type < length (self.old.properties).memory_types }
         requires agrees { Agrees self.old (D.properties device.old) (D.objects device.old) }
         ensures tries { (es : List Event) × Chain D.step device.old es device.new
-            × Tries self.old request hint memory_type es result self.new }
+            × TriesCandidate self.old request hint memory_type es result self.new }
         ensures objects { ObjectsTried self.old result self.new (D.objects device.old) (D.objects device.new) }
     {
         match self.strategy(request, hint, memory_type) {
@@ -366,14 +366,14 @@ impl<M: MemoryObject, A: Allocator> GpuAllocator<M, A> {
         ensures within { result ≡ false → 0 < self.now.remaining → IsWithinBudget (own_candidate self.now size memory_type) }
     {
         !self.heaps[self.limits.heap_index(memory_type)].fits(size)
-            && self.is_larger_or_may_hold_more(size, memory_type)
+            && self.is_passed_over_budget(size, memory_type)
     }
 
     /// Whether an object of `size` bytes is larger than a memory type's heap, or one more may be held. (It stands apart
     /// so that requests within the budget do not pay for it.)
     #[cold]
     #[inline(never)]
-    fn is_larger_or_may_hold_more(&self, size: u64, memory_type: u32) -> bool
+    fn is_passed_over_budget(&self, size: u64, memory_type: u32) -> bool
         requires known { memory_type < length (self.now.properties).memory_types }
         ensures { IsTrue result ↔ ((heap_size self.now.properties memory_type < size) ⊎ (0 < self.now.remaining)) }
     {
@@ -606,7 +606,7 @@ impl<M: MemoryObject, A: Allocator> GpuAllocator<M, A> {
 
         ensures freed { (es : List Event) × Chain D.step device.old es device.new × Frees self.old block es self.new }
         ensures objects { ObjectsFreed self.old block (D.objects device.old) (D.objects device.new) }
-        ensures gone { GoesBack D.step D.objects self.old device.old self.new device.new }
+        ensures gone { LetsObjectsGo D.step D.objects self.old device.old self.new device.new }
         ensures agrees { Agrees self.new (D.properties device.new) (D.objects device.new) }
         ensures removed { Removes self.old block self.new }
         ensures keeps { KeepsBlocks self.old (D.properties device.old) (D.objects device.old)
@@ -617,7 +617,7 @@ impl<M: MemoryObject, A: Allocator> GpuAllocator<M, A> {
         ensures total { total self.new ≡ total self.old }
         ensures sound { Sound.IsSound self.new }
     {
-        self.take_back(device, block);
+        self.put_back(device, block);
     }
 
     /// Releases every free-list chunk and every fit chunk without a live block. It goes by memory type, and for each
@@ -632,7 +632,7 @@ impl<M: MemoryObject, A: Allocator> GpuAllocator<M, A> {
 
         ensures cleaned { (es : List Event) × Chain D.step device.old es device.new × Cleans self.old es self.new }
         ensures objects { ObjectsCleaned self.old (D.objects device.old) (D.objects device.new) }
-        ensures gone { GoesBack D.step D.objects self.old device.old self.new device.new }
+        ensures gone { LetsObjectsGo D.step D.objects self.old device.old self.new device.new }
         ensures agrees { Agrees self.new (D.properties device.new) (D.objects device.new) }
         ensures leaves { Leaves self.old self.new }
         ensures keeps { KeepsBlocks self.old (D.properties device.old) (D.objects device.old)

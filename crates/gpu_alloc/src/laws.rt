@@ -13,21 +13,21 @@ ghost use Rattle.gpu_alloc.specs.Exactness.{AreSpaced, AreFreeRuns, TellPlaces};
 ghost use Rattle.gpu_alloc.specs.declared.allocator.Strategy.TheVariants.{OwnObject, InBuddyChunk, InFreeList, InFitChunk};
 ghost use Rattle.gpu_alloc_buddy.specs.Buddy.{opened as empty_buddy, rounded, chunk_size};
 ghost use Rattle.gpu_alloc_base.specs.Wanted.{wanted};
-ghost use Rattle.gpu_alloc_buddy.specs.BuddyState.{Buddy, IsFreeAt};
+ghost use Rattle.gpu_alloc_buddy.specs.BuddyState.{Buddy, IsFreeInBuddy};
 ghost use Rattle.gpu_alloc_base.specs.Config.{potato, prototyping};
 ghost use Rattle.gpu_alloc.specs.FreeBytes.{IsFreeByte};
 ghost use Rattle.gpu_alloc.specs.FreeRanges.{HasByte, IsFreeOf, IsFreeRangeOf};
 ghost use Rattle.gpu_alloc.specs.FitSharing.{FitChunksAreSmall, HasFitPlace, fit_alignment, fit_question, fit_size, largest_fit};
 ghost use Rattle.gpu_alloc.specs.FitSharing.{with_fit_chunk};
 ghost use Rattle.gpu_alloc_freelist.specs.FreeList.{HasPlace};
-ghost use Rattle.gpu_alloc_freelist.specs.FreeListState.{Space, IsFreeIn};
+ghost use Rattle.gpu_alloc_freelist.specs.FreeListState.{ListSpace, IsFreeIn};
 ghost use Rattle.gpu_alloc_base.specs.FreeRuns.{tail_start};
 ghost use Rattle.gpu_alloc.specs.FreeListSharing.{IsFreeInChunk, HasListPlace, list_size, list_alignment};
 ghost use Rattle.gpu_alloc.specs.FreeListSharing.{list_question};
 ghost use Rattle.gpu_alloc_base.specs.declared.region.FreeListRegion.{FreeListRegion};
 ghost use Rattle.gpu_alloc.specs.Importing.{ImportsAgree, MadeObjects};
 ghost use Rattle.gpu_alloc.specs.Importing.{ObjectsOfOthers, WhichMayBeImported};
-ghost use Rattle.gpu_alloc.specs.Samples.{one_type, over, fits_over, bytes_for, buddy_config};
+ghost use Rattle.gpu_alloc.specs.Samples.{one_type, potato_for_one_type, fits_over, bytes_for, buddy_config};
 ghost use Rattle.gpu_alloc.specs.BuddySharing.{buddy_size, buddy_question, with_buddy_chunk};
 ghost use Rattle.gpu_alloc_base.specs.Sizes.{minimal_size, final_size, grown_chunk, doubled_chunk};
 ghost use Rattle.gpu_alloc.specs.FirstTypes.{first_types};
@@ -64,9 +64,9 @@ use std::alloc::Allocator;
 /// their length.) This holds of a buddy allocator's chunks by key, and of an allocator's objects by name.
 pub fn kept_pieces_are_the_free_pieces()
     ensures exact { (b : Buddy) (pieces : List Piece)
-        → AreCanonical (IsFreeAt b) pieces → AreFreePieces (IsFreeAt b) pieces }
+        → AreCanonical (IsFreeInBuddy b) pieces → AreFreePieces (IsFreeInBuddy b) pieces }
     ensures place { (b : Buddy) (pieces : List Piece)
-        → AreCanonical (IsFreeAt b) pieces → AreLongEnough (IsFreeAt b) pieces }
+        → AreCanonical (IsFreeInBuddy b) pieces → AreLongEnough (IsFreeInBuddy b) pieces }
     ensures exact_in_objects { (s : State) (t : ℕ) (kind : Kind) (pieces : List Piece)
         → AreCanonical (IsFreeByte s t kind) pieces → AreFreePieces (IsFreeByte s t kind) pieces }
     ensures place_in_objects { (s : State) (t : ℕ) (kind : Kind) (pieces : List Piece)
@@ -75,7 +75,7 @@ pub fn kept_pieces_are_the_free_pieces()
 
 /// Two free pieces that share a byte are the same piece.
 pub fn free_pieces_are_apart()
-    ensures in_chunks { (b : Buddy) → ArePiecesApart (IsFreeAt b) }
+    ensures in_chunks { (b : Buddy) → ArePiecesApart (IsFreeInBuddy b) }
     ensures in_objects { (s : State) (t : ℕ) (kind : Kind) → ArePiecesApart (IsFreeByte s t kind) }
 {}
 
@@ -83,9 +83,9 @@ pub fn free_pieces_are_apart()
 /// bytes. This holds of a free list's chunks, and in the whole allocator of a memory type's free-list chunks and fit
 /// chunks, by the names of their objects. There is a place for a block exactly where some region has room for it.
 pub fn regions_are_the_free_runs()
-    ensures exact { (s : Space) (regions : List FreeListRegion)
+    ensures exact { (s : ListSpace) (regions : List FreeListRegion)
         → AreSpaced (IsFreeIn s) regions → AreFreeRuns (IsFreeIn s) regions }
-    ensures place { (s : Space) (regions : List FreeListRegion)
+    ensures place { (s : ListSpace) (regions : List FreeListRegion)
         → AreSpaced (IsFreeIn s) regions → TellPlaces (HasPlace s) regions }
     ensures exact_in_state { (s : State) (t : ℕ) (regions : List FreeListRegion)
         → AreSpaced (IsFreeInChunk s t) regions → AreFreeRuns (IsFreeInChunk s t) regions }
@@ -122,10 +122,10 @@ pub fn free_list_chunks_of_samples()
     ensures last { doubled_chunk 32768 32768 ≡ 32768 }
     ensures tail { tail_start 100 1 8192 ≡ 8092 }
     ensures aligned_tail { tail_start 100 256 8092 ≡ 7936 }
-    ensures atoms { list_size (over 3200 2 64) (bytes_for 60 16) 0 ≡ 64 }
-    ensures atom_aligned { list_alignment (over 3200 2 64) (bytes_for 60 16) 0 ≡ 64 }
-    ensures question { (list_question (over 1048576 1 1) 0 20000).size ≡ 32768 }
-    ensures seen { (list_question (over 3200 2 64) 0 64).mapped ≡ true }
+    ensures atoms { list_size (potato_for_one_type 3200 2 64) (bytes_for 60 16) 0 ≡ 64 }
+    ensures atom_aligned { list_alignment (potato_for_one_type 3200 2 64) (bytes_for 60 16) 0 ≡ 64 }
+    ensures question { (list_question (potato_for_one_type 1048576 1 1) 0 20000).size ≡ 32768 }
+    ensures seen { (list_question (potato_for_one_type 3200 2 64) 0 64).mapped ≡ true }
 {}
 
 /// Sizes of fit chunks, for every configuration, heap and grain. The first one has room for every request that shares
@@ -185,14 +185,14 @@ pub fn buddy_sizes_of_samples()
 /// larger chunk was made.
 #[tactic(auto, unfolding(gpu_alloc_base::specs::Sizes::doubled_up, crate::specs::BuddySharing::with_next_chunk))]
 pub fn shared_chunks_of_samples()
-    ensures small { buddy_size (over 1048576 1 1) (bytes_for 100 0) 0 ≡ 128 }
-    ensures small_chunk { (buddy_question (over 1048576 1 1) 0 128).size ≡ 8192 }
-    ensures large { buddy_size (over 1048576 1 1) (bytes_for 20000 0) 0 ≡ 32768 }
-    ensures large_chunk { (buddy_question (over 1048576 1 1) 0 32768).size ≡ 65536 }
-    ensures grown { (buddy_question (with_buddy_chunk (over 1048576 1 1) 0 1 65536) 0 128).size ≡ 65536 }
-    ensures atom { buddy_size (over 3200 2 64) (bytes_for 20 0) 0 ≡ 64 }
-    ensures seen { (buddy_question (over 3200 2 64) 0 64).mapped ≡ true }
-    ensures unseen { (buddy_question (over 1048576 1 1) 0 128).mapped ≡ false }
+    ensures small { buddy_size (potato_for_one_type 1048576 1 1) (bytes_for 100 0) 0 ≡ 128 }
+    ensures small_chunk { (buddy_question (potato_for_one_type 1048576 1 1) 0 128).size ≡ 8192 }
+    ensures large { buddy_size (potato_for_one_type 1048576 1 1) (bytes_for 20000 0) 0 ≡ 32768 }
+    ensures large_chunk { (buddy_question (potato_for_one_type 1048576 1 1) 0 32768).size ≡ 65536 }
+    ensures grown { (buddy_question (with_buddy_chunk (potato_for_one_type 1048576 1 1) 0 1 65536) 0 128).size ≡ 65536 }
+    ensures atom { buddy_size (potato_for_one_type 3200 2 64) (bytes_for 20 0) 0 ≡ 64 }
+    ensures seen { (buddy_question (potato_for_one_type 3200 2 64) 0 64).mapped ≡ true }
+    ensures unseen { (buddy_question (potato_for_one_type 1048576 1 1) 0 128).mapped ≡ false }
 {}
 
 /// First chunk sizes: of both default configurations, of a small heap with an atom, and of a minimum above the initial
@@ -219,15 +219,15 @@ pub fn first_sizes_of_samples()
 
 /// The strategy at its thresholds: a request of exactly the threshold gets an object of its own.
 pub fn strategy_of_samples()
-    ensures required { strategy (over 1048576 1 1) (bytes_for 1 16) (Some Required) 0 ≡ OwnObject }
-    ensures preferred { strategy (over 1048576 1 1) (bytes_for 1024 0) (Some Preferred) 0 ≡ OwnObject }
-    ensures preferred_below { strategy (over 1048576 1 1) (bytes_for 1023 0) (Some Preferred) 0 ≡ InBuddyChunk }
-    ensures large { strategy (over 1048576 1 1) (bytes_for 32768 0) None 0 ≡ OwnObject }
-    ensures large_below { strategy (over 1048576 1 1) (bytes_for 32767 0) None 0 ≡ InBuddyChunk }
-    ensures transient { strategy (over 1048576 1 1) (bytes_for 20000 16) None 0 ≡ InFreeList }
-    ensures transient_large { strategy (over 1048576 1 1) (bytes_for 32768 16) None 0 ≡ OwnObject }
-    ensures over_the_final_chunk { strategy (over 3200 2 64) (bytes_for 70 16) None 0 ≡ OwnObject }
-    ensures in_the_final_chunk { strategy (over 3200 2 64) (bytes_for 60 16) None 0 ≡ InFreeList }
+    ensures required { strategy (potato_for_one_type 1048576 1 1) (bytes_for 1 16) (Some Required) 0 ≡ OwnObject }
+    ensures preferred { strategy (potato_for_one_type 1048576 1 1) (bytes_for 1024 0) (Some Preferred) 0 ≡ OwnObject }
+    ensures preferred_below { strategy (potato_for_one_type 1048576 1 1) (bytes_for 1023 0) (Some Preferred) 0 ≡ InBuddyChunk }
+    ensures large { strategy (potato_for_one_type 1048576 1 1) (bytes_for 32768 0) None 0 ≡ OwnObject }
+    ensures large_below { strategy (potato_for_one_type 1048576 1 1) (bytes_for 32767 0) None 0 ≡ InBuddyChunk }
+    ensures transient { strategy (potato_for_one_type 1048576 1 1) (bytes_for 20000 16) None 0 ≡ InFreeList }
+    ensures transient_large { strategy (potato_for_one_type 1048576 1 1) (bytes_for 32768 16) None 0 ≡ OwnObject }
+    ensures over_the_final_chunk { strategy (potato_for_one_type 3200 2 64) (bytes_for 70 16) None 0 ≡ OwnObject }
+    ensures in_the_final_chunk { strategy (potato_for_one_type 3200 2 64) (bytes_for 60 16) None 0 ≡ InFreeList }
 {}
 
 /// An allocator that holds nothing agrees with every device that has its properties. A caller that opened one with its

@@ -8,8 +8,8 @@ ghost use Rattle.std.specs.List.{IsDistinct};
 ghost use Rattle.std.specs.Map.{keys_of};
 ghost use Rattle.std.specs.Option.{option_map};
 ghost use Rattle.gpu_alloc.specs.Listing.{AreOnce};
-ghost use Rattle.gpu_alloc.specs.Own.{own_held, own_span, row_of, span_of, IsRowOf, StandsNowhere, StandsUnder};
-ghost use Rattle.gpu_alloc.specs.Spans.{held_of, objects_in, span_at, span_in};
+ghost use Rattle.gpu_alloc.specs.Own.{own_held, own_span, row_of, live_span_of, IsRowOf, StandsNowhere, StandsUnder};
+ghost use Rattle.gpu_alloc.specs.Spans.{held_objects_in, held_of, span_at, span_in};
 
 use crate::spans::{HeldRow, LiveSpan};
 use gpu_alloc_block::Kind;
@@ -62,7 +62,7 @@ impl OwnRow {
 
     /// The block's span.
     fn span(&self) -> LiveSpan
-        ensures { result ≡ span_of self.now }
+        ensures { result ≡ live_span_of self.now }
     {
         LiveSpan {
             object: self.object,
@@ -113,12 +113,12 @@ impl<A: Allocator> Model for OwnObjects<A> {
 
     ghost use Rattle.std.specs.Prelude.{◌-◌};
     ghost use Rattle.gpu_alloc_base.specs.SlabViews.{HasOneKeyEach};
-    ghost use Rattle.gpu_alloc.specs.Own.{name_in, own_table};
+    ghost use Rattle.gpu_alloc.specs.Own.{own_row_name, own_table};
     ghost use Rattle.slab.specs.Slab.{slab_len};
 
     ghost view = { λ t. own_table t.rows (t.rows.capacity - slab_len t.rows) };
 
-    ghost invariant = { λ t. HasOneKeyEach name_in t.rows };
+    ghost invariant = { λ t. HasOneKeyEach own_row_name t.rows };
 }
 
 /// The key of an object's row: this one if its row is the object's, or else the one that a search finds.
@@ -265,7 +265,7 @@ impl<A: Allocator> OwnObjects<A> {
         rows: &mut Vec<(u64, HeldRow), B>,
     ) -> Result<(), AllocError>
         ensures { OnOk result ((own : List (ℕ × HeldRow)) × (rows.new.items ≡ rows.old.items ++ own)
-            × ((objects_in own ≡ self.now.held) × IsDistinct nat_eq (keys_of own))) }
+            × ((held_objects_in own ≡ self.now.held) × IsDistinct nat_eq (keys_of own))) }
     {
         for (_, row) in self.rows.iter() {
             rows.push((row.object, row.held()))?;

@@ -31,19 +31,19 @@ chunk_question size memory_type flags mapped =
     record { size = size; memory_type = memory_type; flags = flags; mapped = mapped }
 
 -- the whole of a new object
-abbrev pub whole_of : ChunkQuestion → ℕ → Range
-whole_of q object = record { object = object; offset = 0; size = q.size }
+abbrev pub whole_new_object : ChunkQuestion → ℕ → Range
+whole_new_object q object = record { object = object; offset = 0; size = q.size }
 
 -- the object was granted, and mapped whole where the question says so
 abbrev pub made : ChunkQuestion → ℕ → List Event
 made q object =
-    Allocated q.size q.memory_type q.flags (Ok object) ∷ cond q.mapped (Mapped (whole_of q object) (Ok tt) ∷ []) []
+    Allocated q.size q.memory_type q.flags (Ok object) ∷ cond q.mapped (Mapped (whole_new_object q object) (Ok tt) ∷ []) []
 
 -- the object was granted, its mapping refused, and the object released
 abbrev pub unmapped : ChunkQuestion → ℕ → DeviceMapError → List Event
 unmapped q object cause =
     Allocated q.size q.memory_type q.flags (Ok object)
-    ∷ Mapped (whole_of q object) (Err cause) ∷ Deallocated object ∷ []
+    ∷ Mapped (whole_new_object q object) (Err cause) ∷ Deallocated object ∷ []
 
 -- the device answered that it has no memory of its own for the object or for its mapping
 abbrev pub LacksDeviceMemory : ChunkQuestion → List Event → Type 0
@@ -59,8 +59,8 @@ LacksHostMemory q es =
     ((cause : DeviceMapError) × (cause ≢ MapDeviceFull) × (es ≡ unmapped q object cause))))
 
 -- the object was made, and released because there was no host memory for a second handle of it
-abbrev pub IsGivenBack : ChunkQuestion → List Event → Type 0
-IsGivenBack q es = (object : ℕ) × (es ≡ made q object ++ Deallocated object ∷ [])
+abbrev pub IsLetGo : ChunkQuestion → List Event → Type 0
+IsLetGo q es = (object : ℕ) × (es ≡ made q object ++ Deallocated object ∷ [])
 
 -- a refused mapping of a new chunk, as a refusal of the chunk
 abbrev pub new_chunk_refusal : DeviceMapError → AllocationError
@@ -80,7 +80,7 @@ AsksChunk q es (Err TooManyObjects) = ⊥
 abbrev pub AsksChunkTwice : ChunkQuestion → List Event → Result (ℕ × ℕ) AllocationError → Type 0
 AsksChunkTwice q es (Ok handles) = (es ≡ made q handles.0) × (handles.1 ≡ handles.0)
 AsksChunkTwice q es (Err OutOfDeviceMemory) = LacksDeviceMemory q es
-AsksChunkTwice q es (Err OutOfHostMemory) = LacksHostMemory q es ⊎ IsGivenBack q es
+AsksChunkTwice q es (Err OutOfHostMemory) = LacksHostMemory q es ⊎ IsLetGo q es
 AsksChunkTwice q es (Err NoCompatibleMemoryTypes) = ⊥
 AsksChunkTwice q es (Err TooManyObjects) = ⊥
 

@@ -37,7 +37,7 @@ pub record IsWith (old new : Piece → Type 0) (x : Piece) : Type 0 where
   pub cases : (p : Piece) → new p → (p ≡ x) ⊎ old p
 
 -- x is in hand: the other free bytes are kept in canonical form
-pub record IsBeside (Has : Piece → Type 0) (F : ℕ → ℕ → Type 0) (x : Piece) : Type 0 where
+pub record IsCanonicalBeside (Has : Piece → Type 0) (F : ℕ → ℕ → Type 0) (x : Piece) : Type 0 where
   pub canonical : IsCanonical Has (Without F x)
   pub aligned : IsMultipleOf (2 ^ x.order) x.start
   pub inside : (at : ℕ) → InPiece x at → F x.chunk at
@@ -47,11 +47,11 @@ abbrev pub same_place : Piece → Piece → Bool
 same_place p q = (p.chunk == q.chunk) && (p.start == q.start)
 
 -- the list has the free bytes in canonical form, and no piece twice
-pub record AreKept (pieces : List Piece) (F : ℕ → ℕ → Type 0) : Type 0 where
+pub record ArePiecesKept (pieces : List Piece) (F : ℕ → ℕ → Type 0) : Type 0 where
   pub canonical : IsCanonical (Contains pieces) F
   pub distinct : IsDistinct same_place pieces
 
 -- the same of the free bytes without those of x, which is in hand
 pub record AreKeptBeside (pieces : List Piece) (F : ℕ → ℕ → Type 0) (x : Piece) : Type 0 where
-  pub beside : IsBeside (Contains pieces) F x
+  pub beside : IsCanonicalBeside (Contains pieces) F x
   pub distinct : IsDistinct same_place pieces

@@ -4,7 +4,7 @@
 ghost use Rattle.std.specs.Prelude.{◌≡◌};
 ghost use Rattle.gpu_alloc_types.specs.Flags.{allocation_bits};
 ghost use Rattle.gpu_alloc_types.specs.Properties.{is_host_visible};
-ghost use Rattle.gpu_alloc_types.specs.Device.{Asked, IsAskable};
+ghost use Rattle.gpu_alloc_types.specs.Device.{Asked, IsAllocatable};
 ghost use Rattle.gpu_alloc_base.specs.NewChunk.{AsksChunk, ChunkAfter, AsksChunkTwice, ChunkAfterTwice, chunk_question};
 ghost use Rattle.gpu_alloc_base.specs.NewChunk.{new_chunk_refusal, told_object, told_handles};
 
@@ -33,7 +33,7 @@ pub fn new_chunk<M: MemoryObject, D: ObjectDevice<M>>(
     flags: AllocationFlags,
     visible: bool,
 ) -> Result<M, AllocationError>
-    requires askable { IsAskable (D.properties device.old) size memory_type (allocation_bits flags) }
+    requires askable { IsAllocatable (D.properties device.old) size memory_type (allocation_bits flags) }
     requires visible { is_host_visible (D.properties device.old) memory_type ≡ visible }
 
     ensures asks { Asked D.step device.old device.new
@@ -68,7 +68,7 @@ pub fn new_chunk_with_handle<M: MemoryObject, D: ObjectDevice<M>>(
     flags: AllocationFlags,
     visible: bool,
 ) -> Result<(M, M), AllocationError>
-    requires askable { IsAskable (D.properties device.old) size memory_type (allocation_bits flags) }
+    requires askable { IsAllocatable (D.properties device.old) size memory_type (allocation_bits flags) }
     requires visible { is_host_visible (D.properties device.old) memory_type ≡ visible }
 
     ensures asks { Asked D.step device.old device.new

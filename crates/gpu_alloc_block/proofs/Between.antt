@@ -9,9 +9,9 @@ use Rattle.gpu_alloc_block.proofs.Changes.{some_same, changed_there, changes_non
 use Rattle.gpu_alloc_block.proofs.Keeping.{HasSameShape, IsRemapped, same_shape, keeps, agrees_moved}
 use Rattle.gpu_alloc_block.proofs.Opened.{able_unmapped, own_unmapped}
 use Rattle.gpu_alloc_block.specs.Agreement.{IsHeldFor, KeepsAgreement}
-use Rattle.gpu_alloc_block.specs.Bytes.{HasOnlyOtherBytes, IsOpen, ChangesBytes, around, where_some}
+use Rattle.gpu_alloc_block.specs.Bytes.{HasOnlyOtherBytes, IsOpenForBytes, ChangesBytes, around, where_some}
 use Rattle.gpu_alloc_block.specs.Mapped.{refusal, of_own, mapping_of, IsOpened, IsClosed}
-use Rattle.gpu_alloc_block.specs.Ranges.{rounded}
+use Rattle.gpu_alloc_block.specs.Ranges.{rounded_range}
 use Rattle.gpu_alloc_block.specs.State.{Block, is_shared}
 
 -- What is asked.
@@ -57,7 +57,7 @@ either_way P Q R f g name (Ok x) first second done failed = changes_told f name 
 either_way P Q R f g name (Err e) first second done failed = changes_told f name Q R g second failed
 
 -- an object that was mapped is mapped with other bytes
-pub still_mapped : (p : Properties) (b : Block) (r : Range) (f g : ℕ → Option Object) → HeldWith f b.object (IsOpen p b r) → Changes HasOnlyOtherBytes f b.object g → HeldWith g b.object IsMapped
+pub still_mapped : (p : Properties) (b : Block) (r : Range) (f g : ℕ → Option Object) → HeldWith f b.object (IsOpenForBytes p b r) → Changes HasOnlyOtherBytes f b.object g → HeldWith g b.object IsMapped
 still_mapped p b r f g held c =
     let before : held.0 ≡ c.0 = some_same held.0 c.0 (sym held.1 ∙ c.1) in
     let mapped : c.2.0.mapped ≡ Some held.2.ready.mapped.inside.0 = c.2.1.same_mapping ∙ ap (λ o. o.mapped) (sym before) ∙ held.2.ready.mapped.inside.1 in
@@ -65,7 +65,7 @@ still_mapped p b r f g held c =
 
 module _ (p : Properties) (b : Block) (offset len : ℕ) (able : refusal b ≡ None) (f : ℕ → Option Object) (agrees : IsHeldFor b p f) where
   abbrev r : Range
-  r = rounded b offset len
+  r = rounded_range b offset len
 
   -- what changes while the range is mapped changes from before the mapping to after it
   pub through : (g h end : ℕ → Option Object) (P : Object → Object → Type 0) → HoldsWhileMapped P r → IsOpened (is_shared b.kind) r f g → IsClosed (is_shared b.kind) b.object h end → Changes P g b.object h → Changes P f b.object end
@@ -89,13 +89,13 @@ keeps_with_other_bytes b p q f g P only same c = keeps b p f g (changes_told f b
 -- Another mapping.
 
 module _ (p : Properties) (b : Block) (offset len : ℕ) (f g : ℕ → Option Object) (agrees : IsHeldFor b p f) where
-  remapped : (shared : Bool) → is_shared b.kind ≡ shared → IsOpened shared (rounded b offset len) f g → Changes (IsRemapped b (Some (mapping_of b offset len))) f b.object g
+  remapped : (shared : Bool) → is_shared b.kind ≡ shared → IsOpened shared (rounded_range b offset len) f g → Changes (IsRemapped b (Some (mapping_of b offset len))) f b.object g
   remapped true is same =
       subst (λ objects. Changes (IsRemapped b (Some (mapping_of b offset len))) f b.object objects) (sym same)
       (changes_none f b.object (IsRemapped b (Some (mapping_of b offset len))) agrees.there.0 agrees.there.1
       (record { shape = record { same_type = refl; same_size = refl; same_mapping = λ _. refl }; own = λ own. absurd (let no : true ≡ false = sym is ∙ own in cc) }))
   remapped false is c =
-      changes_told f b.object (IsMappedOver (rounded b offset len)) (IsRemapped b (Some (mapping_of b offset len))) g
+      changes_told f b.object (IsMappedOver (rounded_range b offset len)) (IsRemapped b (Some (mapping_of b offset len))) g
       (λ o new over. record {
         shape = record {
           same_type = ap (λ x. x.memory_type) over;
@@ -105,7 +105,7 @@ module _ (p : Properties) (b : Block) (offset len : ℕ) (f g : ℕ → Option O
         own = λ own. ap (λ x. x.mapped) over;
       }) c
 
-  pub mapped_so : IsOpened (is_shared b.kind) (rounded b offset len) f g → Changes (IsRemapped b (Some (mapping_of b offset len))) f b.object g
+  pub mapped_so : IsOpened (is_shared b.kind) (rounded_range b offset len) f g → Changes (IsRemapped b (Some (mapping_of b offset len))) f b.object g
   mapped_so = remapped (is_shared b.kind) refl
 
 module _ (p : Properties) (b : Block) (f g : ℕ → Option Object) (agrees : IsHeldFor b p f) where

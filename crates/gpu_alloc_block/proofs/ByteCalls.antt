@@ -11,7 +11,7 @@ use Rattle.gpu_alloc_types.specs.declared.types.OutOfMemory.{OutOfMemory}
 use Rattle.gpu_alloc_block.proofs.Changes.{some_same, changed_there, changes_told}
 use Rattle.gpu_alloc_block.proofs.Keeping.{if_some_told, counted_same, beneath_same}
 use Rattle.gpu_alloc_block.proofs.Rounded.{rounded_covers}
-use Rattle.gpu_alloc_block.specs.Agreement.{Agrees, BlockAgrees, IsHeldFor, IsOfBlock, IsThere}
+use Rattle.gpu_alloc_block.specs.Agreement.{Agrees, BlockAgrees, IsHeldFor, IsHeldThere, IsOfBlock}
 use Rattle.gpu_alloc_block.specs.ByteCalls.{IsByteCall}
 use Rattle.gpu_alloc_block.specs.Bytes.{HasOnlyOtherBytes}
 use Rattle.gpu_alloc_block.specs.Ranges.{whole_atoms, own_mapping, mapped_range}
@@ -116,7 +116,7 @@ row_other p f g (BytesPut object offset bytes) moves row =
 row_other p f g (BytesGot object offset bytes) moves row = none_other f g row.0
 
 module _ (p q : Properties) (f g : ℕ → Option Object) (e : Event) (moves : IsByteCall e) (same : q ≡ p) (row : Row p f e g) where
-  there_moved : (s : State) (name : ℕ) (h : HeldObject) (o new : Object) → HasOnlyOtherBytes o new → IsThere s name h o → IsThere s name h new
+  there_moved : (s : State) (name : ℕ) (h : HeldObject) (o new : Object) → HasOnlyOtherBytes o new → IsHeldThere s name h o → IsHeldThere s name h new
   there_moved s name h o new only is = record {
     of_type = only.same_type ∙ is.of_type;
     of_size = counted_same s name h.counted o new only.same_type only.same_size h.kind (λ _. only.same_mapping) is.of_size;
@@ -127,7 +127,7 @@ module _ (p q : Properties) (f g : ℕ → Option Object) (e : Event) (moves : I
   allocator_moved s agrees = record {
     properties = same ∙ agrees.properties;
     holds = λ name.
-        if_some_told (map.get s.held name) (λ h. HeldWith f name (IsThere s name h)) (λ h. HeldWith g name (IsThere s name h))
+        if_some_told (map.get s.held name) (λ h. HeldWith f name (IsHeldThere s name h)) (λ h. HeldWith g name (IsHeldThere s name h))
         (λ h is held.
         let now = row_other p f g e moves row name held.0 held.1 in
         (now.0, now.1, there_moved s name h held.0 now.0 now.2 held.2))

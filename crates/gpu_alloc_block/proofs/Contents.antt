@@ -10,7 +10,7 @@ use Rattle.gpu_alloc_block.specs.Bytes.{ChangesBytes, IsReadThrough, IsWrittenTh
 use Rattle.gpu_alloc_block.specs.Contents.{BytesStay, HasSameBytes, HasSameDeviceBytes, Stores, device_at, host_at}
 use Rattle.gpu_alloc_block.specs.InHand.{AreTwo}
 use Rattle.gpu_alloc_block.specs.Mapped.{IsClosed, IsOpened}
-use Rattle.gpu_alloc_block.specs.Ranges.{rounded}
+use Rattle.gpu_alloc_block.specs.Ranges.{rounded_range}
 use Rattle.gpu_alloc_block.specs.State.{Block, is_shared}
 use Rattle.gpu_alloc_block.specs.declared.block.Kind.TheVariants.{Imported}
 
@@ -82,13 +82,13 @@ module _ (b c : Block) (two : AreTwo b c) where
     ]
   ]
 
-  pub write_leaves : (offset len : ℕ) (f g : ℕ → Option Object) → offset + len ≤ b.size → LiesInBlock b (rounded b offset len) → Changes (WritesWithin b offset len) f b.object g → HasSameBytes c f g
+  pub write_leaves : (offset len : ℕ) (f g : ℕ → Option Object) → offset + len ≤ b.size → LiesInBlock b (rounded_range b offset len) → Changes (WritesWithin b offset len) f b.object g → HasSameBytes c f g
   write_leaves offset len f g inside lies changes =
-      change_leaves (WritesWithin b offset len) f g b c changes (λ o n w k same low high. (w.host k (outside_data (b.offset + offset) len (omega arith) (omega (arith, inside)) same k low high), w.device k (outside_range (rounded b offset len) lies same k low high)))
+      change_leaves (WritesWithin b offset len) f g b c changes (λ o n w k same low high. (w.host k (outside_data (b.offset + offset) len (omega arith) (omega (arith, inside)) same k low high), w.device k (outside_range (rounded_range b offset len) lies same k low high)))
 
-  pub read_leaves : (offset len : ℕ) (f g : ℕ → Option Object) → LiesInBlock b (rounded b offset len) → Changes (ReadsWithin b offset len) f b.object g → HasSameBytes c f g
+  pub read_leaves : (offset len : ℕ) (f g : ℕ → Option Object) → LiesInBlock b (rounded_range b offset len) → Changes (ReadsWithin b offset len) f b.object g → HasSameBytes c f g
   read_leaves offset len f g lies changes =
-      change_leaves (ReadsWithin b offset len) f g b c changes (λ o n w k same low high. (w.host k (outside_range (rounded b offset len) lies same k low high), ap (λ xs. slice_get xs k) w.device))
+      change_leaves (ReadsWithin b offset len) f g b c changes (λ o n w k same low high. (w.host k (outside_range (rounded_range b offset len) lies same k low high), ap (λ xs. slice_get xs k) w.device))
 
 -- of a success, what follows from what is known of it
 pub on_success : {T E : Type 0} (answer : Result T E) (P Q : Type 0) → (P → Q) → OnOk answer P → OnOk answer Q

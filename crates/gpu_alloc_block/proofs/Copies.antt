@@ -7,12 +7,12 @@ use Rattle.gpu_alloc_types.specs.declared.types.OutOfMemory.{OutOfMemory}
 use Rattle.gpu_alloc_block.proofs.Changes.{some_same, changed_there, changes_of, changes_twice}
 use Rattle.gpu_alloc_block.proofs.Moving.{incoherent, put_flushed, put_partly, got_invalidated}
 use Rattle.gpu_alloc_block.proofs.Rounded.{rounded_covers}
-use Rattle.gpu_alloc_block.specs.Bytes.{HasOnlyOtherBytes, IsOpen, IsWrittenThrough, IsPartlyWritten, IsReadThrough}
-use Rattle.gpu_alloc_block.specs.Ranges.{rounded}
+use Rattle.gpu_alloc_block.specs.Bytes.{HasOnlyOtherBytes, IsOpenForBytes, IsWrittenThrough, IsPartlyWritten, IsReadThrough}
+use Rattle.gpu_alloc_block.specs.Ranges.{rounded_range}
 use Rattle.gpu_alloc_block.specs.State.{Block}
 
 -- an object with other bytes is as ready as before
-still_open : (p : Properties) (b : Block) (r : Range) (o new : Object) → HasOnlyOtherBytes o new → IsOpen p b r o → IsOpen p b r new
+still_open : (p : Properties) (b : Block) (r : Range) (o new : Object) → HasOnlyOtherBytes o new → IsOpenForBytes p b r o → IsOpenForBytes p b r new
 still_open p b r o new only is = record {
   visible = is.visible;
   props = is.props;
@@ -29,7 +29,7 @@ still_open p b r o new only is = record {
 
 module _ (p : Properties) (b : Block) (offset : ℕ) (bytes : List ℕ) (some : 0 < b.atom) (within : offset + length bytes ≤ b.size) (f : ℕ → Option Object) where
   abbrev r : Range
-  r = rounded b offset (length bytes)
+  r = rounded_range b offset (length bytes)
 
   -- of a range inside what is mapped, its bytes are
   narrower : (o : Object) → 0 < length bytes → IsInMapped r.offset r.size o → IsInMapped (b.offset + offset) (length bytes) o
@@ -37,14 +37,14 @@ module _ (p : Properties) (b : Block) (offset : ℕ) (bytes : List ℕ) (some : 
       let covers = rounded_covers b offset (length bytes) some within in
       record { nonempty = nonempty; inside = (is.inside.0, is.inside.1, omega (arith, is.inside.2, covers.0), omega (arith, is.inside.3, covers.1)) }
 
-  module _ (held : HeldWith f b.object (IsOpen p b r)) where
+  module _ (held : HeldWith f b.object (IsOpenForBytes p b r)) where
     module _ (g : ℕ → Option Object) (row : Row p f (BytesPut b.object (b.offset + offset) bytes) g) where
       -- what was put may be flushed
-      pub flush_ready : (q : Properties) → q ≡ p → HeldWith g b.object (IsOpen q b r)
+      pub flush_ready : (q : Properties) → q ≡ p → HeldWith g b.object (IsOpenForBytes q b r)
       flush_ready q same =
           let before : held.0 ≡ row.0 = some_same held.0 row.0 (sym held.1 ∙ row.1) in
           let only : HasOnlyOtherBytes row.0 row.2.0 = rw (row.2.1.4) (record { same_type = refl; same_size = refl; same_mapping = refl }) in
-          let now : IsOpen p b r row.2.0 = still_open p b r row.0 row.2.0 only (subst (IsOpen p b r) before held.2) in
+          let now : IsOpenForBytes p b r row.2.0 = still_open p b r row.0 row.2.0 only (subst (IsOpenForBytes p b r) before held.2) in
           (row.2.0, changed_there f b.object (IsPut p (b.offset + offset) bytes) g row, rw same now)
 
       pub put_written : (answer : Result (Unit {0}) OutOfMemory) (h : ℕ → Option Object) → Changes (IsFlushed answer r) g b.object h → OnOk answer (Changes (IsWrittenThrough b offset bytes) f b.object h)
@@ -69,7 +69,7 @@ module _ (p : Properties) (b : Block) (offset : ℕ) (bytes : List ℕ) (some : 
     get_ready answer g nonempty c =
         let before : held.0 ≡ c.0 = some_same held.0 c.0 (sym held.1 ∙ c.1) in
         let only : HasOnlyOtherBytes c.0 c.2.0 = rw (c.2.1.2) (record { same_type = refl; same_size = refl; same_mapping = refl }) in
-        let now : IsOpen p b r c.2.0 = still_open p b r c.0 c.2.0 only (subst (IsOpen p b r) before held.2) in
+        let now : IsOpenForBytes p b r c.2.0 = still_open p b r c.0 c.2.0 only (subst (IsOpenForBytes p b r) before held.2) in
         (c.2.0, changed_there f b.object (IsInvalidated answer r) g c, narrower c.2.0 nonempty now.ready.mapped)
 
   -- and what was got is what the device has

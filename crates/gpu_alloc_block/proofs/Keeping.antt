@@ -7,7 +7,7 @@ use Rattle.gpu_alloc_types.specs.Properties.{Properties}
 use Rattle.gpu_alloc_types.specs.Device.{Object, Changes, HeldWith}
 use Rattle.gpu_alloc_types.specs.Objects.{put-same, put-other}
 use Rattle.gpu_alloc_block.proofs.Changes.{some_same, changed_there}
-use Rattle.gpu_alloc_block.specs.Agreement.{IsMappedWhole, IsInside, IsCounted, IsThere, Agrees, IsOfBlock, IsBeneath, IsHeldFor, BlockAgrees, KeepsAgreement}
+use Rattle.gpu_alloc_block.specs.Agreement.{IsMappedWhole, IsInside, IsCountedFor, IsHeldThere, Agrees, IsOfBlock, IsBeneath, IsHeldFor, BlockAgrees, KeepsAgreement}
 use Rattle.gpu_alloc_block.specs.Bytes.{HasOnlyOtherBytes}
 use Rattle.gpu_alloc_block.specs.InHand.{AreTwo, IsBeside, AreOwned, IsSameBlock}
 use Rattle.gpu_alloc_block.specs.Ranges.{own_mapping}
@@ -39,7 +39,7 @@ inside_same : (p : Properties) (span : Span) (o new : Object) → new.memory_typ
 inside_same p span o new of_type of_size is = record { within = rw of_size is.within; finish = λ non_coherent. rw of_size (is.finish (rw of_type at non_coherent)) }
 
 module _ (s : State) (name counted : ℕ) (o new : Object) (of_type : new.memory_type ≡ o.memory_type) (of_size : new.size ≡ o.size) where
-  pub counted_same : (kind : Kind) → (is_shared kind ≡ true → new.mapped ≡ o.mapped) → IsCounted kind s name counted o → IsCounted kind s name counted new
+  pub counted_same : (kind : Kind) → (is_shared kind ≡ true → new.mapped ≡ o.mapped) → IsCountedFor kind s name counted o → IsCountedFor kind s name counted new
   counted_same Dedicated mapping is = of_size ∙ is
   counted_same Imported mapping is = λ span live of_object. inside_same s.properties span o new of_type of_size (is span live of_object)
   counted_same BuddyChunk mapping is = (of_size ∙ is.0, mapped_whole s.properties o new of_type of_size (mapping refl) is.1)
@@ -74,17 +74,17 @@ module _ (b : Block) (p : Properties) (f g : ℕ → Option Object) (c : Changes
         (c.2.0, ap g same ∙ there, kept c.0 c.2.0 same c.2.1 (subst P before held.2))
   ]
 
-  agrees_still : (s : State) → ((h : HeldObject) (o new : Object) → map.get s.held b.object ≡ Some h → HasSameShape b o new → IsThere s b.object h o → IsThere s b.object h new) → Agrees s p f → Agrees s p g
+  agrees_still : (s : State) → ((h : HeldObject) (o new : Object) → map.get s.held b.object ≡ Some h → HasSameShape b o new → IsHeldThere s b.object h o → IsHeldThere s b.object h new) → Agrees s p f → Agrees s p g
   agrees_still s kept agrees = record {
     properties = agrees.properties;
     holds = λ name.
-        if_some_told (map.get s.held name) (λ h. HeldWith f name (IsThere s name h)) (λ h. HeldWith g name (IsThere s name h))
-        (λ h is held. held_still name (IsThere s name h) (λ o new same shape known.
-        subst (λ n. IsThere s n h new) (sym same) (kept h o new (ap (map.get s.held) (sym same) ∙ is) shape (subst (λ n. IsThere s n h o) same known))) held)
+        if_some_told (map.get s.held name) (λ h. HeldWith f name (IsHeldThere s name h)) (λ h. HeldWith g name (IsHeldThere s name h))
+        (λ h is held. held_still name (IsHeldThere s name h) (λ o new same shape known.
+        subst (λ n. IsHeldThere s n h new) (sym same) (kept h o new (ap (map.get s.held) (sym same) ∙ is) shape (subst (λ n. IsHeldThere s n h o) same known))) held)
         (agrees.holds name);
   }
 
-  there_still : (s : State) (h : HeldObject) (o new : Object) → (is_shared h.kind ≡ true → new.mapped ≡ o.mapped) → HasSameShape b o new → IsThere s b.object h o → IsThere s b.object h new
+  there_still : (s : State) (h : HeldObject) (o new : Object) → (is_shared h.kind ≡ true → new.mapped ≡ o.mapped) → HasSameShape b o new → IsHeldThere s b.object h o → IsHeldThere s b.object h new
   there_still s h o new mapping shape is = record {
     of_type = shape.same_type ∙ is.of_type;
     of_size = counted_same s b.object h.counted o new shape.same_type shape.same_size h.kind mapping is.of_size;

@@ -13,14 +13,14 @@ use Rattle.gpu_alloc_block.specs.Agreement.{BlockAgrees, KeepsAgreement}
 use Rattle.gpu_alloc_block.specs.Bytes.{HasOnlyOtherBytes}
 use Rattle.gpu_alloc_block.specs.Contents.{HasSameBytes}
 use Rattle.gpu_alloc_block.specs.InHand.{AreOwned, AreTwo, IsBeside, IsSameBlock}
-use Rattle.gpu_alloc_block.specs.Kept.{AreKept, AreReady, ChangesAt, IsSameOutside, KeepsInHand, outside}
+use Rattle.gpu_alloc_block.specs.Kept.{AreKept, AreReady, ChangesKey, IsSameOutside, KeepsInHand, outside}
 use Rattle.gpu_alloc_block.specs.Mapped.{ObjectsMapped}
-use Rattle.gpu_alloc_block.specs.State.{AreApart, Block, IsOwned, Span, State, span_of, is_shared}
+use Rattle.gpu_alloc_block.specs.State.{AreSpansApart, Block, IsOwned, Span, State, span_of, is_shared}
 use Rattle.gpu_alloc_block.specs.declared.block.Mapping.{Mapping}
 
 -- Two blocks, the other way round.
 
-apart_back : (a b : Span) → AreApart a b → AreApart b a
+apart_back : (a b : Span) → AreSpansApart a b → AreSpansApart b a
 apart_back a b apart = elim apart [
   | inl ne ↦ inl (λ same. ne (sym same))
   | inr sides ↦ elim sides [ inl before ↦ inr (inr before) | inr after ↦ inr (inl after) ]
@@ -68,7 +68,7 @@ module _ (b now : Block) (p q : Properties) (f g : ℕ → Option Object) (keeps
       (keeps.two_back c (beside_at c cs ds owned.1) ready.0, ready_still s cs ds owned.2 ready.1)
 
   -- Under keys.
-  module _ (s : State) (at at_new : ℕ → Option Block) (key : ℕ) (kept : AreKept s p f at) (there : at key ≡ Some b) (changes : ChangesAt at at_new key (Some now)) where
+  module _ (s : State) (at at_new : ℕ → Option Block) (key : ℕ) (kept : AreKept s p f at) (there : at key ≡ Some b) (changes : ChangesKey at at_new key (Some now)) where
     is_now : (k : ℕ) (c : Block) → k ≡ key → at_new k ≡ Some c → now ≡ c
     is_now k c same is = some_same now c (sym changes.changed ∙ ap at_new (sym same) ∙ is)
 

@@ -9,7 +9,7 @@ use Rattle.gpu_alloc_base.proofs.Names.{lookup_last}
 use Rattle.gpu_alloc_types.specs.Device.{Object}
 use Rattle.gpu_alloc_types.specs.Properties.{Properties}
 use Rattle.gpu_alloc_block.specs.Keyed.{under, IsSetUnder, ComeAndGoUnderKeys}
-use Rattle.gpu_alloc_block.specs.Kept.{AreKept, ChangesAt}
+use Rattle.gpu_alloc_block.specs.Kept.{AreKept, ChangesKey}
 use Rattle.gpu_alloc_block.specs.State.{State, Block}
 
 same_key : (key : ℕ) → nat_eq key key ≡ true
@@ -18,7 +18,7 @@ same_key key = grind (arith, nat_tests)
 other_key : (key other : ℕ) → other ≢ key → nat_eq key other ≡ false
 other_key key other ne = grind (arith, nat_tests)
 
-changes_at : (entries new : List (ℕ × Block)) (key : ℕ) (slot : Option Block) → IsSetUnder entries key slot new → ChangesAt (under entries) (under new) key slot
+changes_at : (entries new : List (ℕ × Block)) (key : ℕ) (slot : Option Block) → IsSetUnder entries key slot new → ChangesKey (under entries) (under new) key slot
 changes_at entries new key slot set = record {
   changed = set key ∙ ap (λ t. cond t slot (under entries key)) (same_key key);
   others = λ other ne. set other ∙ ap (λ t. cond t slot (under entries other)) (other_key key other ne);

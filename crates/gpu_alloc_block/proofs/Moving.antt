@@ -5,8 +5,8 @@ use Rattle.gpu_alloc_types.specs.Properties.{Properties, props_at, is_coherent, 
 use Rattle.gpu_alloc_types.specs.Device.{Object, Range, IsWellFormed, IsOutside, IsWritten, IsCopied, IsPut, IsPutDevice, IsFlushed, IsInvalidated, IsMappedOver, IsUnmapped}
 use Rattle.gpu_alloc_types.specs.declared.types.OutOfMemory.{OutOfMemory}
 use Rattle.gpu_alloc_block.proofs.Rounded.{rounded_covers}
-use Rattle.gpu_alloc_block.specs.Bytes.{IsOpen, HasOnlyOtherBytes, IsWrittenThrough, IsPartlyWritten, IsReadThrough, IsPartlyRead, WritesWithin, ReadsWithin}
-use Rattle.gpu_alloc_block.specs.Ranges.{rounded}
+use Rattle.gpu_alloc_block.specs.Bytes.{IsOpenForBytes, HasOnlyOtherBytes, IsWrittenThrough, IsPartlyWritten, IsReadThrough, IsPartlyRead, WritesWithin, ReadsWithin}
+use Rattle.gpu_alloc_block.specs.Ranges.{rounded_range}
 use Rattle.gpu_alloc_block.specs.State.{Block}
 
 -- Both sides have the same bytes of a coherent object, which is as after a flush and an invalidate.
@@ -20,13 +20,13 @@ incoherent_tests true true is = absurd (cc)
 incoherent_tests true false is = refl
 incoherent_tests false coherent is = absurd (cc)
 
-pub incoherent : (p : Properties) (b : Block) (r : Range) (o : Object) → IsOpen p b r o → are_non_coherent b.props ≡ true
+pub incoherent : (p : Properties) (b : Block) (r : Range) (o : Object) → IsOpenForBytes p b r o → are_non_coherent b.props ≡ true
     → is_coherent p o.memory_type ≡ false
 incoherent p b r o is apart =
     ap (λ t. has_bit (props_at p t) 4) is.of_type ∙ ap (λ bits. has_bit bits 4) (sym is.props)
     ∙ incoherent_tests (has_bit b.props 2) (has_bit b.props 4) apart
 
-module _ (p : Properties) (b : Block) (r : Range) (o : Object) (is : IsOpen p b r o) (well : IsWellFormed p o) (coherent : are_non_coherent b.props ≡ false) where
+module _ (p : Properties) (b : Block) (r : Range) (o : Object) (is : IsOpenForBytes p b r o) (well : IsWellFormed p o) (coherent : are_non_coherent b.props ≡ false) where
   same_bytes : o.host_bytes ≡ o.device_bytes
   same_bytes =
       well.coherent
@@ -43,7 +43,7 @@ module _ (p : Properties) (b : Block) (r : Range) (o : Object) (is : IsOpen p b 
 
 module _ (p : Properties) (b : Block) (offset : ℕ) (bytes : List ℕ) (some : 0 < b.atom) (within : offset + length bytes ≤ b.size) where
   abbrev r : Range
-  r = rounded b offset (length bytes)
+  r = rounded_range b offset (length bytes)
 
   covers : (r.offset ≤ b.offset + offset) × (b.offset + offset + length bytes ≤ r.offset + r.size)
   covers = rounded_covers b offset (length bytes) some within
@@ -146,7 +146,7 @@ got_partly r e o new invalidated = rw (invalidated.2) (record {
   host = invalidated.1;
 })
 
-pub partly_read_within : (b : Block) (offset len : ℕ) (o new : Object) → IsPartlyRead (rounded b offset len) o new
+pub partly_read_within : (b : Block) (offset len : ℕ) (o new : Object) → IsPartlyRead (rounded_range b offset len) o new
     → ReadsWithin b offset len o new
 partly_read_within b offset len o new w = record { rest = w.rest; host = w.host.outside; device = w.device }
 

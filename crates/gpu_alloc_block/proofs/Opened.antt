@@ -9,9 +9,9 @@ use Rattle.gpu_alloc_base.specs.declared.error.MapError.TheVariants.{NonHostVisi
 use Rattle.gpu_alloc_block.proofs.Changes.{some_same, changed_there}
 use Rattle.gpu_alloc_block.proofs.Rounded.{rounded_inside, rounded_start, rounded_finish, rounded_some}
 use Rattle.gpu_alloc_block.specs.Agreement.{IsBeneath, IsHeldFor}
-use Rattle.gpu_alloc_block.specs.Bytes.{IsOpen}
+use Rattle.gpu_alloc_block.specs.Bytes.{IsOpenForBytes}
 use Rattle.gpu_alloc_block.specs.Mapped.{refusal}
-use Rattle.gpu_alloc_block.specs.Ranges.{rounded, own_mapping}
+use Rattle.gpu_alloc_block.specs.Ranges.{rounded_range, own_mapping}
 use Rattle.gpu_alloc_block.specs.State.{Block, is_shared}
 use Rattle.gpu_alloc_block.specs.declared.block.Mapping.{Mapping}
 
@@ -34,7 +34,7 @@ able_unmapped b able = unmapped (has_bit b.props 2) b.mapping able
 
 module _ (p : Properties) (b : Block) (offset len : ℕ) (some : 0 < b.atom) (within : offset + len ≤ b.size) (nonempty : 0 < len) where
   abbrev r : Range
-  r = rounded b offset len
+  r = rounded_range b offset len
 
   module _ (props : b.props ≡ props_at p b.memory_type) (atom : b.atom ≡ atom_of p b.memory_type) (visible : has_bit b.props 2 ≡ true) (o new : Object) (beneath : IsBeneath p b o) (of_type : new.memory_type ≡ o.memory_type) (of_size : new.size ≡ o.size) where
     same_type : new.memory_type ≡ b.memory_type
@@ -53,7 +53,7 @@ module _ (p : Properties) (b : Block) (offset len : ℕ) (some : 0 < b.atom) (wi
     ]
 
     -- what is mapped may be flushed
-    opened : (m : ℕ × ℕ) → new.mapped ≡ Some m → m.0 ≤ r.offset → r.offset + r.size ≤ m.0 + m.1 → IsOpen p b r new
+    opened : (m : ℕ × ℕ) → new.mapped ≡ Some m → m.0 ≤ r.offset → r.offset + r.size ≤ m.0 + m.1 → IsOpenForBytes p b r new
     opened m is low high = record {
       visible = visible;
       props = props;
@@ -70,7 +70,7 @@ module _ (p : Properties) (b : Block) (offset len : ℕ) (some : 0 < b.atom) (wi
     o = agrees.there.0
 
     -- of a shared object that is all of it
-    pub open_shared : is_shared b.kind ≡ true → HeldWith f b.object (IsOpen p b r)
+    pub open_shared : is_shared b.kind ≡ true → HeldWith f b.object (IsOpenForBytes p b r)
     unfolding o
     open_shared shared =
         let beneath = agrees.there.2 in
@@ -84,7 +84,7 @@ module _ (p : Properties) (b : Block) (offset len : ℕ) (some : 0 < b.atom) (wi
         )
 
     -- and of the block's own the range
-    pub open_own : (g : ℕ → Option Object) → Changes (IsMappedOver r) f b.object g → HeldWith g b.object (IsOpen p b r)
+    pub open_own : (g : ℕ → Option Object) → Changes (IsMappedOver r) f b.object g → HeldWith g b.object (IsOpenForBytes p b r)
     unfolding o
     open_own g c =
         let same : o ≡ c.0 = some_same o c.0 (sym agrees.there.1 ∙ c.1) in
@@ -105,8 +105,8 @@ own_unmapped p b o beneath none own = beneath.own own ∙ none_mapped b.mapping 
 -- what the device answers to the mapping of a block's own object
 pub open_answered : (p q : Properties) (b : Block) (offset len : ℕ) → 0 < b.atom → offset + len ≤ b.size → 0 < len
     → (f g : ℕ → Option Object) → refusal b ≡ None → IsHeldFor b p f → q ≡ p → (answer : Result (Unit {0}) DeviceMapError)
-    → Row p f (Mapped (rounded b offset len) answer) g
-    → OnOk answer (HeldWith g b.object (IsOpen q b (rounded b offset len)))
+    → Row p f (Mapped (rounded_range b offset len) answer) g
+    → OnOk answer (HeldWith g b.object (IsOpenForBytes q b (rounded_range b offset len)))
 open_answered p q b offset len some within nonempty f g able agrees same (Ok _) row =
     rw same (open_own p b offset len some within nonempty f able agrees g row)
 open_answered p q b offset len some within nonempty f g able agrees same (Err e) row = tt

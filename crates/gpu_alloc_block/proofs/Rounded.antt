@@ -5,7 +5,7 @@ use Rattle.std.proofs.lemmas.Nat.{div-add-mod', div-mul-add, le-div}
 use Rattle.std.specs.Int.{next_multiple_of}
 use Rattle.gpu_alloc_base.specs.Sizes.{down, up}
 use Rattle.gpu_alloc_block.specs.Agreement.{BlockAgrees, LiesInBlock}
-use Rattle.gpu_alloc_block.specs.Ranges.{rounded, atom_end}
+use Rattle.gpu_alloc_block.specs.Ranges.{rounded_range, atom_end}
 use Rattle.gpu_alloc_block.specs.State.{Block, is_shared}
 use Rattle.gpu_alloc_block.specs.declared.block.Kind.{Kind}
 use Rattle.gpu_alloc_block.specs.declared.block.Kind.TheVariants.{Dedicated, Imported, BuddyChunk, FreeListChunk, FitChunk}
@@ -64,7 +64,7 @@ module _ (b : Block) (offset len : ℕ) (some : 0 < b.atom) (within : offset + l
   start = b.offset + offset
 
   -- it holds the bytes
-  rounded_from : (rounded b offset len).offset ≤ start
+  rounded_from : (rounded_range b offset len).offset ≤ start
   rounded_from = down-le start b.atom
 
   ends : (from to finish : ℕ) → from ≤ to → from ≤ finish → from + (min to finish - from) ≡ min to finish
@@ -76,25 +76,25 @@ module _ (b : Block) (offset len : ℕ) (some : 0 < b.atom) (within : offset + l
   low : down start b.atom ≤ start
   low = down-le start b.atom
 
-  rounded_end : (rounded b offset len).offset + (rounded b offset len).size ≡ atom_end b (start + len)
+  rounded_end : (rounded_range b offset len).offset + (rounded_range b offset len).size ≡ atom_end b (start + len)
   rounded_end =
       ends (down start b.atom) (up (start + len) b.atom) (b.offset + b.size) (omega (arith, low, up_to))
       (omega (arith, low, within))
 
-  pub rounded_covers : ((rounded b offset len).offset ≤ start)
-      × (start + len ≤ (rounded b offset len).offset + (rounded b offset len).size)
+  pub rounded_covers : ((rounded_range b offset len).offset ≤ start)
+      × (start + len ≤ (rounded_range b offset len).offset + (rounded_range b offset len).size)
   rounded_covers = (rounded_from, omega (arith, rounded_end, up_to, within))
 
   -- it ends inside the block
-  pub rounded_inside : (rounded b offset len).offset + (rounded b offset len).size ≤ b.offset + b.size
+  pub rounded_inside : (rounded_range b offset len).offset + (rounded_range b offset len).size ≤ b.offset + b.size
   rounded_inside = omega (arith, rounded_end)
 
   -- it begins where the bytes do, or less than one atom before
-  pub rounded_near : start < (rounded b offset len).offset + b.atom
+  pub rounded_near : start < (rounded_range b offset len).offset + b.atom
   rounded_near = lt-div-mul-add some
 
   -- it begins inside the block where that begins on the atom
-  pub rounded_from_block : b.offset % b.atom ≡ 0 → b.offset ≤ (rounded b offset len).offset
+  pub rounded_from_block : b.offset % b.atom ≡ 0 → b.offset ≤ (rounded_range b offset len).offset
   rounded_from_block whole =
       let sum : b.offset / b.atom * b.atom + b.offset % b.atom ≡ b.offset = div-add-mod' b.offset b.atom in
       let parts : b.offset / b.atom ≤ start / b.atom = le-div (b.offset / b.atom) start b.atom some (omega (arith, sum)) in
@@ -102,19 +102,19 @@ module _ (b : Block) (offset len : ℕ) (some : 0 < b.atom) (within : offset + l
       omega (arith, sum, whole, most)
 
   -- it begins on the atom, and ends there or where the block ends
-  pub rounded_start : (rounded b offset len).offset % b.atom ≡ 0
+  pub rounded_start : (rounded_range b offset len).offset % b.atom ≡ 0
   rounded_start = mul-mod_left (start / b.atom) b.atom
 
   finishes : (to finish atom : ℕ) → to % atom ≡ 0 → (min to finish % atom ≡ 0) ⊎ (min to finish ≡ finish)
   finishes to finish atom multiple = grind (arith)
 
-  pub rounded_finish : (((rounded b offset len).offset + (rounded b offset len).size) % b.atom ≡ 0)
-      ⊎ ((rounded b offset len).offset + (rounded b offset len).size ≡ b.offset + b.size)
+  pub rounded_finish : (((rounded_range b offset len).offset + (rounded_range b offset len).size) % b.atom ≡ 0)
+      ⊎ ((rounded_range b offset len).offset + (rounded_range b offset len).size ≡ b.offset + b.size)
   rounded_finish =
       subst (λ n. (n % b.atom ≡ 0) ⊎ (n ≡ b.offset + b.size)) (sym rounded_end)
       (finishes (up (start + len) b.atom) (b.offset + b.size) b.atom (mul-mod_left ((start + len + (b.atom - 1)) / b.atom) b.atom))
 
-  pub rounded_some : 0 < len → 0 < (rounded b offset len).size
+  pub rounded_some : 0 < len → 0 < (rounded_range b offset len).size
   rounded_some nonempty = omega (arith, rounded_covers.0, rounded_covers.1, nonempty)
 
 -- In a block that agrees with a device, which starts on the atom unless it is an import.
@@ -128,7 +128,7 @@ starts (FreeListChunk number) offset atom whole atoms other = atoms refl
 starts FitChunk offset atom whole atoms other = atoms refl
 
 pub lies_in_block : (b : Block) (p : Properties) (objects : ℕ → Option Object) (offset len : ℕ) → 0 < b.atom
-    → BlockAgrees b p objects → offset + len ≤ b.size → LiesInBlock b (rounded b offset len)
+    → BlockAgrees b p objects → offset + len ≤ b.size → LiesInBlock b (rounded_range b offset len)
 unfolding BlockAgrees
 lies_in_block b p objects offset len some agrees within =
     let is = agrees.there.2 in

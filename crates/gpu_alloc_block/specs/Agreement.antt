@@ -23,21 +23,21 @@ pub record IsInside (p : Properties) (span : Span) (o : Object) : Type 0 where
       ⊎ (span.offset + span.size ≡ o.size)
 
 -- what the allocator counts of an object is so on the device, by what the object is held for
-abbrev pub IsCounted : Kind → State → ℕ → ℕ → Object → Type 0
-IsCounted Dedicated s name counted o = o.size ≡ counted
-IsCounted Imported s name counted o = (span : Span) → IsLive s span → span.object ≡ name → IsInside s.properties span o
-IsCounted BuddyChunk s name counted o = (o.size ≡ counted) × IsMappedWhole s.properties o
-IsCounted (FreeListChunk number) s name counted o = (o.size ≡ counted) × IsMappedWhole s.properties o
-IsCounted FitChunk s name counted o = (o.size ≡ counted) × IsMappedWhole s.properties o
+abbrev pub IsCountedFor : Kind → State → ℕ → ℕ → Object → Type 0
+IsCountedFor Dedicated s name counted o = o.size ≡ counted
+IsCountedFor Imported s name counted o = (span : Span) → IsLive s span → span.object ≡ name → IsInside s.properties span o
+IsCountedFor BuddyChunk s name counted o = (o.size ≡ counted) × IsMappedWhole s.properties o
+IsCountedFor (FreeListChunk number) s name counted o = (o.size ≡ counted) × IsMappedWhole s.properties o
+IsCountedFor FitChunk s name counted o = (o.size ≡ counted) × IsMappedWhole s.properties o
 
-pub record IsThere (s : State) (name : ℕ) (h : HeldObject) (o : Object) : Type 0 where
+pub record IsHeldThere (s : State) (name : ℕ) (h : HeldObject) (o : Object) : Type 0 where
   pub of_type : o.memory_type ≡ h.memory_type
-  pub of_size : IsCounted h.kind s name h.counted o
+  pub of_size : IsCountedFor h.kind s name h.counted o
 
 -- The device has the properties that the allocator was given, and holds what the allocator holds.
 pub record Agrees (s : State) (p : Properties) (objects : ℕ → Option Object) : Type 0 where
   pub properties : p ≡ s.properties
-  pub holds : (name : ℕ) → IfSome (map.get s.held name) (λ h. HeldWith objects name (IsThere s name h))
+  pub holds : (name : ℕ) → IfSome (map.get s.held name) (λ h. HeldWith objects name (IsHeldThere s name h))
 
 -- The same of one block, whichever allocator it is of.
 

@@ -10,7 +10,7 @@ use Rattle.gpu_alloc_types.specs.declared.types.OutOfMemory.{OutOfMemory}
 use Rattle.gpu_alloc_base.specs.Errors.{map_like_memory}
 use Rattle.gpu_alloc_base.specs.declared.error.MapError.{MapError}
 use Rattle.gpu_alloc_block.specs.Mapped.{refusal, IsMapRefused}
-use Rattle.gpu_alloc_block.specs.Ranges.{rounded}
+use Rattle.gpu_alloc_block.specs.Ranges.{rounded_range}
 use Rattle.gpu_alloc_block.specs.State.{Block, is_shared}
 
 -- What is asked.
@@ -31,25 +31,25 @@ where_some len es = cond (len == 0) [] es
 abbrev pub putting : Block → ℕ → List ℕ → Result (Unit {0}) OutOfMemory → List Event
 putting b offset bytes answer =
     BytesPut b.object (b.offset + offset) bytes
-    ∷ where_non_coherent b (Flushed (rounded b offset (length bytes) ∷ []) answer)
+    ∷ where_non_coherent b (Flushed (rounded_range b offset (length bytes) ∷ []) answer)
 
 -- their rounded range is invalidated, and bytes are got
 abbrev pub getting : Block → ℕ → List ℕ → List Event
 getting b offset bytes =
-    where_non_coherent b (Invalidated (rounded b offset (length bytes) ∷ []) (Ok tt))
+    where_non_coherent b (Invalidated (rounded_range b offset (length bytes) ∷ []) (Ok tt))
     ++ BytesGot b.object (b.offset + offset) bytes ∷ []
 
 -- What a write asks.
 abbrev pub AsksToWrite : Block → ℕ → List ℕ → List Event → Type 0
 AsksToWrite b offset bytes es =
     (refusal b ≡ None)
-    × (es ≡ where_some (length bytes) (around b (rounded b offset (length bytes)) (putting b offset bytes (Ok tt))))
+    × (es ≡ where_some (length bytes) (around b (rounded_range b offset (length bytes)) (putting b offset bytes (Ok tt))))
 
 -- What a read of these bytes asks.
 abbrev pub AsksToRead : Block → ℕ → List ℕ → List Event → Type 0
 AsksToRead b offset bytes es =
     (refusal b ≡ None)
-    × (es ≡ where_some (length bytes) (around b (rounded b offset (length bytes)) (getting b offset bytes)))
+    × (es ≡ where_some (length bytes) (around b (rounded_range b offset (length bytes)) (getting b offset bytes)))
 
 -- The device refused the flush or the invalidate, for this cause, after the calls that `failing` names.
 pub record IsCopyRefused (b : Block) (r : Range) (failing : OutOfMemory → List Event) (e : MapError) (es : List Event)
@@ -79,21 +79,21 @@ pub record HasOnlyOtherBytes (o new : Object) : Type 0 where
 pub record IsWrittenThrough (b : Block) (offset : ℕ) (bytes : List ℕ) (o new : Object) : Type 0 where
   pub rest : HasOnlyOtherBytes o new
   pub host : IsWritten (b.offset + offset) bytes o.host_bytes new.host_bytes
-  pub device : IsCopied (rounded b offset (length bytes)).offset (rounded b offset (length bytes)).size new.host_bytes
+  pub device : IsCopied (rounded_range b offset (length bytes)).offset (rounded_range b offset (length bytes)).size new.host_bytes
       o.device_bytes new.device_bytes
 
 -- The host's bytes are the data, and each of the device's bytes of the rounded range is its old value or the host's.
 pub record IsPartlyWritten (b : Block) (offset : ℕ) (bytes : List ℕ) (o new : Object) : Type 0 where
   pub rest : HasOnlyOtherBytes o new
   pub host : IsWritten (b.offset + offset) bytes o.host_bytes new.host_bytes
-  pub device : IsPartlyCopied (rounded b offset (length bytes)).offset (rounded b offset (length bytes)).size
+  pub device : IsPartlyCopied (rounded_range b offset (length bytes)).offset (rounded_range b offset (length bytes)).size
       new.host_bytes o.device_bytes new.device_bytes
 
 -- The host's bytes of the rounded range are the device's now, and the bytes that are read are the device's.
 pub record IsReadThrough (b : Block) (offset : ℕ) (bytes : List ℕ) (o new : Object) : Type 0 where
   pub rest : HasOnlyOtherBytes o new
   pub device : new.device_bytes ≡ o.device_bytes
-  pub host : IsCopied (rounded b offset (length bytes)).offset (rounded b offset (length bytes)).size o.device_bytes
+  pub host : IsCopied (rounded_range b offset (length bytes)).offset (rounded_range b offset (length bytes)).size o.device_bytes
       o.host_bytes new.host_bytes
   pub told : (k : ℕ) → k < length bytes → slice_get bytes k ≡ slice_get o.device_bytes (b.offset + offset + k)
 
@@ -111,34 +111,34 @@ pub record ChangesBytes (b : Block) (len : ℕ) (P : Object → Object → Type 
 -- How a refused write ends: a refused mapping keeps every byte; a refused flush leaves the data with the host.
 abbrev pub EndsWrite : Block → ℕ → List ℕ → MapError → (old new : ℕ → Option Object) → List Event → Type 0
 EndsWrite b offset bytes e old new es =
-    (IsMapRefused b (rounded b offset (length bytes)) e es × (new ≡ old))
-    ⊎ (IsCopyRefused b (rounded b offset (length bytes)) (flush_fails b offset bytes) e es
+    (IsMapRefused b (rounded_range b offset (length bytes)) e es × (new ≡ old))
+    ⊎ (IsCopyRefused b (rounded_range b offset (length bytes)) (flush_fails b offset bytes) e es
     × Changes (IsPartlyWritten b offset bytes) old b.object new)
 
 -- How a refused read ends: a refused mapping keeps every byte; a refused invalidate keeps each byte of the device.
 abbrev pub EndsRead : Block → (offset len : ℕ) → MapError → (old new : ℕ → Option Object) → List Event → Type 0
 EndsRead b offset len e old new es =
-    (IsMapRefused b (rounded b offset len) e es × (new ≡ old))
-    ⊎ (IsCopyRefused b (rounded b offset len) (invalidate_fails (rounded b offset len)) e es
-    × Changes (IsPartlyRead (rounded b offset len)) old b.object new)
+    (IsMapRefused b (rounded_range b offset len) e es × (new ≡ old))
+    ⊎ (IsCopyRefused b (rounded_range b offset len) (invalidate_fails (rounded_range b offset len)) e es
+    × Changes (IsPartlyRead (rounded_range b offset len)) old b.object new)
 
 -- However a write ends: of the host's bytes only the data's own range changes, of the device's only the rounded range.
 pub record WritesWithin (b : Block) (offset len : ℕ) (o new : Object) : Type 0 where
   pub rest : HasOnlyOtherBytes o new
   pub host : (k : ℕ) → IsOutside (b.offset + offset) len k → slice_get new.host_bytes k ≡ slice_get o.host_bytes k
-  pub device : (k : ℕ) → IsOutside (rounded b offset len).offset (rounded b offset len).size k
+  pub device : (k : ℕ) → IsOutside (rounded_range b offset len).offset (rounded_range b offset len).size k
       → slice_get new.device_bytes k ≡ slice_get o.device_bytes k
 
 -- However a read ends: of the host's bytes only the rounded range changes, and none of the device's do.
 pub record ReadsWithin (b : Block) (offset len : ℕ) (o new : Object) : Type 0 where
   pub rest : HasOnlyOtherBytes o new
-  pub host : (k : ℕ) → IsOutside (rounded b offset len).offset (rounded b offset len).size k
+  pub host : (k : ℕ) → IsOutside (rounded_range b offset len).offset (rounded_range b offset len).size k
       → slice_get new.host_bytes k ≡ slice_get o.host_bytes k
   pub device : new.device_bytes ≡ o.device_bytes
 
 -- While a call moves bytes: the object is host-visible, has the block's memory type, and has a range mapped that may be
 -- flushed.
-pub record IsOpen (p : Properties) (b : Block) (r : Range) (o : Object) : Type 0 where
+pub record IsOpenForBytes (p : Properties) (b : Block) (r : Range) (o : Object) : Type 0 where
   pub visible : has_bit b.props host_visible ≡ true
   pub props : b.props ≡ props_at p b.memory_type
   pub of_type : o.memory_type ≡ b.memory_type

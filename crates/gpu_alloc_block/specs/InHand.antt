@@ -1,6 +1,6 @@
 -- Blocks that a caller has in hand.
 use Rattle.std.specs.Prelude.{◌≡◌, ◌≢◌, false, List, [], ◌∷◌, ◌++◌}
-use Rattle.gpu_alloc_block.specs.State.{State, Block, span_of, AreApart, IsOwned, is_shared}
+use Rattle.gpu_alloc_block.specs.State.{State, Block, span_of, AreSpansApart, IsOwned, is_shared}
 
 -- two blocks are of two objects if one of them has its own
 pub record ShareNoObject (b c : Block) : Type 0 where
@@ -9,7 +9,7 @@ pub record ShareNoObject (b c : Block) : Type 0 where
 
 -- two blocks that share no byte, and so have two spans
 pub record AreTwo (b c : Block) : Type 0 where
-  pub apart : AreApart (span_of b) (span_of c)
+  pub apart : AreSpansApart (span_of b) (span_of c)
   pub differ : span_of b ≢ span_of c
   pub objects : ShareNoObject b c
 

@@ -21,7 +21,7 @@ pub record AreKept (s : State) (p : Properties) (objects : ℕ → Option Object
   pub two : (j key : ℕ) (b c : Block) → at j ≡ Some b → at key ≡ Some c → j ≢ key → AreTwo b c
 
 -- one key has this block now, or none, and every other key what it had
-pub record ChangesAt (at new : ℕ → Option Block) (key : ℕ) (slot : Option Block) : Type 0 where
+pub record ChangesKey (at new : ℕ → Option Block) (key : ℕ) (slot : Option Block) : Type 0 where
   pub changed : new key ≡ slot
   pub others : (other : ℕ) → other ≢ key → new other ≡ at other
 
@@ -44,7 +44,7 @@ pub record KeepsInHand (b : Block) (p : Properties) (old : ℕ → Option Object
   pub ready : (s : State) (cs ds : List Block) → AreOwned s (cs ++ b ∷ ds) → AreReady p old (cs ++ b ∷ ds)
       → AreReady q new (cs ++ now ∷ ds)
   pub kept : (s : State) (at at_new : ℕ → Option Block) (key : ℕ) → AreKept s p old at → at key ≡ Some b
-      → ChangesAt at at_new key (Some now) → AreKept s q new at_new
+      → ChangesKey at at_new key (Some now) → AreKept s q new at_new
 
 -- What an allocator's call keeps that takes no block.
 pub record LeavesInHand (s : State) (p : Properties) (old : ℕ → Option Object) (after : State) (q : Properties)
@@ -59,7 +59,7 @@ pub record AddsInHand (s : State) (p : Properties) (old : ℕ → Option Object)
     (new : ℕ → Option Object) (b : Block) : Type 0 where
   pub ready : (bs : List Block) → AreOwned s bs → AreReady p old bs → AreReady q new (bs ++ b ∷ [])
   pub kept : (at at_new : ℕ → Option Block) (key : ℕ) → AreKept s p old at → at key ≡ None
-      → ChangesAt at at_new key (Some b) → AreKept after q new at_new
+      → ChangesKey at at_new key (Some b) → AreKept after q new at_new
 
 -- What a return keeps: each byte of every block that stays owned, and what the device has apart from the allocator's
 -- objects. It removes one of the blocks in hand.
@@ -71,7 +71,7 @@ pub record RemovesInHand (s : State) (p : Properties) (old : ℕ → Option Obje
   pub last : (cs : List Block) → AreOwned s (cs ++ b ∷ []) → AreReady p old (cs ++ b ∷ []) → AreReady q new cs
   pub any : (cs ds : List Block) → AreOwned s (cs ++ b ∷ ds) → AreReady p old (cs ++ b ∷ ds) → AreReady q new (cs ++ ds)
   pub kept : (at at_new : ℕ → Option Block) (key : ℕ) → AreKept s p old at → at key ≡ Some b
-      → ChangesAt at at_new key None → AreKept after q new at_new
+      → ChangesKey at at_new key None → AreKept after q new at_new
 
 -- What is known of blocks in hand holds for the one at a place of their list: a list is a map from places.
 pub record ToldByPlace : Type 0 where

@@ -8,7 +8,7 @@ use Rattle.gpu_alloc_types.specs.declared.types.DeviceMapError.{DeviceMapError}
 use Rattle.gpu_alloc_base.specs.Errors.{map_like_device}
 use Rattle.gpu_alloc_base.specs.declared.error.MapError.{MapError}
 use Rattle.gpu_alloc_base.specs.declared.error.MapError.TheVariants.{NonHostVisible, AlreadyMapped}
-use Rattle.gpu_alloc_block.specs.Ranges.{rounded}
+use Rattle.gpu_alloc_block.specs.Ranges.{rounded_range}
 use Rattle.gpu_alloc_block.specs.State.{Block, is_shared}
 use Rattle.gpu_alloc_block.specs.declared.block.Mapping.{Mapping}
 
@@ -34,8 +34,8 @@ IsMapRefused b r e es = ((refusal b ≡ Some e) × (es ≡ [])) ⊎ IsDeviceRefu
 
 -- What is asked to map some bytes of a block: its object's rounded range, where the object is the block's own.
 abbrev pub AsksToMap : Block → (offset len : ℕ) → Result Mapping MapError → List Event → Type 0
-AsksToMap b offset len (Ok m) es = (refusal b ≡ None) × (es ≡ of_own b (Mapped (rounded b offset len) (Ok tt) ∷ []))
-AsksToMap b offset len (Err e) es = IsMapRefused b (rounded b offset len) e es
+AsksToMap b offset len (Ok m) es = (refusal b ≡ None) × (es ≡ of_own b (Mapped (rounded_range b offset len) (Ok tt) ∷ []))
+AsksToMap b offset len (Err e) es = IsMapRefused b (rounded_range b offset len) e es
 
 -- the mapping of some bytes of a block
 abbrev pub mapping_of : Block → (offset len : ℕ) → Mapping

@@ -23,14 +23,14 @@ abbrev pub join : {K X : Type 0} {R : K → K → Ordering} → finite.FinMap R 
 join m n = finite.from_entries (finite.entries m ++ finite.entries n)
 
 -- what all parts hold
-abbrev pub held_in : List Part → Held
-held_in [] = finite.empty
-held_in (p ∷ ps) = join p.held (held_in ps)
+abbrev pub held_in_parts : List Part → Held
+held_in_parts [] = finite.empty
+held_in_parts (p ∷ ps) = join p.held (held_in_parts ps)
 
 -- what is live in any part
-abbrev pub live_in : List Part → Live
-live_in [] = set.empty
-live_in (p ∷ ps) = set.union p.live (live_in ps)
+abbrev pub live_in_parts : List Part → Live
+live_in_parts [] = set.empty
+live_in_parts (p ∷ ps) = set.union p.live (live_in_parts ps)
 
 -- the element stands at the place
 abbrev pub IsAt : {A : Type 0} → List A → ℕ → A → Type 0
@@ -45,7 +45,7 @@ abbrev pub HasLive : Part → Span → Type 0
 HasLive p span = IsTrue (set.contains p.live span)
 
 -- Each object is held by one part, where its kind may be, and each live span lies in an object of its own part.
-pub record AreApart (IsPlace : ℕ → HeldObject → Type 0) (ps : List Part) : Type 0 where
+pub record ArePartsApart (IsPlace : ℕ → HeldObject → Type 0) (ps : List Part) : Type 0 where
   pub placed : (i : ℕ) (p : Part) (object : ℕ) (h : HeldObject) → IsAt ps i p → Holds p object h → IsPlace i h
   pub once : (i j : ℕ) (p q : Part) (object : ℕ) (h k : HeldObject) → IsAt ps i p → IsAt ps j q → Holds p object h
       → Holds q object k → i ≡ j
@@ -53,13 +53,13 @@ pub record AreApart (IsPlace : ℕ → HeldObject → Type 0) (ps : List Part) :
 
 -- these parts are apart, and together hold and have live exactly this
 pub record Makes (IsPlace : ℕ → HeldObject → Type 0) (ps : List Part) (held : Held) (live : Live) : Type 0 where
-  pub apart : AreApart IsPlace ps
-  pub held_is : held_in ps ≡ held
-  pub live_is : live_in ps ≡ live
+  pub apart : ArePartsApart IsPlace ps
+  pub held_is : held_in_parts ps ≡ held
+  pub live_is : live_in_parts ps ≡ live
 
 -- no span of the object is live
-abbrev pub IsUnused : Part → ℕ → Type 0
-IsUnused p object = (span : Span) → HasLive p span → span.object ≡ object → ⊥
+abbrev pub IsUnusedInPart : Part → ℕ → Type 0
+IsUnusedInPart p object = (span : Span) → HasLive p span → span.object ≡ object → ⊥
 
 -- A store keeps its chunks by keys and its blocks as rows: as a part it has both by name.
 
@@ -75,6 +75,6 @@ abbrev pub by_span : {T : Type 0} {R : T → T → Ordering} → (T → Span) �
 by_span span_of rows = set.from_list (map span_of (set.items rows))
 
 -- no two keys have one object
-abbrev pub AreNamed : Chunks → Type 0
-AreNamed chunks = (i k : ℕ) (a b : Chunk) → finite.get chunks i ≡ Some a → finite.get chunks k ≡ Some b → a.object ≡ b.object
+abbrev pub HaveOwnObjects : Chunks → Type 0
+HaveOwnObjects chunks = (i k : ℕ) (a b : Chunk) → finite.get chunks i ≡ Some a → finite.get chunks k ≡ Some b → a.object ≡ b.object
     → i ≡ k

@@ -27,8 +27,8 @@ whole_atoms b start len = record {
 }
 
 -- the rounded range of some bytes of the block, the first of them at this offset in it
-abbrev pub rounded : Block → (offset len : ℕ) → Range
-rounded b offset len = whole_atoms b (b.offset + offset) len
+abbrev pub rounded_range : Block → (offset len : ℕ) → Range
+rounded_range b offset len = whole_atoms b (b.offset + offset) len
 
 -- the range has all of `len` bytes, the first of them at a place of the object
 abbrev pub HasAll : Range → (place len : ℕ) → Type 0

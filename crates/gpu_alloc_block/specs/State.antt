@@ -37,8 +37,8 @@ abbrev pub span_numbers : Span → List ℕ
 span_numbers s = s.object ∷ s.offset ∷ s.size ∷ []
 
 -- the two share no byte
-abbrev pub AreApart : Span → Span → Type 0
-AreApart a b = (a.object ≢ b.object) ⊎ ((a.offset + a.size ≤ b.offset) ⊎ (b.offset + b.size ≤ a.offset))
+abbrev pub AreSpansApart : Span → Span → Type 0
+AreSpansApart a b = (a.object ≢ b.object) ⊎ ((a.offset + a.size ≤ b.offset) ⊎ (b.offset + b.size ≤ a.offset))
 
 -- by object, then offset, then size
 abbrev pub span_cmp : Span → Span → Ordering

@@ -11,13 +11,13 @@ ghost use Rattle.gpu_alloc_types.specs.Device.Event.{Mapped, Unmapped, Flushed, 
 ghost use Rattle.gpu_alloc_block.specs.Agreement.{BlockAgrees, KeepsAgreement};
 ghost use Rattle.gpu_alloc_block.specs.Bytes.{AsksToWrite, EndsWrite, IsWrittenThrough, IsPartlyWritten, WritesWithin};
 ghost use Rattle.gpu_alloc_block.specs.Bytes.{AsksToRead, EndsRead, IsReadThrough, IsPartlyRead, ReadsWithin};
-ghost use Rattle.gpu_alloc_block.specs.Bytes.{ChangesBytes, IsOpen, putting, getting, invalidate_fails, where_non_coherent};
+ghost use Rattle.gpu_alloc_block.specs.Bytes.{ChangesBytes, IsOpenForBytes, putting, getting, invalidate_fails, where_non_coherent};
 ghost use Rattle.gpu_alloc_block.specs.Contents.{HasSameBytes, HasSameDeviceBytes, Stores};
 ghost use Rattle.gpu_alloc_block.specs.InHand.{IsSameBlock};
 ghost use Rattle.gpu_alloc_block.specs.Kept.{KeepsInHand};
 ghost use Rattle.gpu_alloc_block.specs.Mapped.{AsksToMap, ObjectsMapped, ObjectsUnmapped, IsClosed, mapping_of, of_own};
 ghost use Rattle.gpu_alloc_block.specs.Mapped.{refusal, unmapping};
-ghost use Rattle.gpu_alloc_block.specs.Ranges.{HasEnd, atom_end, rounded};
+ghost use Rattle.gpu_alloc_block.specs.Ranges.{HasEnd, atom_end, rounded_range};
 ghost use Rattle.gpu_alloc_block.specs.State.{Block, is_shared};
 
 use crate::kept_mapping::KeptMapping;
@@ -239,7 +239,7 @@ impl<M: MemoryObject> MemoryBlock<M> {
         requires agrees { BlockAgrees self.old (D.properties device.old) (D.objects device.old) }
 
         ensures asked { Asked D.step device.old device.new (AsksToMap self.old offset size result) }
-        ensures objects { ObjectsMapped self.old (rounded self.old offset size) result (D.objects device.old)
+        ensures objects { ObjectsMapped self.old (rounded_range self.old offset size) result (D.objects device.old)
             (D.objects device.new) }
         ensures mapping { IfOk result (λ mapping. mapping ≡ mapping_of self.old offset size) }
         ensures mapped { OnOk result (self.new ≡ record self.old { mapping = Some (mapping_of self.old offset size) }) }
@@ -526,7 +526,7 @@ impl<M: MemoryObject> MemoryBlock<M> {
     /// by less than an atom.
     pub fn rounded(&self, offset: u64, len: u64) -> MappedMemoryRange<'_, M>
         requires { offset + len ≤ self.now.size }
-        ensures { range_of M.object result ≡ rounded self.now offset len }
+        ensures { range_of M.object result ≡ rounded_range self.now offset len }
     {
         let start = self.offset + offset;
         let first = start / self.atom * self.atom;
@@ -550,12 +550,12 @@ impl<M: MemoryObject> MemoryBlock<M> {
         requires able { refusal self.now ≡ None }
         requires agrees { BlockAgrees self.now (D.properties device.old) (D.objects device.old) }
         ensures asked { Asked D.step device.old device.new
-            (λ es. es ≡ of_own self.now (Mapped (rounded self.now offset len) result ∷ [])) }
-        ensures objects { ObjectsMapped self.now (rounded self.now offset len) result (D.objects device.old)
+            (λ es. es ≡ of_own self.now (Mapped (rounded_range self.now offset len) result ∷ [])) }
+        ensures objects { ObjectsMapped self.now (rounded_range self.now offset len) result (D.objects device.old)
             (D.objects device.new) }
         ensures sure { is_shared self.now.kind ≡ true → IsOk result }
         ensures ready { OnOk result (HeldWith (D.objects device.new) self.now.object
-            (IsOpen (D.properties device.new) self.now (rounded self.now offset len))) }
+            (IsOpenForBytes (D.properties device.new) self.now (rounded_range self.now offset len))) }
         ensures properties { D.properties device.new ≡ D.properties device.old }
     {
         if self.kind.is_shared() {
@@ -587,10 +587,10 @@ impl<M: MemoryObject> MemoryBlock<M> {
     ) -> Result<(), OutOfMemory>
         requires inside { offset + len ≤ self.now.size }
         requires ready { HeldWith (D.objects device.old) self.now.object
-            (IsOpen (D.properties device.old) self.now (rounded self.now offset len)) }
+            (IsOpenForBytes (D.properties device.old) self.now (rounded_range self.now offset len)) }
         ensures asked { Asked D.step device.old device.new
-            (λ es. es ≡ where_non_coherent self.now (Flushed (rounded self.now offset len ∷ []) result)) }
-        ensures objects { Changes (IsFlushed result (rounded self.now offset len)) (D.objects device.old)
+            (λ es. es ≡ where_non_coherent self.now (Flushed (rounded_range self.now offset len ∷ []) result)) }
+        ensures objects { Changes (IsFlushed result (rounded_range self.now offset len)) (D.objects device.old)
             self.now.object (D.objects device.new) }
         ensures cause { OnErr result (are_non_coherent self.now.props ≡ true) }
         ensures properties { D.properties device.new ≡ D.properties device.old }
@@ -612,10 +612,10 @@ impl<M: MemoryObject> MemoryBlock<M> {
     ) -> Result<(), OutOfMemory>
         requires inside { offset + len ≤ self.now.size }
         requires ready { HeldWith (D.objects device.old) self.now.object
-            (IsOpen (D.properties device.old) self.now (rounded self.now offset len)) }
+            (IsOpenForBytes (D.properties device.old) self.now (rounded_range self.now offset len)) }
         ensures asked { Asked D.step device.old device.new
-            (λ es. es ≡ where_non_coherent self.now (Invalidated (rounded self.now offset len ∷ []) result)) }
-        ensures objects { Changes (IsInvalidated result (rounded self.now offset len)) (D.objects device.old)
+            (λ es. es ≡ where_non_coherent self.now (Invalidated (rounded_range self.now offset len ∷ []) result)) }
+        ensures objects { Changes (IsInvalidated result (rounded_range self.now offset len)) (D.objects device.old)
             self.now.object (D.objects device.new) }
         ensures cause { OnErr result (are_non_coherent self.now.props ≡ true) }
         ensures properties { D.properties device.new ≡ D.properties device.old }
@@ -637,7 +637,7 @@ impl<M: MemoryObject> MemoryBlock<M> {
         requires nonempty { 0 < length bytes.now }
         requires inside { offset + length bytes.now ≤ self.now.size }
         requires ready { HeldWith (D.objects device.old) self.now.object
-            (IsOpen (D.properties device.old) self.now (rounded self.now offset (length bytes.now))) }
+            (IsOpenForBytes (D.properties device.old) self.now (rounded_range self.now offset (length bytes.now))) }
         ensures asked { Asked D.step device.old device.new (λ es. es ≡ putting self.now offset bytes.now result) }
         ensures written { OnOk result (Changes (IsWrittenThrough self.now offset bytes.now) (D.objects device.old)
             self.now.object (D.objects device.new)) }
@@ -660,13 +660,13 @@ impl<M: MemoryObject> MemoryBlock<M> {
         requires nonempty { 0 < length bytes.old }
         requires inside { offset + length bytes.old ≤ self.now.size }
         requires ready { HeldWith (D.objects device.old) self.now.object
-            (IsOpen (D.properties device.old) self.now (rounded self.now offset (length bytes.old))) }
+            (IsOpenForBytes (D.properties device.old) self.now (rounded_range self.now offset (length bytes.old))) }
         ensures asked { OnOk result (Asked D.step device.old device.new (λ es. es ≡ getting self.now offset bytes.new)) }
         ensures failed { IfErr result (λ e. Asked D.step device.old device.new
-            (λ es. es ≡ invalidate_fails (rounded self.now offset (length bytes.old)) e)) }
+            (λ es. es ≡ invalidate_fails (rounded_range self.now offset (length bytes.old)) e)) }
         ensures read { OnOk result (Changes (IsReadThrough self.now offset bytes.new) (D.objects device.old)
             self.now.object (D.objects device.new)) }
-        ensures refused { OnErr result (Changes (IsPartlyRead (rounded self.now offset (length bytes.old)))
+        ensures refused { OnErr result (Changes (IsPartlyRead (rounded_range self.now offset (length bytes.old)))
             (D.objects device.old) self.now.object (D.objects device.new)) }
         ensures bytes { OnErr result (bytes.new ≡ bytes.old) }
         ensures cause { OnErr result (are_non_coherent self.now.props ≡ true) }

@@ -5,7 +5,7 @@ ghost use Rattle.gpu_alloc_types.specs.Device.{Object, HeldWith, IsInMapped};
 ghost use Rattle.gpu_alloc_types.specs.Properties.{Properties};
 ghost use Rattle.gpu_alloc_block.specs.Agreement.{BlockAgrees, LiesInBlock};
 ghost use Rattle.gpu_alloc_block.specs.ByteCalls.{BytesMoved, MayBeMoved};
-ghost use Rattle.gpu_alloc_block.specs.Ranges.{HasAll, rounded};
+ghost use Rattle.gpu_alloc_block.specs.Ranges.{HasAll, rounded_range};
 ghost use Rattle.gpu_alloc_block.specs.State.{State};
 
 use crate::{Mapping, MemoryBlock};
@@ -16,9 +16,9 @@ use gpu_alloc_types::{MemoryObject, ObjectDevice};
 /// clause `in_hand` says.
 pub fn rounded_ranges_lie_in_their_block<M: MemoryObject>(block: &MemoryBlock<M>)
     ensures covers { (offset len : ℕ) → offset + len ≤ block.now.size
-        → HasAll (rounded block.now offset len) (block.now.offset + offset) len }
+        → HasAll (rounded_range block.now offset len) (block.now.offset + offset) len }
     ensures inside { (p : Properties) (objects : ℕ → Option Object) (offset len : ℕ) → BlockAgrees block.now p objects
-        → offset + len ≤ block.now.size → LiesInBlock block.now (rounded block.now offset len) }
+        → offset + len ≤ block.now.size → LiesInBlock block.now (rounded_range block.now offset len) }
 {
     block.keeps_end();
 }

@@ -8,12 +8,12 @@ use Rattle.gpu_alloc_base.specs.FreeSpace.{IsMultipleOf, IsPowerOfTwo}
 use Rattle.gpu_alloc_base.specs.Accounts.{Account, account}
 use Rattle.gpu_alloc_base.specs.Case.{Case, Answers, RefusesFirst, RefusesQuestion}
 use Rattle.gpu_alloc_base.specs.NewObject.{HasOneMore}
-use Rattle.gpu_alloc_buddy.specs.Buddy.{Agrees, ObjectsAfter, Fits, HasPlace, IsGranted, buddy_case, case_of, chunk_size, sees_chunks, with_leaf, with_chunk, rounded}
+use Rattle.gpu_alloc_buddy.specs.Buddy.{Agrees, ObjectsAfter, Fits, HasPlace, IsGranted, buddy_case, case_of, chunk_size, sees_chunks, buddy_with_leaf, buddy_with_chunk, rounded}
 use Rattle.gpu_alloc_base.proofs.Books.{KeepsBooks, refused_keeps, made_new, answers_agree as chunks_agree}
 use Rattle.gpu_alloc_base.specs.Wanted.{Wanted}
 use Rattle.gpu_alloc_base.specs.Chunks.{IsNew}
-use Rattle.gpu_alloc_buddy.specs.BuddyState.{Buddy, IsLiveLeaf}
-use Rattle.gpu_alloc_buddy.specs.BuddySound.{IsSound, LiesInChunk}
+use Rattle.gpu_alloc_buddy.specs.BuddyState.{Buddy, IsLiveBuddyLeaf}
+use Rattle.gpu_alloc_buddy.specs.BuddySound.{IsSoundBuddy, LiesInBuddyChunk}
 use Rattle.gpu_alloc_base.specs.declared.buddy_block.Leaf.{Leaf}
 use Rattle.gpu_alloc_base.specs.declared.error.AllocationError.{AllocationError}
 use Rattle.gpu_alloc_base.specs.declared.error.AllocationError.TheVariants.{OutOfDeviceMemory, OutOfHostMemory}
@@ -90,16 +90,16 @@ pub record IsRoundedTo (b : Buddy) (w : Wanted) (size : ℕ) : Type 0 where
   pub whole_atoms : b.atom ≤ size
 
 -- a live block lies in its chunk, once the state is sound
-lies_now : (b : Buddy) (new : Account Buddy) (leaf : Leaf) → new.allocator ≡ b → IsSound new.allocator → IsLiveLeaf b leaf → LiesInChunk b leaf
-lies_now b new leaf is sound live = (subst IsSound is sound).space.inside leaf live
+lies_now : (b : Buddy) (new : Account Buddy) (leaf : Leaf) → new.allocator ≡ b → IsSoundBuddy new.allocator → IsLiveBuddyLeaf b leaf → LiesInBuddyChunk b leaf
+lies_now b new leaf is sound live = (subst IsSoundBuddy is sound).space.inside leaf live
 
-pub answers_granted : (a new : Account Buddy) (w : Wanted) (size flags : ℕ) (es : List Event) (leaf : Leaf) (p : Properties) (f g : ℕ → Option Object) → IsSound a.allocator → IsSound new.allocator → Agrees a.allocator p f → IsRoundedTo a.allocator w size
+pub answers_granted : (a new : Account Buddy) (w : Wanted) (size flags : ℕ) (es : List Event) (leaf : Leaf) (p : Properties) (f g : ℕ → Option Object) → IsSoundBuddy a.allocator → IsSoundBuddy new.allocator → Agrees a.allocator p f → IsRoundedTo a.allocator w size
     → Answers (buddy_case a size flags) es (Ok leaf) new → ObjectsAfter a.allocator (Ok leaf) new.allocator f g → IsGranted a.allocator w new.allocator leaf
 answers_granted a new w size flags es leaf p f g s now agrees r (inl gives) objects =
     let at = gives.place in
     let place = at.piece.place in
     let size_is = at.of_size in
-    let there = lies_now (with_leaf a.allocator leaf) new leaf (ap (λ (x : Account Buddy). x.allocator) gives.state) now (now_live a.allocator.live leaf) in
+    let there = lies_now (buddy_with_leaf a.allocator leaf) new leaf (ap (λ (x : Account Buddy). x.allocator) gives.state) now (now_live a.allocator.live leaf) in
     rw (gives.state) (record {
       enough = omega (arith, size_is, r.enough);
       aligned = lower_multiple leaf.offset (w.align_mask + 1) at.length r.alignment place.power (omega (arith, r.aligned, at.enough)) place.aligned;
@@ -120,8 +120,8 @@ answers_granted a new w size flags es leaf p f g s now agrees r (inr gives) obje
     let at = gives.place in
     let more = made_in a.allocator new.allocator leaf f g objects at.free_key in
     let size_is = at.of_size in
-    let chunk = with_chunk a.allocator leaf (chunk_size a.allocator size) in
-    let there = lies_now (with_leaf chunk leaf) new leaf (ap (λ (x : Account Buddy). x.allocator) gives.state) now (now_live chunk.live leaf) in
+    let chunk = buddy_with_chunk a.allocator leaf (chunk_size a.allocator size) in
+    let there = lies_now (buddy_with_leaf chunk leaf) new leaf (ap (λ (x : Account Buddy). x.allocator) gives.state) now (now_live chunk.live leaf) in
     rw (gives.state) (record {
       enough = omega (arith, size_is, r.enough);
       aligned = lower_multiple leaf.offset (w.align_mask + 1) (w.align_mask + 1) r.alignment r.alignment (omega arith) (0, at.start ∙ sym (zero-mul (w.align_mask + 1)));
@@ -139,7 +139,7 @@ answers_granted a new w size flags es leaf p f g s now agrees r (inr gives) obje
     })
 
 -- what a request is rounded to
-pub rounds : (b : Buddy) (w : Wanted) → IsSound b → w.size < 2 ^ 64 → IsAlignMask w.align_mask → IsRoundedTo b w (rounded b w)
+pub rounds : (b : Buddy) (w : Wanted) → IsSoundBuddy b → w.size < 2 ^ 64 → IsAlignMask w.align_mask → IsRoundedTo b w (rounded b w)
 rounds b w s small mask =
     let n = is_next_power_of_two (max (max w.size (w.align_mask + 1)) (max b.atom b.minimal)) (omega (arith, small, mask.bound, s.atom.1.1, s.minimal.1.1, pow-le s.atom.0 62 s.atom.1.0, pow-le s.minimal.0 63 s.minimal.1.0)) in
     record {
@@ -151,7 +151,7 @@ rounds b w s small mask =
       whole_atoms = omega (arith, n.enough);
     }
 
-pub answers_all_granted : (a new : Account Buddy) (w : Wanted) (size flags : ℕ) (es : List Event) (answer : Result Leaf AllocationError) (p : Properties) (f g : ℕ → Option Object) → IsSound a.allocator → IsSound new.allocator → Agrees a.allocator p f
+pub answers_all_granted : (a new : Account Buddy) (w : Wanted) (size flags : ℕ) (es : List Event) (answer : Result Leaf AllocationError) (p : Properties) (f g : ℕ → Option Object) → IsSoundBuddy a.allocator → IsSoundBuddy new.allocator → Agrees a.allocator p f
     → IsRoundedTo a.allocator w size → Answers (buddy_case a size flags) es answer new → ObjectsAfter a.allocator answer new.allocator f g → IfOk answer (IsGranted a.allocator w new.allocator)
 answers_all_granted a new w size flags es (Ok leaf) p f g s now agrees r answers objects = answers_granted a new w size flags es leaf p f g s now agrees r answers objects
 answers_all_granted a new w size flags es (Err e) p f g s now agrees r answers objects = tt

@@ -13,16 +13,16 @@ use Rattle.gpu_alloc_base.specs.declared.buddy_block.Leaf.{Leaf}
 use Rattle.gpu_alloc_base.specs.declared.heap.Heap.{Heap}
 use Rattle.gpu_alloc_base.proofs.AlignedPowers.{doubled, pow-le, order-le, power_up_to}
 use Rattle.gpu_alloc_base.proofs.Outcomes.{if_some}
-use Rattle.gpu_alloc_buddy.specs.Buddy.{Agrees, chunk_size, in_new_chunk, question, sees_chunks, with_chunk, with_leaf}
+use Rattle.gpu_alloc_buddy.specs.Buddy.{Agrees, buddy_with_chunk, buddy_with_leaf, chunk_size, in_new_chunk, question, sees_chunks}
 use Rattle.gpu_alloc_buddy.specs.BuddyInside.{buddy_in}
-use Rattle.gpu_alloc_buddy.specs.BuddySound.{IsSound}
+use Rattle.gpu_alloc_buddy.specs.BuddySound.{IsSoundBuddy}
 use Rattle.gpu_alloc_buddy.specs.BuddyState.{Buddy}
-use Rattle.gpu_alloc_pairs.specs.Space.{IsSoundSpace, Space}
+use Rattle.gpu_alloc_pairs.specs.Space.{BuddySpace, IsSoundBuddySpace}
 
 -- What is kept.
 
 -- what a store keeps, with sizes that are powers of two
-pub sound_in : (s : Space) (n m t p a : ℕ) → IsSoundSpace s → n ≤ 63 → IsPowerUpTo 63 m → IsPowerUpTo 62 a → IsSound (buddy_in s n m t p a)
+pub sound_in : (s : BuddySpace) (n m t p a : ℕ) → IsSoundBuddySpace s → n ≤ 63 → IsPowerUpTo 63 m → IsPowerUpTo 62 a → IsSoundBuddy (buddy_in s n m t p a)
 sound_in s n m t p a sound short minimal atom = record { space = sound; next_chunk = (n, (short, refl)); minimal = minimal; atom = atom }
 
 pub power_order : (n : ℕ) → IsPowerUpTo 63 (2 ^ n) → n ≤ 63
@@ -58,8 +58,8 @@ pub question_is : (b : Buddy) (order size flags : ℕ) (visible : Bool) → size
 question_is b order size flags visible size_is sees = λ i. record { size = size_is i; memory_type = b.memory_type; flags = flags; mapped = sees i }
 
 -- what a call with a new chunk leaves
-pub in_new_chunk_is : (a : Account Buddy) (leaf : Leaf) (size n m : ℕ) (b : Buddy) (heap : Heap) → b ≡ with_leaf (with_chunk a.allocator leaf n) leaf → heap ≡ record a.heap { used = a.heap.used + m } → n ≡ size → m ≡ size
+pub in_new_chunk_is : (a : Account Buddy) (leaf : Leaf) (size n m : ℕ) (b : Buddy) (heap : Heap) → b ≡ buddy_with_leaf (buddy_with_chunk a.allocator leaf n) leaf → heap ≡ record a.heap { used = a.heap.used + m } → n ≡ size → m ≡ size
     → account b heap (a.remaining - 1) ≡ in_new_chunk a leaf size
 in_new_chunk_is a leaf size n m b heap b_is heap_is n_is m_is =
-    ap (λ x. account x heap (a.remaining - 1)) (b_is ∙ ap (λ k. with_leaf (with_chunk a.allocator leaf k) leaf) n_is)
-    ∙ ap (λ h. account (with_leaf (with_chunk a.allocator leaf size) leaf) h (a.remaining - 1)) (heap_is ∙ ap (λ k. record a.heap { used = a.heap.used + k }) m_is)
+    ap (λ x. account x heap (a.remaining - 1)) (b_is ∙ ap (λ k. buddy_with_leaf (buddy_with_chunk a.allocator leaf k) leaf) n_is)
+    ∙ ap (λ h. account (buddy_with_leaf (buddy_with_chunk a.allocator leaf size) leaf) h (a.remaining - 1)) (heap_is ∙ ap (λ k. record a.heap { used = a.heap.used + k }) m_is)

@@ -12,19 +12,19 @@ use Rattle.gpu_alloc_base.specs.declared.buddy_block.Leaf.{Leaf}
 use Rattle.gpu_alloc_base.specs.declared.heap.Heap.{Heap}
 use Rattle.gpu_alloc_base.proofs.Maps.{gone, kept_other, one_value}
 use Rattle.gpu_alloc_base.proofs.Sums.{sum_by-remove, len_less}
-use Rattle.gpu_alloc_buddy.specs.Buddy.{Agrees, Frees, sees_chunks, without_leaf}
+use Rattle.gpu_alloc_buddy.specs.Buddy.{Agrees, buddy_without_leaf, Frees, sees_chunks}
 use Rattle.gpu_alloc_buddy.specs.BuddyInside.{buddy_in}
-use Rattle.gpu_alloc_buddy.specs.BuddyState.{Buddy, IsLiveLeaf, space_of}
+use Rattle.gpu_alloc_buddy.specs.BuddyState.{Buddy, IsLiveBuddyLeaf, space_of}
 use Rattle.gpu_alloc_pairs.specs.Space as spaces
-use Rattle.gpu_alloc_pairs.specs.Space.{IsSoundSpace, Space}
+use Rattle.gpu_alloc_pairs.specs.Space.{BuddySpace, IsSoundBuddySpace}
 
 -- the allocator without a block, and without its chunk
 abbrev pub without_chunk : Buddy → Leaf → Buddy
-without_chunk b leaf = record (without_leaf b leaf) { chunks = map.remove b.chunks leaf.chunk }
+without_chunk b leaf = record (buddy_without_leaf b leaf) { chunks = map.remove b.chunks leaf.chunk }
 
 -- A live block, and its chunk.
 
-module _ (b : Buddy) (leaf : Leaf) (held : Chunk) (sound : IsSoundSpace (space_of b)) (live : IsLiveLeaf b leaf) (is : map.get b.chunks leaf.chunk ≡ Some held) where
+module _ (b : Buddy) (leaf : Leaf) (held : Chunk) (sound : IsSoundBuddySpace (space_of b)) (live : IsLiveBuddyLeaf b leaf) (is : map.get b.chunks leaf.chunk ≡ Some held) where
   -- its object is the chunk's
   pub object_is : leaf.object ≡ held.object
   object_is = let l = sound.inside leaf live in l.object ∙ ap (λ (c : Chunk). c.object) (one_value _ l.chunk held l.held is)
@@ -78,16 +78,16 @@ frees_counted a new leaf es counted frees = record { ledger = frees_bytes a new 
 
 -- What the store tells of a return, as the allocator's contract has it.
 
-module _ (s now : Space) (n m t p a : ℕ) (leaf : Leaf) (heap : Heap) (remaining : ℕ) where
+module _ (s now : BuddySpace) (n m t p a : ℕ) (leaf : Leaf) (heap : Heap) (remaining : ℕ) where
   pub frees_stays : (spaces.IsUnusedChunk (spaces.without_leaf s leaf) leaf.chunk → ⊥) × (now ≡ spaces.without_leaf s leaf)
       → Frees (account (buddy_in s n m t p a) heap remaining) leaf [] (account (buddy_in now n m t p a) heap remaining)
   frees_stays stays = inl (stays.0, (refl, ap (λ x. account (buddy_in x n m t p a) heap remaining) stays.1))
 
   -- the chunk goes
   abbrev pub Goes : Chunk → Type 0
-  Goes held = spaces.IsUnusedChunk (spaces.without_leaf s leaf) leaf.chunk × ((map.get s.chunks leaf.chunk ≡ Some held) × (now ≡ spaces.without_chunk s leaf))
+  Goes held = spaces.IsUnusedChunk (spaces.without_leaf s leaf) leaf.chunk × ((map.get s.chunks leaf.chunk ≡ Some held) × (now ≡ spaces.without_leaf_and_chunk s leaf))
 
   pub frees_goes : (held : Chunk) (less : Heap) → Goes held → less ≡ record heap { used = heap.used - held.size }
       → Frees (account (buddy_in s n m t p a) heap remaining) leaf (Deallocated leaf.object ∷ []) (account (buddy_in now n m t p a) less (remaining + 1))
   frees_goes held less goes is =
-      inr (goes.0, (held, goes.1.0, (refl, ap (λ x. account (buddy_in x n m t p a) less (remaining + 1)) goes.1.1 ∙ ap (λ h. account (buddy_in (spaces.without_chunk s leaf) n m t p a) h (remaining + 1)) is)))
+      inr (goes.0, (held, goes.1.0, (refl, ap (λ x. account (buddy_in x n m t p a) less (remaining + 1)) goes.1.1 ∙ ap (λ h. account (buddy_in (spaces.without_leaf_and_chunk s leaf) n m t p a) h (remaining + 1)) is)))

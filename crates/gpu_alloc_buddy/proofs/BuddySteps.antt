@@ -13,11 +13,11 @@ use Rattle.gpu_alloc_base.specs.declared.piece.Piece.{Piece}
 use Rattle.gpu_alloc_base.proofs.AlignedPowers.{order-le, pow-le}
 use Rattle.gpu_alloc_base.specs.declared.error.AllocationError.{AllocationError}
 use Rattle.gpu_alloc_base.specs.declared.error.AllocationError.TheVariants.{OutOfDeviceMemory, OutOfHostMemory, NoCompatibleMemoryTypes, TooManyObjects}
-use Rattle.gpu_alloc_buddy.specs.Buddy.{BeginsChunk, Fits, IsFront, buddy_case, chunk_size}
-use Rattle.gpu_alloc_buddy.specs.BuddyState.{Buddy, IsFreeAt, IsLiveLeaf, space_of}
+use Rattle.gpu_alloc_buddy.specs.Buddy.{BeginsBuddyChunk, Fits, IsBuddyFront, buddy_case, chunk_size}
+use Rattle.gpu_alloc_buddy.specs.BuddyState.{Buddy, IsFreeInBuddy, IsLiveBuddyLeaf, space_of}
 use Rattle.gpu_alloc_buddy.specs.BuddySteps.{AreFewRanges, AreFewReleases, CountsBeginning, CountsHalving, CountsRefusing, CountsSteps, LooksFirst}
-use Rattle.gpu_alloc_pairs.specs.Space.{IsSoundSpace}
-use Rattle.gpu_alloc_pairs.specs.Store.{CountsFront, CountsSearch, range_of}
+use Rattle.gpu_alloc_pairs.specs.Space.{IsSoundBuddySpace}
+use Rattle.gpu_alloc_pairs.specs.Store.{CountsFront, CountsSearch, piece_range}
 use Rattle.gpu_alloc_buddy.proofs.BuddyAnswers.{fits, fits_not}
 
 -- A grant.
@@ -38,12 +38,12 @@ one_power order k l same =
 -- the block's piece is that of which the store has told
 pub front_counts : (b : Buddy) (order : ℕ) (leaf : Leaf) (looks now splits after : ℕ) → leaf.size ≡ 2 ^ order → CountsFront (space_of b) leaf looks now splits after → CountsSteps b looks now splits after leaf
 front_counts b order leaf looks now splits after size c k piece =
-    let lengths = one_length (IsFreeAt b) leaf.chunk leaf.offset (leaf.size * 2 ^ k) (leaf.size * 2 ^ c.doublings) piece c.piece in
+    let lengths = one_length (IsFreeInBuddy b) leaf.chunk leaf.offset (leaf.size * 2 ^ k) (leaf.size * 2 ^ c.doublings) piece c.piece in
     let same = one_power order k c.doublings (subst (λ n. n * 2 ^ k ≡ n * 2 ^ c.doublings) size lengths) in
     (omega (arith, c.looked, same), omega (arith, c.split, same))
 
 -- a block of a chunk that was not held is the front of no free piece
-new_counts : (b : Buddy) (order : ℕ) (leaf : Leaf) (looks now splits after : ℕ) → BeginsChunk b (2 ^ order) leaf → CountsSteps b looks now splits after leaf
+new_counts : (b : Buddy) (order : ℕ) (leaf : Leaf) (looks now splits after : ℕ) → BeginsBuddyChunk b (2 ^ order) leaf → CountsSteps b looks now splits after leaf
 new_counts b order leaf looks now splits after begins k piece =
     let some : 2 ^ 0 ≤ 2 ^ (order + k) = pow-le 0 (order + k) (omega arith) in
     let long : leaf.size * 2 ^ k ≡ 2 ^ (order + k) = ap (λ n. n * 2 ^ k) begins.of_size ∙ sym (pow-add 2 order k) in
@@ -53,22 +53,22 @@ new_counts b order leaf looks now splits after begins k piece =
     let none = begins.free_key in
     absurd (cc)
 
-pub granted_counts : (b : Buddy) (order : ℕ) (answer : Result Leaf AllocationError) (looks now splits after : ℕ) → IfOk answer (BeginsChunk b (2 ^ order)) → IfOk answer (CountsSteps b looks now splits after)
+pub granted_counts : (b : Buddy) (order : ℕ) (answer : Result Leaf AllocationError) (looks now splits after : ℕ) → IfOk answer (BeginsBuddyChunk b (2 ^ order)) → IfOk answer (CountsSteps b looks now splits after)
 granted_counts b order (Ok leaf) looks now splits after begins = new_counts b order leaf looks now splits after begins
 granted_counts b order (Err e) looks now splits after begins = tt
 
 -- a block in a place begins no chunk
-pub front_begins_none : (b : Buddy) (order : ℕ) (leaf : Leaf) (looks now splits after : ℕ) → IsFront b (2 ^ order) leaf → CountsBeginning b looks now splits after leaf
+pub front_begins_none : (b : Buddy) (order : ℕ) (leaf : Leaf) (looks now splits after : ℕ) → IsBuddyFront b (2 ^ order) leaf → CountsBeginning b looks now splits after leaf
 front_begins_none b order leaf looks now splits after front none k is = let held = front.held in absurd (cc)
 
-new_begins : (b : Buddy) (order : ℕ) (leaf : Leaf) (looks now splits after : ℕ) → BeginsChunk b (2 ^ order) leaf → CountsSearch (space_of b) (2 ^ order) looks now → CountsHalving b order splits after → CountsBeginning b looks now splits after leaf
+new_begins : (b : Buddy) (order : ℕ) (leaf : Leaf) (looks now splits after : ℕ) → BeginsBuddyChunk b (2 ^ order) leaf → CountsSearch (space_of b) (2 ^ order) looks now → CountsHalving b order splits after → CountsBeginning b looks now splits after leaf
 new_begins b order leaf looks now splits after begins search (n, size, split) none k is =
     let long : 2 ^ n ≡ 2 ^ (order + k) = sym size ∙ ap (chunk_size b) (sym begins.of_size) ∙ is ∙ ap (λ x. x * 2 ^ k) begins.of_size ∙ sym (pow-add 2 order k) in (
       rw (begins.of_size) search,
       omega (arith, split, order-le n (order + k) (omega (arith, long)), order-le (order + k) n (omega (arith, long))),
     )
 
-pub granted_begins : (b : Buddy) (order : ℕ) (answer : Result Leaf AllocationError) (looks now splits after : ℕ) → IfOk answer (BeginsChunk b (2 ^ order)) → CountsSearch (space_of b) (2 ^ order) looks now → IfOk answer (λ _. CountsHalving b order splits after)
+pub granted_begins : (b : Buddy) (order : ℕ) (answer : Result Leaf AllocationError) (looks now splits after : ℕ) → IfOk answer (BeginsBuddyChunk b (2 ^ order)) → CountsSearch (space_of b) (2 ^ order) looks now → IfOk answer (λ _. CountsHalving b order splits after)
     → IfOk answer (CountsBeginning b looks now splits after)
 granted_begins b order (Ok leaf) looks now splits after begins search halved = new_begins b order leaf looks now splits after begins search halved
 granted_begins b order (Err e) looks now splits after begins search halved = tt
@@ -100,7 +100,7 @@ looked_first a order flags size looks now is short e refuses search = rw is (inl
 
 -- A return.
 
-pub few_at_most : (b : Buddy) (leaf : Leaf) (old new : ℕ) → IsSoundSpace (space_of b) → IsLiveLeaf b leaf → old < new → AreFewReleases b leaf old new → new ≤ old + 63
+pub few_at_most : (b : Buddy) (leaf : Leaf) (old new : ℕ) → IsSoundBuddySpace (space_of b) → IsLiveBuddyLeaf b leaf → old < new → AreFewReleases b leaf old new → new ≤ old + 63
 few_at_most b leaf old new sound live some few =
     let lies = sound.inside leaf live in
     let power = sound.powers leaf.chunk lies.chunk lies.held in
@@ -125,7 +125,7 @@ as_long start n order = same_from_decides _ _ (Decides-eqb (start + 2 ^ n) (star
   (λ e. (Decides-eqb n order).1 (omega (arith, order-le n order (omega (arith, e)), order-le order n (omega (arith, e))))),
 )
 
-pub few_ranges : (b : Buddy) (pieces : List Piece) → ((order : ℕ) → count_by (λ p. p.order == order) pieces ≤ set.len b.live) → AreFewRanges b (map (range_of (space_of b)) pieces)
+pub few_ranges : (b : Buddy) (pieces : List Piece) → ((order : ℕ) → count_by (λ p. p.order == order) pieces ≤ set.len b.live) → AreFewRanges b (map (piece_range (space_of b)) pieces)
 few_ranges b pieces few order =
-    let same = count_ranges (range_of (space_of b)) (λ r. r.end == r.start + 2 ^ order) (λ p. p.order == order) (λ p. as_long p.start p.order order) pieces in
+    let same = count_ranges (piece_range (space_of b)) (λ r. r.end == r.start + 2 ^ order) (λ p. p.order == order) (λ p. as_long p.start p.order order) pieces in
     omega (arith, few order, same)

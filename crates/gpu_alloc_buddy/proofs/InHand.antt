@@ -12,8 +12,8 @@ use Rattle.gpu_alloc_base.specs.Wanted.{Wanted}
 use Rattle.gpu_alloc_base.specs.declared.buddy_block.Leaf.{Leaf}
 use Rattle.gpu_alloc_base.specs.declared.error.AllocationError.{AllocationError}
 use Rattle.gpu_alloc_buddy.specs.Buddy.{Adds, Agrees, buddy_case, bytes_of, Frees, HoldsNothing, IsGranted, Leaves, Removes}
-use Rattle.gpu_alloc_buddy.specs.BuddyState.{Buddy, IsLiveLeaf}
-use Rattle.gpu_alloc_pairs.specs.Space.{IsSoundSpace, Space}
+use Rattle.gpu_alloc_buddy.specs.BuddyState.{Buddy, IsLiveBuddyLeaf}
+use Rattle.gpu_alloc_pairs.specs.Space.{BuddySpace, IsSoundBuddySpace}
 use Rattle.gpu_alloc_base.proofs.Books.{refused_keeps}
 use Rattle.gpu_alloc_base.proofs.InHand.{leaves_same, none_in, grant_leaves, grant_adds, return_removes, granted_live, no_chunks}
 use Rattle.gpu_alloc_base.proofs.Leaves.{leaf_total, leaf_exact}
@@ -45,11 +45,11 @@ live_less : (a : Account Buddy) (leaf : Leaf) (es : List Event) (new : Account B
 live_less a leaf es new (inl stays) = ap live_in stays.1.1
 live_less a leaf es new (inr goes) = ap live_in goes.1.2.1
 
-pub frees_remove : (a : Account Buddy) (leaf : Leaf) (es : List Event) (new : Account Buddy) → IsLiveLeaf a.allocator leaf → Frees a leaf es new → Removes a.allocator leaf new.allocator
+pub frees_remove : (a : Account Buddy) (leaf : Leaf) (es : List Event) (new : Account Buddy) → IsLiveBuddyLeaf a.allocator leaf → Frees a leaf es new → Removes a.allocator leaf new.allocator
 frees_remove a leaf es new live frees = return_removes leaf_total leaf_exact bytes_of a.allocator.live leaf new.allocator.live (live_less a leaf es new frees) live
 
 -- a chunk is held only for a live block
-pub leaves_no_rest : (s : Space) → IsSoundSpace s → LeavesNoRest s.live s.chunks
+pub leaves_no_rest : (s : BuddySpace) → IsSoundBuddySpace s → LeavesNoRest s.live s.chunks
 leaves_no_rest s sound = record { held = λ none. no_chunks s.chunks (λ key chunk is. let used = sound.used key chunk is in none_in s.live none used.0 used.1.0) }
 
 -- What holds nothing.

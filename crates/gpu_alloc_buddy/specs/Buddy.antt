@@ -17,7 +17,7 @@ use Rattle.gpu_alloc_base.specs.InHand as in_hand
 use Rattle.gpu_alloc_base.specs.InHand.{Bytes}
 use Rattle.gpu_alloc_base.specs.NewChunk.{ChunkQuestion}
 use Rattle.gpu_alloc_base.specs.Sizes.{next_power_of_two}
-use Rattle.gpu_alloc_buddy.specs.BuddyState.{Buddy, IsLiveLeaf, IsFreeAt, space_of}
+use Rattle.gpu_alloc_buddy.specs.BuddyState.{Buddy, IsLiveBuddyLeaf, IsFreeInBuddy, space_of}
 use Rattle.gpu_alloc_pairs.specs.Space as spaces
 use Rattle.gpu_alloc_pairs.specs.Space.{chunks_with}
 use Rattle.gpu_alloc_base.specs.Chunks.{Chunk}
@@ -52,24 +52,24 @@ abbrev pub HasPlace : Buddy → ℕ → Type 0
 HasPlace b = spaces.HasPlace (space_of b)
 
 -- the block is the front of a shortest free piece that is long enough
-abbrev pub IsFront : Buddy → ℕ → Leaf → Type 0
-IsFront b = spaces.IsFront (space_of b)
+abbrev pub IsBuddyFront : Buddy → ℕ → Leaf → Type 0
+IsBuddyFront b = spaces.IsFront (space_of b)
 
 -- the block begins a chunk that was not held
-abbrev pub BeginsChunk : Buddy → ℕ → Leaf → Type 0
-BeginsChunk b = spaces.BeginsChunk (space_of b)
+abbrev pub BeginsBuddyChunk : Buddy → ℕ → Leaf → Type 0
+BeginsBuddyChunk b = spaces.BeginsChunk (space_of b)
 
 -- one more block is live
-abbrev pub with_leaf : Buddy → Leaf → Buddy
-with_leaf b leaf = record b { live = set.insert b.live leaf }
+abbrev pub buddy_with_leaf : Buddy → Leaf → Buddy
+buddy_with_leaf b leaf = record b { live = set.insert b.live leaf }
 
 -- one more chunk is held, of the block's object, and the next one will be at least as large
-abbrev pub with_chunk : Buddy → Leaf → ℕ → Buddy
-with_chunk b leaf size = record b { chunks = chunks_with b.chunks leaf size; next_chunk = size }
+abbrev pub buddy_with_chunk : Buddy → Leaf → ℕ → Buddy
+buddy_with_chunk b leaf size = record b { chunks = chunks_with b.chunks leaf size; next_chunk = size }
 
 abbrev pub in_new_chunk : Account Buddy → Leaf → ℕ → Account Buddy
 in_new_chunk a leaf size = record {
-  allocator = with_leaf (with_chunk a.allocator leaf size) leaf;
+  allocator = buddy_with_leaf (buddy_with_chunk a.allocator leaf size) leaf;
   heap = record a.heap { used = a.heap.used + size };
   remaining = a.remaining - 1;
 }
@@ -87,9 +87,9 @@ buddy_case a size flags = record {
   limit = a.heap.limit;
   two_handles = true;
   object = λ leaf. leaf.object;
-  IsInPlace = IsFront a.allocator size;
-  with_block = λ leaf. record a { allocator = with_leaf a.allocator leaf };
-  IsInNewObject = BeginsChunk a.allocator size;
+  IsInPlace = IsBuddyFront a.allocator size;
+  with_block = λ leaf. record a { allocator = buddy_with_leaf a.allocator leaf };
+  IsInNewObject = BeginsBuddyChunk a.allocator size;
   with_object = λ leaf. in_new_chunk a leaf (chunk_size a.allocator size);
 }
 
@@ -114,29 +114,29 @@ CallAnswers b heap remaining size flags answer new new_heap new_remaining es =
     (account new new_heap new_remaining)
 
 -- a place is looked for: a block in one, or none there, or no host memory for a block in one
-abbrev pub TakesPlace : {E : Type 0} → Buddy → ℕ → Result (Option Leaf) E → Buddy → Type 0
-TakesPlace b size (Ok None) new = (HasPlace b size → ⊥) × (new ≡ b)
-TakesPlace b size (Ok (Some leaf)) new = IsFront b size leaf × (new ≡ with_leaf b leaf)
-TakesPlace b size (Err e) new = HasPlace b size × (new ≡ b)
+abbrev pub TakesBuddyFront : {E : Type 0} → Buddy → ℕ → Result (Option Leaf) E → Buddy → Type 0
+TakesBuddyFront b size (Ok None) new = (HasPlace b size → ⊥) × (new ≡ b)
+TakesBuddyFront b size (Ok (Some leaf)) new = IsBuddyFront b size leaf × (new ≡ buddy_with_leaf b leaf)
+TakesBuddyFront b size (Err e) new = HasPlace b size × (new ≡ b)
 
 -- no block of the chunk is live
-abbrev pub IsUnusedChunk : Buddy → ℕ → Type 0
-IsUnusedChunk b = spaces.IsUnusedChunk (space_of b)
+abbrev pub IsUnusedBuddyChunk : Buddy → ℕ → Type 0
+IsUnusedBuddyChunk b = spaces.IsUnusedChunk (space_of b)
 
 -- one block fewer
-abbrev pub without_leaf : Buddy → Leaf → Buddy
-without_leaf b leaf = record b { live = set.remove b.live leaf }
+abbrev pub buddy_without_leaf : Buddy → Leaf → Buddy
+buddy_without_leaf b leaf = record b { live = set.remove b.live leaf }
 
 -- A block is returned: its chunk is released with it if no other block in it is live, and kept otherwise.
 abbrev pub Frees : Account Buddy → Leaf → List Event → Account Buddy → Type 0
 Frees a leaf es new =
-    ((IsUnusedChunk (without_leaf a.allocator leaf) leaf.chunk → ⊥)
-    × ((es ≡ []) × (new ≡ record a { allocator = without_leaf a.allocator leaf })))
-    ⊎ (IsUnusedChunk (without_leaf a.allocator leaf) leaf.chunk
+    ((IsUnusedBuddyChunk (buddy_without_leaf a.allocator leaf) leaf.chunk → ⊥)
+    × ((es ≡ []) × (new ≡ record a { allocator = buddy_without_leaf a.allocator leaf })))
+    ⊎ (IsUnusedBuddyChunk (buddy_without_leaf a.allocator leaf) leaf.chunk
     × ((chunk : Chunk) × (map.get a.allocator.chunks leaf.chunk ≡ Some chunk)
     × ((es ≡ Deallocated leaf.object ∷ [])
     × (new ≡ record {
-      allocator = record (without_leaf a.allocator leaf) { chunks = map.remove a.allocator.chunks leaf.chunk };
+      allocator = record (buddy_without_leaf a.allocator leaf) { chunks = map.remove a.allocator.chunks leaf.chunk };
       heap = record a.heap { used = a.heap.used - chunk.size };
       remaining = a.remaining + 1;
     }))))
@@ -162,8 +162,8 @@ pub record IsGranted (old : Buddy) (w : Wanted) (new : Buddy) (leaf : Leaf) : Ty
   pub front : IsMultipleOf leaf.size leaf.offset
   pub inside : (chunk : Chunk) × (map.get new.chunks leaf.chunk ≡ Some chunk)
       × ((leaf.object ≡ chunk.object) × (leaf.offset + leaf.size ≤ chunk.size))
-  pub live : IsLiveLeaf new leaf
-  pub was_free : (other : Leaf) → IsLiveLeaf old other → other.object ≡ leaf.object → (at : ℕ)
+  pub live : IsLiveBuddyLeaf new leaf
+  pub was_free : (other : Leaf) → IsLiveBuddyLeaf old other → other.object ≡ leaf.object → (at : ℕ)
       → IsIn other.offset other.size at → IsIn leaf.offset leaf.size at → ⊥
 
 -- Device and allocator.
@@ -182,8 +182,8 @@ ObjectsAfter b answer after old new =
 -- how a return changes them: the block's chunk is released with its last block
 abbrev pub ObjectsFreed : Buddy → Leaf → (ℕ → Option Object) → (ℕ → Option Object) → Type 0
 ObjectsFreed b leaf old new =
-    ((IsUnusedChunk (without_leaf b leaf) leaf.chunk → ⊥) × (new ≡ old))
-    ⊎ (IsUnusedChunk (without_leaf b leaf) leaf.chunk × (new ≡ put old leaf.object None))
+    ((IsUnusedBuddyChunk (buddy_without_leaf b leaf) leaf.chunk → ⊥) × (new ≡ old))
+    ⊎ (IsUnusedBuddyChunk (buddy_without_leaf b leaf) leaf.chunk × (new ≡ put old leaf.object None))
 
 -- What is free.
 
@@ -195,7 +195,7 @@ pub record IsPieceOf (b : Buddy) (r : FreeRange) : Type 0 where
   pub object : chunk.object ≡ r.object
   pub length : ℕ
   pub end : r.end ≡ r.start + length
-  pub piece : IsFreePiece (IsFreeAt b) key r.start length
+  pub piece : IsFreePiece (IsFreeInBuddy b) key r.start length
 
 -- Blocks in hand.
 

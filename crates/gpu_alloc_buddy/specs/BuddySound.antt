@@ -2,16 +2,16 @@
 use Rattle.gpu_alloc_base.specs.FreeSpace.{IsPowerUpTo}
 use Rattle.gpu_alloc_base.specs.declared.buddy_block.Leaf.{Leaf}
 use Rattle.gpu_alloc_buddy.specs.BuddyState.{Buddy, space_of}
-use Rattle.gpu_alloc_pairs.specs.Space.{IsSoundSpace}
+use Rattle.gpu_alloc_pairs.specs.Space.{IsSoundBuddySpace}
 use Rattle.gpu_alloc_pairs.specs.Space as spaces
 
 -- a live block lies in its chunk, at a multiple of its size, which is a power of two
-abbrev pub LiesInChunk : Buddy → Leaf → Type 0
-LiesInChunk b = spaces.LiesInChunk (space_of b)
+abbrev pub LiesInBuddyChunk : Buddy → Leaf → Type 0
+LiesInBuddyChunk b = spaces.LiesInChunk (space_of b)
 
 -- chunks have objects of their own, with a live block each, and live blocks are apart; the sizes are powers of two
-pub record IsSound (b : Buddy) : Type 0 where
-  pub space : IsSoundSpace (space_of b)
+pub record IsSoundBuddy (b : Buddy) : Type 0 where
+  pub space : IsSoundBuddySpace (space_of b)
   pub next_chunk : IsPowerUpTo 63 b.next_chunk
   pub minimal : IsPowerUpTo 63 b.minimal
   pub atom : IsPowerUpTo 62 b.atom

@@ -7,7 +7,7 @@ use Rattle.gpu_alloc_base.specs.declared.buddy_block.Leaf.{Leaf}
 use Rattle.gpu_alloc_base.specs.Chunks.{Chunk}
 use Rattle.gpu_alloc_base.specs.Leaves.{leaf_cmp}
 use Rattle.gpu_alloc_pairs.specs.Space as space
-use Rattle.gpu_alloc_pairs.specs.Space.{Space}
+use Rattle.gpu_alloc_pairs.specs.Space.{BuddySpace}
 
 -- The held chunks by key, the live blocks, the next chunk's least size, the smallest block, the memory type with its
 -- property bits, and the atom, of which block sizes are multiples.
@@ -21,20 +21,20 @@ pub record Buddy : Type 0 where
   pub atom : ℕ
 
 -- only the chunks and the blocks
-abbrev pub space_of : Buddy → Space
+abbrev pub space_of : Buddy → BuddySpace
 space_of b = record { chunks = b.chunks; live = b.live }
 
-abbrev pub IsLiveLeaf : Buddy → Leaf → Type 0
-IsLiveLeaf b = space.IsLiveLeaf (space_of b)
+abbrev pub IsLiveBuddyLeaf : Buddy → Leaf → Type 0
+IsLiveBuddyLeaf b = space.IsLiveLeaf (space_of b)
 
 -- a live block of this span of an object
-abbrev pub IsLiveSpan : Buddy → ℕ → ℕ → ℕ → Leaf → Type 0
-IsLiveSpan b = space.IsLiveSpan (space_of b)
+abbrev pub IsLiveBuddySpan : Buddy → ℕ → ℕ → ℕ → Leaf → Type 0
+IsLiveBuddySpan b = space.IsLiveSpan (space_of b)
 
 -- no live block has this span
-abbrev pub IsNoLiveSpan : Buddy → ℕ → ℕ → ℕ → Type 0
-IsNoLiveSpan b = space.IsNoLiveSpan (space_of b)
+abbrev pub IsNoLiveBuddySpan : Buddy → ℕ → ℕ → ℕ → Type 0
+IsNoLiveBuddySpan b = space.IsNoLiveSpan (space_of b)
 
 -- the byte lies in a held chunk, and in no live block
-abbrev pub IsFreeAt : Buddy → ℕ → ℕ → Type 0
-IsFreeAt b = space.IsFreeAt (space_of b)
+abbrev pub IsFreeInBuddy : Buddy → ℕ → ℕ → Type 0
+IsFreeInBuddy b = space.IsFreeAt (space_of b)

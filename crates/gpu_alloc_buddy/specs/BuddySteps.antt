@@ -9,7 +9,7 @@ use Rattle.gpu_alloc_base.specs.Chunks.{Chunk}
 use Rattle.gpu_alloc_base.specs.FreeSpace.{IsFreePiece}
 use Rattle.gpu_alloc_base.specs.declared.buddy_block.Leaf.{Leaf}
 use Rattle.gpu_alloc_buddy.specs.Buddy.{Fits, chunk_size}
-use Rattle.gpu_alloc_buddy.specs.BuddyState.{Buddy, IsFreeAt, space_of}
+use Rattle.gpu_alloc_buddy.specs.BuddyState.{Buddy, IsFreeInBuddy, space_of}
 use Rattle.gpu_alloc_pairs.specs.Store.{CountsSearch}
 
 -- at most 62 pieces are split
@@ -19,7 +19,7 @@ CountsSplits old new = (old ≤ new) × (new ≤ old + 62)
 -- where the block is the front of a free piece of 2^k times its size, that took k + 1 looks and k splits
 abbrev pub CountsSteps : Buddy → ℕ → ℕ → ℕ → ℕ → Leaf → Type 0
 CountsSteps b looks now splits after leaf =
-    (k : ℕ) → IsFreePiece (IsFreeAt b) leaf.chunk leaf.offset (leaf.size * 2 ^ k)
+    (k : ℕ) → IsFreePiece (IsFreeInBuddy b) leaf.chunk leaf.offset (leaf.size * 2 ^ k)
     → (now ≡ looks + k + 1) × (after ≡ splits + k)
 
 -- where the block begins a new chunk of 2^k times its size, no place was found, and k - 1 pieces were split: a chunk

@@ -7,17 +7,17 @@ ghost use Rattle.gpu_alloc_types.specs.Flags.{allocation_bits, property_bits, ha
 ghost use Rattle.gpu_alloc_types.specs.Device.{Asked};
 ghost use Rattle.gpu_alloc_types.specs.declared.types.FreeRange.{FreeRange as Range};
 ghost use Rattle.std.specs.Int.{is_power_of_two};
-ghost use Rattle.gpu_alloc_buddy.specs.Buddy.{Agrees, BeginsChunk, buddy_case, CallAllocates, CallAnswers, case_of};
+ghost use Rattle.gpu_alloc_buddy.specs.Buddy.{Agrees, BeginsBuddyChunk, buddy_case, CallAllocates, CallAnswers, case_of};
 ghost use Rattle.gpu_alloc_buddy.specs.Buddy.{chunk_size, Frees, HasPlace, IsGranted, ObjectsAfter, ObjectsFreed};
-ghost use Rattle.gpu_alloc_buddy.specs.Buddy.{opened, rounded, TakesPlace, without_leaf};
+ghost use Rattle.gpu_alloc_buddy.specs.Buddy.{buddy_without_leaf, opened, rounded, TakesBuddyFront};
 ghost use Rattle.gpu_alloc_buddy.specs.Buddy.{Adds, HoldsNothing, IsPieceOf, Leaves, LeavesNoRest, Removes};
 ghost use Rattle.gpu_alloc_base.specs.Accounts.{account, IsCounted, chunks_and_remaining};
 ghost use Rattle.gpu_alloc_base.specs.Case.{Asks, RefusesFirst, RefusesQuestion};
 ghost use Rattle.gpu_alloc_base.specs.RangeOrder.{AreInOrder};
 ghost use Rattle.gpu_alloc_base.specs.declared.buddy_block.Leaf.{Leaf as LiveLeaf};
 ghost use Rattle.gpu_alloc_base.specs.Wanted.{requested, wanted};
-ghost use Rattle.gpu_alloc_buddy.specs.BuddySound.{IsSound};
-ghost use Rattle.gpu_alloc_buddy.specs.BuddyState.{IsLiveLeaf, IsLiveSpan, IsNoLiveSpan, space_of};
+ghost use Rattle.gpu_alloc_buddy.specs.BuddySound.{IsSoundBuddy};
+ghost use Rattle.gpu_alloc_buddy.specs.BuddyState.{IsLiveBuddyLeaf, IsLiveBuddySpan, IsNoLiveBuddySpan, space_of};
 ghost use Rattle.gpu_alloc_buddy.specs.BuddySteps.{AreFewRanges, AreFewReleases, CountsBeginning, CountsHalving};
 ghost use Rattle.gpu_alloc_buddy.specs.BuddySteps.{CountsRefusing, CountsSplits, CountsSteps};
 ghost use Rattle.gpu_alloc_pairs.specs.HeldLists.{AddsLeaves, ListsChunks};
@@ -64,11 +64,11 @@ impl<M: MemoryObject, A: Allocator> Model for BuddyAllocator<M, A> {
 
     ghost use Rattle.gpu_alloc_types.specs.Flags.{property_bits};
     ghost use Rattle.gpu_alloc_buddy.specs.BuddyInside.{buddy_in};
-    ghost use Rattle.gpu_alloc_buddy.specs.BuddySound.{IsSound};
+    ghost use Rattle.gpu_alloc_buddy.specs.BuddySound.{IsSoundBuddy};
 
     ghost view = { λ a. buddy_in (a.pairs).space a.next_order a.minimal_size a.memory_type (property_bits a.props) a.atom };
 
-    ghost invariant = { λ a. IsSound
+    ghost invariant = { λ a. IsSoundBuddy
         (buddy_in (a.pairs).space a.next_order a.minimal_size a.memory_type (property_bits a.props) a.atom) };
 }
 
@@ -97,7 +97,7 @@ impl<M: MemoryObject, A: Allocator + Copy> BuddyAllocator<M, A> {
         ensures opened { IfOk result
             (λ b. b ≡ opened minimal_size initial_dedicated_size memory_type (property_bits props) (atom_mask + 1)) }
         ensures empty { IfOk result (HoldsNothing memory_type (property_bits props)) }
-        ensures sound { IfOk result IsSound }
+        ensures sound { IfOk result IsSoundBuddy }
         ensures refused { IfErr result (λ e. e ≡ AllocationError.OutOfHostMemory) }
     {
         let Ok(pairs) = Pairs::new(alloc) else {
@@ -201,7 +201,7 @@ impl<M: MemoryObject, A: Allocator> BuddyAllocator<M, A> {
         ensures ledger { heap.new.used ≤ max heap.old.used heap.old.limit }
         ensures refused { OnErr result
             ((self.new ≡ self.old) × ((heap.new ≡ heap.old) × (allocations_remains.new ≡ allocations_remains.old))) }
-        ensures sound { IsSound self.new }
+        ensures sound { IsSoundBuddy self.new }
         ensures counted { IsCounted self.new.chunks heap.new allocations_remains.new }
         ensures total { chunks_and_remaining self.new.chunks allocations_remains.new
             ≡ chunks_and_remaining self.old.chunks allocations_remains.old }
@@ -287,7 +287,7 @@ impl<M: MemoryObject, A: Allocator> BuddyAllocator<M, A> {
         allocations_remains: &mut u32,
         releases: &mut Steps<L>,
     )
-        requires live { IsLiveLeaf self.old block }
+        requires live { IsLiveBuddyLeaf self.old block }
         requires agrees { Agrees self.old (D.properties device.old) (D.objects device.old) }
         requires counted { IsCounted self.old.chunks heap.old allocations_remains.old }
 
@@ -300,7 +300,7 @@ impl<M: MemoryObject, A: Allocator> BuddyAllocator<M, A> {
         ensures removed { Removes self.old block self.new }
         ensures rest { LeavesNoRest self.new }
         ensures ledger { heap.new.used ≤ heap.old.used }
-        ensures sound { IsSound self.new }
+        ensures sound { IsSoundBuddy self.new }
         ensures counted { IsCounted self.new.chunks heap.new allocations_remains.new }
         ensures total { chunks_and_remaining self.new.chunks allocations_remains.new
             ≡ chunks_and_remaining self.old.chunks allocations_remains.old }
@@ -310,7 +310,7 @@ impl<M: MemoryObject, A: Allocator> BuddyAllocator<M, A> {
     {
         let (_, leaf) = into_parts(block);
         self.pairs.keeps_exact();
-        let gone = self.pairs.give_back(leaf, releases);
+        let gone = self.pairs.put_back(leaf, releases);
         self.pairs.keeps_exact();
         let Some((memory, size)) = gone else {
             return;
@@ -328,9 +328,9 @@ impl<M: MemoryObject, A: Allocator> BuddyAllocator<M, A> {
     /// one found (`exact`).
     #[inline(always)]
     pub fn find(&self, key: usize, object: u64, offset: u64, size: u64) -> Option<Leaf>
-        ensures found { MatchOption result (IsNoLiveSpan self.now object offset size)
-            (IsLiveSpan self.now object offset size) }
-        ensures exact { (leaf : LiveLeaf) → IsLiveSpan self.now object offset size leaf → result ≡ Some leaf }
+        ensures found { MatchOption result (IsNoLiveBuddySpan self.now object offset size)
+            (IsLiveBuddySpan self.now object offset size) }
+        ensures exact { (leaf : LiveLeaf) → IsLiveBuddySpan self.now object offset size leaf → result ≡ Some leaf }
     {
         self.pairs.find(key, object, offset, size)
     }
@@ -369,7 +369,7 @@ impl<M: MemoryObject, A: Allocator> BuddyAllocator<M, A> {
 
     /// A lemma about every allocator: does nothing at run time.
     fn keeps_sound(&self)
-        ensures { IsSound self.now }
+        ensures { IsSoundBuddy self.now }
     {
         let _ = &self.pairs;
     }
@@ -379,7 +379,7 @@ impl<M: MemoryObject, A: Allocator> BuddyAllocator<M, A> {
         requires { IsAlignMask align_mask }
         ensures least { (flags : ℕ) → rounded self.now (wanted size align_mask flags) ≡ 2 ^ result }
         ensures bound { result ≤ 64 }
-        ensures sound { IsSound self.now }
+        ensures sound { IsSoundBuddy self.now }
     {
         let aligned = size.max(align_mask + 1);
         let least = self.atom.max(self.minimal_size);
@@ -466,7 +466,7 @@ impl<M: MemoryObject, A: Allocator> BuddyAllocator<M, A> {
         splits: &mut Steps<K>,
     ) -> Result<Option<BuddyBlock<M>>, AllocError>
         requires { order ≤ 62 }
-        ensures takes { TakesPlace self.old (2 ^ order) result self.new }
+        ensures takes { TakesBuddyFront self.old (2 ^ order) result self.new }
         ensures counted { CountsTaking (space_of self.old) (2 ^ order) result looks.old looks.new splits.old splits.new }
     {
         let taken = self.pairs.take(order, looks, splits);
@@ -497,7 +497,7 @@ impl<M: MemoryObject, A: Allocator> BuddyAllocator<M, A> {
         ensures objects { ObjectsAfter self.old result self.new (D.objects device.old) (D.objects device.new) }
         ensures properties { D.properties device.new ≡ D.properties device.old }
         ensures split { CountsSplits splits.old splits.new }
-        ensures begins { IfOk result (BeginsChunk self.old (2 ^ order)) }
+        ensures begins { IfOk result (BeginsBuddyChunk self.old (2 ^ order)) }
         ensures halved { IfOk result (λ _. CountsHalving self.old order splits.old splits.new) }
     {
         let chunk_order = self.chunk_order(order);

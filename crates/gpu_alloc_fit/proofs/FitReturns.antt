@@ -16,12 +16,12 @@ use Rattle.gpu_alloc_base.proofs.Maps.{gone, kept_key, kept_other}
 use Rattle.gpu_alloc_base.proofs.Slots.{slot_exact, slot_removed, slot_total}
 use Rattle.gpu_alloc_base.proofs.Sums.{len_less, sum_by-remove}
 use Rattle.gpu_alloc_fit.specs.Fit.{Agrees, Fitting, Frees, Goes, Removes, sees_chunks}
-use Rattle.gpu_alloc_fit.specs.FitSound.{IsSound, fitting_in}
-use Rattle.gpu_alloc_fits.specs.Space.{IsLiveSlot, IsSoundSpace, IsWhollyFree, Space, bytes_of, without_chunk, without_slot}
+use Rattle.gpu_alloc_fit.specs.FitSound.{IsSoundFitting, fitting_in}
+use Rattle.gpu_alloc_fits.specs.Space.{FitSpace, IsLiveSlot, IsSoundFitSpace, IsWhollyFree, bytes_of, without_chunk, without_slot}
 
 -- What is sound stays so.
 
-pub sound_without_slot : (f : Fitting) (slot : Slot) → IsSound f → IsSoundSpace (without_slot f.space slot) → IsSound (record f { space = without_slot f.space slot })
+pub sound_without_slot : (f : Fitting) (slot : Slot) → IsSoundFitting f → IsSoundFitSpace (without_slot f.space slot) → IsSoundFitting (record f { space = without_slot f.space slot })
 sound_without_slot f slot s now = record {
   space = now;
   chunks = s.chunks;
@@ -31,8 +31,8 @@ sound_without_slot f slot s now = record {
   atom = s.atom;
 }
 
-pub sound_without_chunk : (f : Fitting) (s : Space) (key : ℕ) → IsSound f → s.chunks ≡ f.space.chunks → ((q : Slot) → IsLiveSlot s q → IsLiveSlot f.space q) → IsSoundSpace (without_chunk s key)
-    → IsSound (record f { space = without_chunk s key })
+pub sound_without_chunk : (f : Fitting) (s : FitSpace) (key : ℕ) → IsSoundFitting f → s.chunks ≡ f.space.chunks → ((q : Slot) → IsLiveSlot s q → IsLiveSlot f.space q) → IsSoundFitSpace (without_chunk s key)
+    → IsSoundFitting (record f { space = without_chunk s key })
 sound_without_chunk f s key sound same less now = record {
   space = now;
   chunks = λ k c is. sound.chunks k c (ap (λ m. map.get m k) (sym same) ∙ (kept_key s.chunks key k c is).1);
@@ -44,7 +44,7 @@ sound_without_chunk f s key sound same less now = record {
 
 -- A chunk goes.
 
-module _ (f : Fitting) (key : ℕ) (held : Chunk) (sound : IsSoundSpace f.space) (is : map.get f.space.chunks key ≡ Some held) where
+module _ (f : Fitting) (key : ℕ) (held : Chunk) (sound : IsSoundFitSpace f.space) (is : map.get f.space.chunks key ≡ Some held) where
   abbrev HasChunk : (ℕ → Option Object) → Chunk → Type 0
   HasChunk objects c = HeldWith objects c.object (IsThere f.memory_type (sees_chunks f) c)
 
@@ -89,7 +89,7 @@ module _ (a : Account Fitting) (key : ℕ) (es : List Event) (new : Account Fitt
   goes_used = rw (goes.2.1) (omega arith)
 
 -- what the store tells of it, as contracts of the allocator have it
-pub goes_so : (s now : Space) (n m t p a key : ℕ) (heap less : Heap) (remaining : ℕ) (held : Chunk) → map.get s.chunks key ≡ Some held → now ≡ without_chunk s key → less ≡ record heap { used = heap.used - held.size }
+pub goes_so : (s now : FitSpace) (n m t p a key : ℕ) (heap less : Heap) (remaining : ℕ) (held : Chunk) → map.get s.chunks key ≡ Some held → now ≡ without_chunk s key → less ≡ record heap { used = heap.used - held.size }
     → Goes (account (fitting_in s n m t p a) heap remaining) key (Deallocated held.object ∷ []) (account (fitting_in now n m t p a) less (remaining + 1))
 goes_so s now n m t p a key heap less remaining held is gone_is less_is =
     (held, is, (refl, ap (λ x. account (fitting_in x n m t p a) less (remaining + 1)) gone_is ∙ ap (λ h. account (fitting_in (without_chunk s key) n m t p a) h (remaining + 1)) less_is))
@@ -107,6 +107,6 @@ module _ (a : Account Fitting) (slot : Slot) (es : List Event) (new : Account Fi
 -- What a cleanup leaves.
 
 -- where no block is live and no chunk is wholly free, none is held
-pub no_rest : (old new : Space) → new.live ≡ old.live → ((key : ℕ) → IsWhollyFree new key → ⊥) → set.len old.live ≡ 0 → map.len new.chunks ≡ 0
+pub no_rest : (old new : FitSpace) → new.live ≡ old.live → ((key : ℕ) → IsWhollyFree new key → ⊥) → set.len old.live ≡ 0 → map.len new.chunks ≡ 0
 no_rest old new live none empty = no_chunks new.chunks (λ key chunk is.
     none key (record { held = rw is refl; unused = λ slot is_live. absurd (none_in old.live empty slot (subst (λ l. set.contains l slot ≡ true) live is_live)) }))

@@ -2,13 +2,13 @@
 use Rattle.std.specs.Prelude.{ℕ, refl}
 use Rattle.std.specs.Coded.{Coded, code_by, coded×, coded_ℕ}
 use Rattle.gpu_alloc_fit.specs.Fit.{Fitting}
-use Rattle.gpu_alloc_fits.specs.Codes.{space_code}
-use Rattle.gpu_alloc_fits.specs.Space.{Space}
+use Rattle.gpu_alloc_fits.specs.Codes.{fit_space_code}
+use Rattle.gpu_alloc_fits.specs.Space.{FitSpace}
 
 abbrev pub fitting_code : Coded Fitting
 fitting_code =
-    code_by (Space × ((ℕ × ℕ) × (ℕ × (ℕ × ℕ))))
-    (coded× space_code (coded× (coded× coded_ℕ coded_ℕ) (coded× coded_ℕ (coded× coded_ℕ coded_ℕ))))
+    code_by (FitSpace × ((ℕ × ℕ) × (ℕ × (ℕ × ℕ))))
+    (coded× fit_space_code (coded× (coded× coded_ℕ coded_ℕ) (coded× coded_ℕ (coded× coded_ℕ coded_ℕ))))
     (λ f. (f.space, ((f.next_chunk, f.final_chunk), (f.memory_type, (f.props, f.atom)))))
     (λ c. record {
       space = c.0;

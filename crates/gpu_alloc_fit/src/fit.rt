@@ -18,9 +18,9 @@ ghost use Rattle.gpu_alloc_base.specs.declared.free_list_block.Slot.{Slot as Liv
 ghost use Rattle.gpu_alloc_fit.specs.Fit.{Adds, Agrees, CallAllocates, CallAnswers, Cleans, Frees, HoldsNothing};
 ghost use Rattle.gpu_alloc_fit.specs.Fit.{IsGranted, KeepsSettings, Leaves, LeavesNoRest, ObjectsAfter, ObjectsCleaned};
 ghost use Rattle.gpu_alloc_fit.specs.Fit.{ObjectsFreed, Removes, case_of, chunk_size, fit_case, opened};
-ghost use Rattle.gpu_alloc_fit.specs.FitSound.{FitsAChunk, IsSound};
+ghost use Rattle.gpu_alloc_fit.specs.FitSound.{FitsAChunk, IsSoundFitting};
 ghost use Rattle.gpu_alloc_fits.specs.Listed.{AddsSlots, ListsChunks};
-ghost use Rattle.gpu_alloc_fits.specs.Space.{IsLiveSlot, IsLiveSpan, IsNoLiveSpan, IsRunOf};
+ghost use Rattle.gpu_alloc_fits.specs.Space.{IsFitRunOf, IsLiveFitSpan, IsLiveSlot, IsNoLiveFitSpan};
 
 use gpu_alloc_base::buddy_block::Leaf;
 use gpu_alloc_base::free_list_block::Slot;
@@ -62,12 +62,12 @@ impl<M: MemoryObject, A: Allocator> Model for FitAllocator<M, A> {
 
     ghost use Rattle.std.specs.Prelude.{◌+◌};
     ghost use Rattle.gpu_alloc_types.specs.Flags.{property_bits};
-    ghost use Rattle.gpu_alloc_fit.specs.FitSound.{IsSound, fitting_in};
+    ghost use Rattle.gpu_alloc_fit.specs.FitSound.{IsSoundFitting, fitting_in};
 
     ghost view = { λ a. fitting_in (a.fits).space a.chunk_size a.final_chunk_size a.memory_type
         (property_bits a.props) (a.atom_mask + 1) };
 
-    ghost invariant = { λ a. IsSound (fitting_in (a.fits).space a.chunk_size a.final_chunk_size a.memory_type
+    ghost invariant = { λ a. IsSoundFitting (fitting_in (a.fits).space a.chunk_size a.final_chunk_size a.memory_type
         (property_bits a.props) (a.atom_mask + 1)) };
 }
 
@@ -98,7 +98,7 @@ impl<M: MemoryObject, A: Allocator + Copy> FitAllocator<M, A> {
         ensures opened { result ≡ opened starting_chunk_size final_chunk_size memory_type (property_bits props)
             (atom_mask + 1) }
         ensures empty { HoldsNothing memory_type (property_bits props) result }
-        ensures sound { IsSound result }
+        ensures sound { IsSoundFitting result }
     {
         let fits = Fits::new(alloc);
         fits.keeps_sound();
@@ -118,7 +118,7 @@ impl<M: MemoryObject, A: Allocator + Copy> FitAllocator<M, A> {
     ///
     /// The only error is want of host memory. Nothing changes.
     pub fn free_ranges(&self, alloc: A) -> Result<Vec<FreeRange, A>, AllocError>
-        ensures runs { IfOk result (λ ranges. (r : Range) → Contains ranges.items r ↔ IsRunOf (self.now).space r) }
+        ensures runs { IfOk result (λ ranges. (r : Range) → Contains ranges.items r ↔ IsFitRunOf (self.now).space r) }
         ensures order { IfOk result (λ ranges. AreInOrder ranges.items) }
     {
         self.fits.free_ranges(alloc)
@@ -189,7 +189,7 @@ impl<M: MemoryObject, A: Allocator> FitAllocator<M, A> {
         ensures settings { KeepsSettings self.old self.new }
         ensures refused { OnErr result
             ((self.new ≡ self.old) × ((heap.new ≡ heap.old) × (allocations_remains.new ≡ allocations_remains.old))) }
-        ensures sound { IsSound self.new }
+        ensures sound { IsSoundFitting self.new }
         ensures counted { IsCounted (self.new).space.chunks heap.new allocations_remains.new }
         ensures total { chunks_and_remaining (self.new).space.chunks allocations_remains.new ≡ chunks_and_remaining
             (self.old).space.chunks allocations_remains.old }
@@ -258,13 +258,13 @@ impl<M: MemoryObject, A: Allocator> FitAllocator<M, A> {
         ensures removed { Removes self.old block self.new }
         ensures ledger { heap.new.used ≤ heap.old.used }
         ensures settings { KeepsSettings self.old self.new }
-        ensures sound { IsSound self.new }
+        ensures sound { IsSoundFitting self.new }
         ensures counted { IsCounted (self.new).space.chunks heap.new allocations_remains.new }
         ensures total { chunks_and_remaining (self.new).space.chunks allocations_remains.new ≡ chunks_and_remaining
             (self.old).space.chunks allocations_remains.old }
         ensures few { looks.new ≤ looks.old + 2 }
     {
-        let gone = self.fits.give_back(block, looks);
+        let gone = self.fits.put_back(block, looks);
         self.fits.keeps_sound();
         let Some((memory, size)) = gone else {
             return;
@@ -302,7 +302,7 @@ impl<M: MemoryObject, A: Allocator> FitAllocator<M, A> {
         ensures rest { LeavesNoRest self.old self.new }
         ensures ledger { heap.new.used ≤ heap.old.used }
         ensures settings { KeepsSettings self.old self.new }
-        ensures sound { IsSound self.new }
+        ensures sound { IsSoundFitting self.new }
         ensures counted { IsCounted (self.new).space.chunks heap.new allocations_remains.new }
         ensures total { chunks_and_remaining (self.new).space.chunks allocations_remains.new ≡ chunks_and_remaining
             (self.old).space.chunks allocations_remains.old }
@@ -323,9 +323,9 @@ impl<M: MemoryObject, A: Allocator> FitAllocator<M, A> {
     /// linear in the live blocks and free runs.
     #[inline(always)]
     pub fn find(&self, key: usize, object: u64, offset: u64, size: u64) -> Option<(Slot, usize)>
-        ensures found { MatchOption result (IsNoLiveSpan (self.now).space object offset size)
-            (λ found. IsLiveSpan (self.now).space object offset size found.0) }
-        ensures exact { (slot : LiveSlot) → IsLiveSpan (self.now).space object offset size slot
+        ensures found { MatchOption result (IsNoLiveFitSpan (self.now).space object offset size)
+            (λ found. IsLiveFitSpan (self.now).space object offset size found.0) }
+        ensures exact { (slot : LiveSlot) → IsLiveFitSpan (self.now).space object offset size slot
             → IfSome result (λ found. found.0 ≡ slot) }
     {
         self.fits.find(key, object, offset, size)
@@ -411,8 +411,8 @@ impl<M: MemoryObject, A: Allocator> FitAllocator<M, A> {
             self.new heap.new allocations_remains.new) }
         ensures objects { ObjectsAfter self.old result self.new (D.objects device.old) (D.objects device.new) }
         ensures properties { D.properties device.new ≡ D.properties device.old }
-        ensures was { IsSound self.old }
-        ensures sound { IsSound self.new }
+        ensures was { IsSoundFitting self.old }
+        ensures sound { IsSoundFitting self.new }
     {
         let taken = self.fits.take(size, align_mask);
         self.fits.keeps_sound();
@@ -493,7 +493,7 @@ impl<M: MemoryObject, A: Allocator> FitAllocator<M, A> {
             self.new heap.new allocations_remains.new) }
         ensures objects { ObjectsAfter self.old result self.new (D.objects device.old) (D.objects device.new) }
         ensures properties { D.properties device.new ≡ D.properties device.old }
-        ensures sound { IsSound self.new }
+        ensures sound { IsSoundFitting self.new }
     {
         if self.fits.reserve().is_err() {
             return Err(AllocationError::OutOfHostMemory);

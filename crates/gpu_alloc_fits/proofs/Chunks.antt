@@ -2,8 +2,8 @@
 use Rattle.std.proofs.Common.{◌≡◌, ◌≢◌, inl, inr, ℕ, ◌<◌, ◌≤◌, true, Option, Some, None, refl, sym, ◌∙◌, ap, subst, arith}
 use Rattle.std.proofs.lemmas.Bool.{cases_eq}
 use Rattle.slab.specs.Slab.{ContainsKey, Slab, Updates, get}
-use Rattle.gpu_alloc_fits.specs.Inside.{IsWholeTile, size_in, size_of}
-use Rattle.gpu_alloc_fits.specs.Links.{IsKept, Keeps, after_in, before_in}
+use Rattle.gpu_alloc_fits.specs.Inside.{chunk_size_in, IsWholeTile, row_size}
+use Rattle.gpu_alloc_fits.specs.Links.{AreNodesKept, KeepsNodes, after_in, before_in}
 use Rattle.gpu_alloc_fits.specs.Tiles.{AreNeighbours, IsTiled, KeepsElsewhere, KeepsLive, Sets, tile_in}
 use Rattle.gpu_alloc_fits.specs.declared.fits.Chunk.{Chunk as Row}
 use Rattle.gpu_alloc_fits.specs.declared.tile.Node.{Node}
@@ -17,12 +17,12 @@ pub record Resizes (old new : ℕ → ℕ) (chunk size : ℕ) : Type 0 where
   pub changed : new chunk ≡ size
   pub others : (k : ℕ) → k ≢ chunk → new k ≡ old k
 
-pub resized : {M : Type 0} (old new : Slab (Row M)) (chunk size : ℕ) (o : Option (Row M)) → Updates old new chunk o → size_of o ≡ size → Resizes (size_in old) (size_in new) chunk size
-resized old new chunk size o u is = record { changed = ap size_of u.changed ∙ is; others = λ k ne. ap size_of (u.others k ne) }
+pub resized : {M : Type 0} (old new : Slab (Row M)) (chunk size : ℕ) (o : Option (Row M)) → Updates old new chunk o → row_size o ≡ size → Resizes (chunk_size_in old) (chunk_size_in new) chunk size
+resized old new chunk size o u is = record { changed = ap row_size u.changed ∙ is; others = λ k ne. ap row_size (u.others k ne) }
 
 -- A tile comes that is all of a new chunk.
 
-module _ (old new : ℕ → ℕ) (chunk size : ℕ) (s0 s1 : Slab Node) (x : ℕ) (n : Node) (kept : IsKept old s0) (unheld : old chunk ≡ 0) (some : 0 < size) (resizes : Resizes old new chunk size)
+module _ (old new : ℕ → ℕ) (chunk size : ℕ) (s0 s1 : Slab Node) (x : ℕ) (n : Node) (kept : AreNodesKept old s0) (unheld : old chunk ≡ 0) (some : 0 < size) (resizes : Resizes old new chunk size)
     (vacant : get s0 x ≡ None) (comes : Updates s0 s1 x (Some n)) (tile : n.tile ≡ record { chunk = chunk; start = 0; end = size; free = true }) where
   abbrev whole_tile : Tile
   whole_tile = record { chunk = chunk; start = 0; end = size; free = true }
@@ -81,7 +81,7 @@ module _ (old new : ℕ → ℕ) (chunk size : ℕ) (s0 s1 : Slab Node) (x : ℕ
     ]
   ]
 
-  pub begun : IsKept new s1
+  pub begun : AreNodesKept new s1
   begun = record {
     tiled = begun_tiled;
     calm = λ j k c d is_c is_d both.
@@ -108,8 +108,8 @@ module _ (old new : ℕ → ℕ) (chunk size : ℕ) (s0 s1 : Slab Node) (x : ℕ
   begun_else k c is = elsewhere k c is
 
 -- A wholly free chunk goes, with its tile.
-module _ (old new : ℕ → ℕ) (s0 z s1 : Slab Node) (x chunk : ℕ) (kept_0 : IsKept old s0) (k0 : Keeps s0 z) (whole : IsWholeTile old (tile_in s0) x chunk) (resizes : Resizes old new chunk 0) (goes : Updates z s1 x None) where
-  kept : IsKept old z
+module _ (old new : ℕ → ℕ) (s0 z s1 : Slab Node) (x chunk : ℕ) (kept_0 : AreNodesKept old s0) (k0 : KeepsNodes s0 z) (whole : IsWholeTile old (tile_in s0) x chunk) (resizes : Resizes old new chunk 0) (goes : Updates z s1 x None) where
+  kept : AreNodesKept old z
   kept = keeps_kept s0 z k0 old kept_0
 
   at : tile_in z x ≡ Some whole.tile
@@ -131,7 +131,7 @@ module _ (old new : ℕ → ℕ) (s0 z s1 : Slab Node) (x chunk : ℕ) (kept_0 :
       let some = kept.tiled.nonempty k c w.1 in
       w.0 (kept.tiled.apart k x c whole.tile w.1 at (here ∙ sym whole.chunk_is) (omega (arith, some, most, whole.end)) (omega (arith, some, whole.start)))
 
-  pub ended : IsKept new s1
+  pub ended : AreNodesKept new s1
   ended = record {
     tiled = record {
       nonempty = λ k c is. kept.tiled.nonempty k c (was k c is).1;

@@ -2,9 +2,9 @@
 use Rattle.std.proofs.Common.{◌≡◌, ◌≢◌, inl, inr, ℕ, ◌<◌, Bool, true, false, Option, Some, None, IsSome, option_map, refl, sym, ◌∙◌, ap, subst, arith}
 use Rattle.std.proofs.lemmas.Bool.{cases_eq}
 use Rattle.slab.specs.Slab.{Slab, ContainsKey, Updates, get}
-use Rattle.gpu_alloc_fits.specs.Inside.{size_in, size_of}
-use Rattle.gpu_alloc_fits.specs.Links.{AreLinked, IsKept, Keeps, SetsBefore, after_in, after_of, before_in, before_of, with_end, with_free}
-use Rattle.gpu_alloc_fits.specs.Tiles.{AreNeighbours, IsFreeRight, IsLiveAt, IsTiled, IsUnused, KeepsElsewhere, KeepsOthers, Sets, tile_in}
+use Rattle.gpu_alloc_fits.specs.Inside.{chunk_size_in, row_size}
+use Rattle.gpu_alloc_fits.specs.Links.{AreLinked, AreNodesKept, KeepsNodes, SetsBefore, after_in, after_of, before_in, before_of, with_end, with_free}
+use Rattle.gpu_alloc_fits.specs.Tiles.{AreNeighbours, HasNoLiveTile, IsFreeRight, IsLiveAt, IsTiled, KeepsElsewhere, KeepsOthers, Sets, tile_in}
 use Rattle.gpu_alloc_fits.specs.declared.fits.Chunk.{Chunk as Row}
 use Rattle.gpu_alloc_fits.specs.declared.tile.Node.{Node}
 use Rattle.gpu_alloc_fits.specs.declared.tile.Tile.{Tile}
@@ -15,7 +15,7 @@ use Rattle.gpu_alloc_fits.proofs.Tiles.{IsJoint, Splits, came, not_both, one_til
 
 -- A free tile is taken whole.
 
-module _ (size : ℕ → ℕ) (s0 z s1 : Slab Node) (x : ℕ) (run : Tile) (kept : IsKept size s0) (at_run : tile_in s0 x ≡ Some run) (free : run.free ≡ true) (k0 : Keeps s0 z) (writes : Updates z s1 x (option_map (with_free false) (get z x))) where
+module _ (size : ℕ → ℕ) (s0 z s1 : Slab Node) (x : ℕ) (run : Tile) (kept : AreNodesKept size s0) (at_run : tile_in s0 x ≡ Some run) (free : run.free ≡ true) (k0 : KeepsNodes s0 z) (writes : Updates z s1 x (option_map (with_free false) (get z x))) where
   abbrev taken_tile : Tile
   taken_tile = record { chunk = run.chunk; start = run.start; end = run.end; free = false }
 
@@ -34,7 +34,7 @@ module _ (size : ℕ → ℕ) (s0 z s1 : Slab Node) (x : ℕ) (run : Tile) (kept
   sets : Sets (tile_in z) (tile_in s1) x (Some taken_tile)
   sets = subst (λ t. Sets (tile_in z) (tile_in s1) x (Some t)) same_tile (puts z s1 x (with_free false node.0) puts_m)
 
-  kept_z : IsKept size z
+  kept_z : AreNodesKept size z
   kept_z = keeps_kept s0 z k0 size kept
 
   -- what is free then was free before, under another key
@@ -56,7 +56,7 @@ module _ (size : ℕ → ℕ) (s0 z s1 : Slab Node) (x : ℕ) (run : Tile) (kept
     | inr other ↦ other_after z s1 x (Some (with_free false node.0)) puts_m k other
   ]
 
-  pub taken : IsKept size s1
+  pub taken : AreNodesKept size s1
   taken = record {
     tiled = retiled size (tile_in z) (tile_in s1) x run taken_tile kept_z.tiled at_t (record { chunk = refl; start = refl; end = refl }) sets;
     calm = λ j k c d is_c is_d both. kept_z.calm j k c d (old j c is_c both.left).1 (old k d is_d both.right).1 both;
@@ -71,7 +71,7 @@ module _ (size : ℕ → ℕ) (s0 z s1 : Slab Node) (x : ℕ) (run : Tile) (kept
       let e = one_tile (tile_in s1) x x t taken_tile is_t sets.changed refl in
       kept_z.calm x k run c at_t (old k c is_c c_free).1 (record { chunk = sym (ap (λ (q : Tile). q.chunk) e) ∙ near.chunk; meet = sym (ap (λ (q : Tile). q.end) e) ∙ near.meet; left = free; right = c_free })
 
-  pub taken_unused : IsUnused (tile_in s0) x
+  pub taken_unused : HasNoLiveTile (tile_in s0) x
   taken_unused c live = not_both run c (one_tile (tile_in s0) x x run c at_run live.0 refl) free live.1
 
   pub taken_others : KeepsOthers (tile_in s0) (tile_in s1) x
@@ -86,7 +86,7 @@ module _ (size : ℕ → ℕ) (s0 z s1 : Slab Node) (x : ℕ) (run : Tile) (kept
       sets.others k (λ same. other (ap (λ (t : Tile). t.chunk) (one_tile (tile_in z) k x a run is_z at_t same))) ∙ is_z
 
 -- The steps of a cut: the end comes under y, the front is put under x, and the tile behind has the key of the end.
-module _ (size : ℕ → ℕ) (s0 s1 s2 : Slab Node) (x y cut : ℕ) (n o : Node) (m : Tile) (kept : IsKept size s0) (at : get s0 x ≡ Some n) (at_m : tile_in s0 x ≡ Some m) (vacant : get s0 y ≡ None)
+module _ (size : ℕ → ℕ) (s0 s1 s2 : Slab Node) (x y cut : ℕ) (n o : Node) (m : Tile) (kept : AreNodesKept size s0) (at : get s0 x ≡ Some n) (at_m : tile_in s0 x ≡ Some m) (vacant : get s0 y ≡ None)
     (comes : Updates s0 s1 y (Some o)) (writes : Updates s1 s2 x (option_map (with_end cut y) (get s1 x))) where
   fresh : tile_in s0 y ≡ None
   fresh = ap tile_of vacant
@@ -131,7 +131,7 @@ module _ (size : ℕ → ℕ) (s0 s1 s2 : Slab Node) (x y cut : ℕ) (n o : Node
 
   -- Each of the two may be free.
   module _ (s3 s4 : Slab Node) (from : m.start < cut) (to : cut < m.end) (new_free : Bool) (new_tile : o.tile ≡ record { chunk = m.chunk; start = cut; end = m.end; free = new_free }) (o_before : o.before ≡ x) (o_after : o.after ≡ n.after)
-      (less : Bool) (yes' : m.end < size m.chunk → less ≡ true) (some : less ≡ true → m.end < size m.chunk) (sets : SetsBefore s2 s3 less n.after y) (files : Keeps s3 s4) where
+      (less : Bool) (yes' : m.end < size m.chunk → less ≡ true) (some : less ≡ true → m.end < size m.chunk) (sets : SetsBefore s2 s3 less n.after y) (files : KeepsNodes s3 s4) where
     abbrev back_tile : Tile
     back_tile = record { chunk = m.chunk; start = cut; end = m.end; free = new_free }
 
@@ -181,7 +181,7 @@ module _ (size : ℕ → ℕ) (s0 s1 s2 : Slab Node) (x y cut : ℕ) (n o : Node
 
     -- The end of a live tile comes free.
     module _ (live : m.free ≡ false) (free : new_free ≡ true) where
-      pub back_kept : IsFreeRight x (tile_in s0) → IsKept size s4
+      pub back_kept : IsFreeRight x (tile_in s0) → AreNodesKept size s4
       back_kept right = keeps_kept s3 s4 files size (record {
         tiled = cut_all;
         calm = back_calm size (tile_in s0) (tile_in s3) x y back_rest back_tile m kept.tiled kept.calm at_m live free back_splits from to back_joint right;
@@ -196,7 +196,7 @@ module _ (size : ℕ → ℕ) (s0 s1 s2 : Slab Node) (x y cut : ℕ) (n o : Node
 
     -- That of a free one is taken.
     module _ (was_free : m.free ≡ true) (live : new_free ≡ false) where
-      pub end_kept : IsKept size s4
+      pub end_kept : AreNodesKept size s4
       end_kept = keeps_kept s3 s4 files size (record {
         tiled = cut_all;
         calm = calm_end size (tile_in s0) (tile_in s3) x y back_rest back_tile m kept.tiled kept.calm at_m was_free was_free live back_splits from to back_joint;
@@ -213,7 +213,7 @@ module _ (size : ℕ → ℕ) (s0 s1 s2 : Slab Node) (x y cut : ℕ) (n o : Node
       end_others = with_tiles s3 s4 files (λ T. KeepsOthers (tile_in s0) T y) (others_end size (tile_in s0) (tile_in s3) x y back_rest back_tile m kept.tiled kept.calm at_m was_free was_free live back_splits from to back_joint)
 
 -- no tile stands under a vacant key
-pub vacant_unused : (s : Slab Node) (y : ℕ) → get s y ≡ None → IsUnused (tile_in s) y
+pub vacant_unused : (s : Slab Node) (y : ℕ) → get s y ≡ None → HasNoLiveTile (tile_in s) y
 vacant_unused s y vacant c live = let none : None ≡ Some c = sym (ap tile_of vacant) ∙ live.0 in cc
 
 -- Where nothing comes off.
@@ -235,12 +235,12 @@ pub elsewhere_then : (chunk : ℕ) (old mid new : ℕ → Option Tile) → Keeps
 elsewhere_then chunk old mid new first last k a is other = last k a (first k a is other) other
 
 -- the chunk of a tile is held
-pub row_of_tile : {M : Type 0} (rows : Slab (Row M)) (T : ℕ → Option Tile) (k : ℕ) (a : Tile) → IsTiled (size_in rows) T → T k ≡ Some a → ContainsKey rows a.chunk
+pub row_of_tile : {M : Type 0} (rows : Slab (Row M)) (T : ℕ → Option Tile) (k : ℕ) (a : Tile) → IsTiled (chunk_size_in rows) T → T k ≡ Some a → ContainsKey rows a.chunk
 row_of_tile {M} rows T k a tiled at = cases (get rows a.chunk) refl
   where
     cases : (o : Option (Row M)) → get rows a.chunk ≡ o → IsSome (get rows a.chunk)
-    cases None e = absurd (let zero = ap size_of e in omega (arith, zero, tiled.nonempty k a at, tiled.inside k a at))
+    cases None e = absurd (let zero = ap row_size e in omega (arith, zero, tiled.nonempty k a at, tiled.inside k a at))
     cases (Some row) e = subst IsSome (sym e) refl
 
-pub row_there : {M : Type 0} (rows : Slab (Row M)) (nodes : Slab Node) (k : ℕ) (a : Tile) → IsKept (size_in rows) nodes → tile_in nodes k ≡ Some a → ContainsKey rows a.chunk
+pub row_there : {M : Type 0} (rows : Slab (Row M)) (nodes : Slab Node) (k : ℕ) (a : Tile) → AreNodesKept (chunk_size_in rows) nodes → tile_in nodes k ≡ Some a → ContainsKey rows a.chunk
 row_there rows nodes k a kept at = row_of_tile rows (tile_in nodes) k a kept.tiled at

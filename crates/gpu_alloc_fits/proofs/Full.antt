@@ -5,11 +5,11 @@ use Rattle.gpu_alloc_base.specs.AlignMasks.{IsAlignMask}
 use Rattle.gpu_alloc_base.proofs.Multiples.{multiple_of_lower}
 use Rattle.gpu_alloc_base.proofs.PowersOfTwo.{power_of_bit}
 use Rattle.gpu_alloc_fits.specs.Inside.{IsBeyond, IsStillFull}
-use Rattle.gpu_alloc_fits.specs.Space.{HasPlace, Space}
+use Rattle.gpu_alloc_fits.specs.Space.{FitSpace, HasPlace}
 use Rattle.gpu_alloc_fits.specs.declared.search.Full.{Full}
 
 -- one that is no smaller, at an alignment that is no smaller, has none either
-pub none_beyond : (s : Space) (known : Option Full) (size align_mask : ℕ) → IsAlignMask align_mask → IsStillFull s known → IsBeyond known size align_mask → HasPlace s size (align_mask + 1) → ⊥
+pub none_beyond : (s : FitSpace) (known : Option Full) (size align_mask : ℕ) → IsAlignMask align_mask → IsStillFull s known → IsBeyond known size align_mask → HasPlace s size (align_mask + 1) → ⊥
 none_beyond s None size align_mask mask still beyond place = beyond
 none_beyond s (Some f) size align_mask mask still beyond place =
     still.none (

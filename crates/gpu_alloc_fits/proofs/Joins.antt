@@ -3,8 +3,8 @@ use Rattle.std.proofs.Common.{◌≡◌, ◌≢◌, inl, inr, ℕ, ◌<◌, ◌�
 use Rattle.std.proofs.lemmas.Bool.{cases_eq}
 use Rattle.std.specs.Prelude.{not}
 use Rattle.slab.specs.Slab.{Slab, ContainsKey, Updates, get}
-use Rattle.gpu_alloc_fits.specs.Links.{AreLinked, IsBeside, IsKept, Keeps, SetsBefore, after_in, after_of, before_in, before_of, with_end, with_free}
-use Rattle.gpu_alloc_fits.specs.Tiles.{AreFreeNeighbours, AreNeighbours, GivesBack, IsCalmBut, IsFirst, IsFreeOf, IsTiled, KeepsElsewhere, KeepsLive, Sets, tile_in}
+use Rattle.gpu_alloc_fits.specs.Links.{AreLinked, AreNodesKept, AreNodesKeptBut, KeepsNodes, SetsBefore, after_in, after_of, before_in, before_of, with_end, with_free}
+use Rattle.gpu_alloc_fits.specs.Tiles.{AreFreeNeighbours, AreNeighbours, IsCalmBut, IsFirst, IsFreeTileOf, IsTiled, KeepsElsewhere, KeepsLive, PutsTileBack, Sets, tile_in}
 use Rattle.gpu_alloc_fits.specs.declared.tile.Node.{Node}
 use Rattle.gpu_alloc_fits.specs.declared.tile.Tile.{Tile}
 use Rattle.gpu_alloc_fits.proofs.Links.{after_else, before_else, ends_before, joint_linked, key_after, key_before, retiled_linked}
@@ -12,7 +12,7 @@ use Rattle.gpu_alloc_fits.proofs.Nodes.{before_left, has_tile, node_of_tile, oth
 use Rattle.gpu_alloc_fits.proofs.Tiles.{Absorbs, IsJoint, IsLast, came, came_joint, joint_calm, joint_lives, joint_tiled, not_both, one_tile, retiled, settled}
 
 -- A live tile is freed: it may touch free ones.
-module _ (size : ℕ → ℕ) (s0 s1 : Slab Node) (x : ℕ) (n : Node) (kept : IsKept size s0) (at : get s0 x ≡ Some n) (writes : Updates s0 s1 x (option_map (with_free true) (get s0 x))) where
+module _ (size : ℕ → ℕ) (s0 s1 : Slab Node) (x : ℕ) (n : Node) (kept : AreNodesKept size s0) (at : get s0 x ≡ Some n) (writes : Updates s0 s1 x (option_map (with_free true) (get s0 x))) where
   abbrev freed_tile : Tile
   freed_tile = record { chunk = n.tile.chunk; start = n.tile.start; end = n.tile.end; free = true }
 
@@ -37,7 +37,7 @@ module _ (size : ℕ → ℕ) (s0 s1 : Slab Node) (x : ℕ) (n : Node) (kept : I
     | inr other ↦ other_after s0 s1 x (Some (with_free true n)) puts_freed k other
   ]
 
-  pub freed : IsBeside size x s1
+  pub freed : AreNodesKeptBut size x s1
   freed = record {
     tiled = retiled size (tile_in s0) (tile_in s1) x n.tile freed_tile kept.tiled at_t (record { chunk = refl; start = refl; end = refl }) sets;
     calm = λ j k c d ne_j ne_k is_c is_d both. kept.calm j k c d (sym (sets.others j ne_j) ∙ is_c) (sym (sets.others k ne_k) ∙ is_d) both;
@@ -51,7 +51,7 @@ module _ (size : ℕ → ℕ) (s0 s1 : Slab Node) (x : ℕ) (n : Node) (kept : I
   freed_at = sets.changed
 
   -- and is live no more
-  pub freed_others : GivesBack (tile_in s0) (tile_in s1) x
+  pub freed_others : PutsTileBack (tile_in s0) (tile_in s1) x
   freed_others = record {
     stays = λ k c h ne. (sets.others k ne ∙ h.0, h.1);
     was = λ k c h. elim (came (tile_in s0) (tile_in s1) x freed_tile sets k c h.0) [
@@ -68,18 +68,18 @@ pub unnot : (b : Bool) → not b ≡ false → b ≡ true
 unnot true e = refl
 unnot false e = absurd (cc)
 
-pub beside_free : (size : ℕ → ℕ) (s : Slab Node) (x : ℕ) (n : Node) → IsBeside size x s → get s x ≡ Some n → n.tile.free ≡ true
+pub beside_free : (size : ℕ → ℕ) (s : Slab Node) (x : ℕ) (n : Node) → AreNodesKeptBut size x s → get s x ≡ Some n → n.tile.free ≡ true
 beside_free size s x n beside at = ap (λ (t : Tile). t.free) (one_tile (tile_in s) x x n.tile beside.tile (tile_of_node s x n at) beside.at refl) ∙ beside.free
 
 -- the tile under the key stays as it is
-pub stays_free : (size : ℕ → ℕ) (s : Slab Node) (x : ℕ) (n : Node) → IsBeside size x s → get s x ≡ Some n → (a : Tile) → tile_in s x ≡ Some a → IsFreeOf a.chunk (tile_in s) x n.tile
+pub stays_free : (size : ℕ → ℕ) (s : Slab Node) (x : ℕ) (n : Node) → AreNodesKeptBut size x s → get s x ≡ Some n → (a : Tile) → tile_in s x ≡ Some a → IsFreeTileOf a.chunk (tile_in s) x n.tile
 stays_free size s x n beside at a is =
     let at_x = tile_of_node s x n at in
     record { at = at_x; free = beside_free size s x n beside at; chunk_is = ap (λ (t : Tile). t.chunk) (one_tile (tile_in s) x x n.tile a at_x is refl) }
 
 -- Where nothing is joined.
 
-module _ (size : ℕ → ℕ) (s : Slab Node) (x : ℕ) (n : Node) (beside : IsBeside size x s) (at : get s x ≡ Some n) where
+module _ (size : ℕ → ℕ) (s : Slab Node) (x : ℕ) (n : Node) (beside : AreNodesKeptBut size x s) (at : get s x ≡ Some n) where
   here_t : tile_in s x ≡ Some n.tile
   here_t = tile_of_node s x n at
 
@@ -148,23 +148,23 @@ module _ (size : ℕ → ℕ) (s : Slab Node) (x : ℕ) (n : Node) (beside : IsB
       not_both c o.tile (one_tile (tile_in s) k n.after c o.tile is_c (tile_of_node s n.after o there) (sym key)) both.right live
 
   -- then all is kept
-  pub kept_beside : IsFirst x (tile_in s) → IsLast x (tile_in s) → IsKept size s
+  pub kept_beside : IsFirst x (tile_in s) → IsLast x (tile_in s) → AreNodesKept size s
   kept_beside first last = record { tiled = beside.tiled; calm = settled (tile_in s) x beside.calm first last; linked = beside.linked }
 
 -- what a join leaves of a free tile
 pub record IsJoined (size : ℕ → ℕ) (old new : Slab Node) (x chunk : ℕ) : Type 0 where
-  pub beside : IsBeside size x new
+  pub beside : AreNodesKeptBut size x new
   pub of_chunk : beside.tile.chunk ≡ chunk
   pub lives : KeepsLive (tile_in old) (tile_in new)
   pub elsewhere : KeepsElsewhere chunk (tile_in old) (tile_in new)
 
 -- where the one tile went, the other stands
-pub put_key : (s0 z s1 : Slab Node) (x y : ℕ) (n : Node) → get s0 x ≡ Some n → y ≢ x → Keeps s0 z → Updates z s1 y None → ContainsKey s1 x
+pub put_key : (s0 z s1 : Slab Node) (x y : ℕ) (n : Node) → get s0 x ≡ Some n → y ≢ x → KeepsNodes s0 z → Updates z s1 y None → ContainsKey s1 x
 put_key s0 z s1 x y n at ne k0 gone = has_tile s1 x n.tile (other_tile z s1 y None gone x (λ e. ne (sym e)) ∙ k0.tiles x ∙ tile_of_node s0 x n at)
 
 -- The steps of a join: the tile behind goes, the one before it grows, and what is behind both has its key.
 module _ (size : ℕ → ℕ) (s0 z s1 s2 : Slab Node) (x y : ℕ) (n o : Node) (tiled : IsTiled size (tile_in s0)) (linked : AreLinked (tile_in s0) (before_in s0) (after_in s0)) (at : get s0 x ≡ Some n) (n_free : n.tile.free ≡ true) (there : get s0 y ≡ Some o)
-    (free : o.tile.free ≡ true) (ne : y ≢ x) (k0 : Keeps s0 z) (gone : Updates z s1 y None)
+    (free : o.tile.free ≡ true) (ne : y ≢ x) (k0 : KeepsNodes s0 z) (gone : Updates z s1 y None)
     (writes : Updates s1 s2 x (option_map (with_end o.tile.end o.after) (get s1 x))) where
   at_x : tile_in s0 x ≡ Some n.tile
   at_x = tile_of_node s0 x n at
@@ -323,7 +323,7 @@ module _ (size : ℕ → ℕ) (s0 z s1 s2 : Slab Node) (x y : ℕ) (n o : Node) 
             })
           ]
 
-      pub back_kept : IsFirst x (tile_in s0) → IsKept size s3
+      pub back_kept : IsFirst x (tile_in s0) → AreNodesKept size s3
       back_kept first = record {
         tiled = back_joined.beside.tiled;
         calm = settled (tile_in s3) x back_joined.beside.calm (λ k c t is_c is_t both. let was = first_was k c t is_c is_t both in first k c n.tile was.1 at_x was.2) right_last;

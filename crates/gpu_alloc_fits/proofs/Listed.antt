@@ -19,10 +19,10 @@ use Rattle.gpu_alloc_base.proofs.ListedRanges.{told_object}
 use Rattle.gpu_alloc_base.proofs.RangeOrder.{starts_apart}
 use Rattle.gpu_alloc_base.proofs.SlabViews.{found_by_key}
 use Rattle.gpu_alloc_base.proofs.Slots.{slot_test}
-use Rattle.gpu_alloc_fits.specs.Inside.{chunk_of, chunks_in, free_range, live_in, live_row, live_slot, made_of, row_of, size_in, slot_of, space_in}
-use Rattle.gpu_alloc_fits.specs.Links.{IsKept}
-use Rattle.gpu_alloc_fits.specs.Space.{IsFreeIn, IsRunOf}
-use Rattle.gpu_alloc_fits.specs.Tiles.{HasRun, region_of, tile_in}
+use Rattle.gpu_alloc_fits.specs.Inside.{chunk_of_row, chunk_size_in, chunks_of_rows, fit_space_in, free_range, leaf_of_slot, live_row, live_slot, live_slots_in, made_of, slot_of}
+use Rattle.gpu_alloc_fits.specs.Links.{AreNodesKept}
+use Rattle.gpu_alloc_fits.specs.Space.{IsFitRunOf, IsFreeIn}
+use Rattle.gpu_alloc_fits.specs.Tiles.{HasRun, tile_in, tile_region}
 use Rattle.gpu_alloc_fits.specs.declared.fits.Chunk.{Chunk as Row}
 use Rattle.gpu_alloc_fits.specs.declared.tile.Node.{Node}
 use Rattle.gpu_alloc_fits.specs.declared.tile.Tile.{Tile}
@@ -33,16 +33,16 @@ use Rattle.gpu_alloc_fits.proofs.Runs.{canonical, held_chunk}
 use Rattle.gpu_alloc_fits.proofs.Tiles.{bit}
 
 -- the rows of live tiles are those of the blocks that they are
-pub rows_made : (chunks : HeldChunks) (es : List (ℕ × Node)) → made_of (live_row chunks) es ≡ map_list row_of (made_of (live_slot chunks) es)
+pub rows_made : (chunks : HeldChunks) (es : List (ℕ × Node)) → made_of (live_row chunks) es ≡ map_list leaf_of_slot (made_of (live_slot chunks) es)
 rows_made chunks [] = refl
 rows_made chunks (e ∷ es) = elim (bit e.1.tile.free) [
   | inl free ↦ rw free (rows_made chunks es)
-  | inr live ↦ rw live (ap (λ rest. row_of (slot_of chunks e.1.tile) ∷ rest) (rows_made chunks es))
+  | inr live ↦ rw live (ap (λ rest. leaf_of_slot (slot_of chunks e.1.tile) ∷ rest) (rows_made chunks es))
 ]
 
-module _ {M : Type 0} (object : M → ℕ) (rows : Slab (Row M)) (nodes : Slab Node) (kept : IsKept (size_in rows) nodes) where
+module _ {M : Type 0} (object : M → ℕ) (rows : Slab (Row M)) (nodes : Slab Node) (kept : AreNodesKept (chunk_size_in rows) nodes) where
   abbrev chunks : HeldChunks
-  chunks = chunks_in object rows
+  chunks = chunks_of_rows object rows
 
   -- what is made as a block is one of a live tile
   live_made : (t : Tile) (slot : Slot) → live_slot chunks t ≡ Some slot → (t.free ≡ false) × (slot_of chunks t ≡ slot)
@@ -55,7 +55,7 @@ module _ {M : Type 0} (object : M → ℕ) (rows : Slab (Row M)) (nodes : Slab N
   live_once = made_once (live_slot chunks) nodes [] (eq_by_cmp slot_cmp) (λ i k a b y z at_i at_k ne is_y is_z.
       let m = live_made a.tile y is_y in
       let n = live_made b.tile z is_z in
-      differs y z (λ same. ne (one_key chunks nodes nodes (size_in rows) kept.tiled i k a.tile b.tile (tile_of_node nodes i a at_i, m.0) (tile_of_node nodes k b at_k, n.0) (m.1 ∙ same ∙ sym n.1))))
+      differs y z (λ same. ne (one_key chunks nodes nodes (chunk_size_in rows) kept.tiled i k a.tile b.tile (tile_of_node nodes i a at_i, m.0) (tile_of_node nodes k b at_k, n.0) (m.1 ∙ same ∙ sym n.1))))
     where
       differs : (y z : Slot) → y ≢ z → eq_by_cmp slot_cmp y z ≡ false
       differs y z ne = elim (bit (eq_by_cmp slot_cmp y z)) [
@@ -63,8 +63,8 @@ module _ {M : Type 0} (object : M → ℕ) (rows : Slab (Row M)) (nodes : Slab N
         | inr no' ↦ no'
       ]
 
-  pub live_all : set.from_list (made_of (live_slot chunks) (entries nodes)) ≡ live_in chunks nodes
-  unfolding live_in
+  pub live_all : set.from_list (made_of (live_slot chunks) (entries nodes)) ≡ live_slots_in chunks nodes
+  unfolding live_slots_in
   live_all = refl
 
   -- A free tile as a range of its object.
@@ -85,8 +85,8 @@ module _ {M : Type 0} (object : M → ℕ) (rows : Slab (Row M)) (nodes : Slab N
   module _ (once : HasOneKeyEach (λ (row : Row M). object row.memory) rows) where
     one_chunk : (i k : ℕ) (c d : Chunk) → map.get chunks i ≡ Some c → map.get chunks k ≡ Some d → c.object ≡ d.object → i ≡ k
     one_chunk i k c d is_c is_d same =
-        let r = found_by_key (chunk_of object) rows i c is_c in
-        let q = found_by_key (chunk_of object) rows k d is_d in
+        let r = found_by_key (chunk_of_row object) rows i c is_c in
+        let q = found_by_key (chunk_of_row object) rows k d is_d in
         once i k r.0 q.0 r.1 q.1 (ap (λ (x : Chunk). x.object) r.2 ∙ same ∙ sym (ap (λ (x : Chunk). x.object) q.2))
 
     pub free_once : IsDistinct same_start (made_of (free_range chunks) (entries nodes))
@@ -104,20 +104,20 @@ module _ {M : Type 0} (object : M → ℕ) (rows : Slab (Row M)) (nodes : Slab N
         ne (kept.tiled.apart i k a.tile b.tile at_a at_b chunk (omega (arith, from, kept.tiled.nonempty k b.tile at_b)) (omega (arith, from, kept.tiled.nonempty i a.tile at_a)))))
 
   -- they are the free runs
-  pub free_all : (r : FreeRange) → Contains (made_of (free_range chunks) (entries nodes)) r ↔ IsRunOf (space_in chunks nodes) r
+  pub free_all : (r : FreeRange) → Contains (made_of (free_range chunks) (entries nodes)) r ↔ IsFitRunOf (fit_space_in chunks nodes) r
   free_all r = (
     (λ has.
         let f = in_filtered (λ (e : ℕ × Node). free_range chunks e.1.tile) (entries nodes) r has in
         let at = tile_of_node nodes f.0.0 f.0.1 ((Contains-entries nodes f.0.0 f.0.1).0 f.1) in
         let m = free_made f.0.1.tile r f.2 in
         let c = of_held f.0.0 f.0.1.tile at in
-        let run = region_is_run (IsFreeIn (space_in chunks nodes)) (HasRun (tile_in nodes)) (canonical object rows nodes kept) (region_of f.0.1.tile) (f.0.0, f.0.1.tile, (at, (m.0, refl))) in
-        subst (IsRunOf (space_in chunks nodes)) m.1 (record { key = f.0.1.tile.chunk; chunk = c.0; held = c.1; object = sym (told_object (map.get chunks f.0.1.tile.chunk) c.0 c.1); run = run })),
+        let run = region_is_run (IsFreeIn (fit_space_in chunks nodes)) (HasRun (tile_in nodes)) (canonical object rows nodes kept) (tile_region f.0.1.tile) (f.0.0, f.0.1.tile, (at, (m.0, refl))) in
+        subst (IsFitRunOf (fit_space_in chunks nodes)) m.1 (record { key = f.0.1.tile.chunk; chunk = c.0; held = c.1; object = sym (told_object (map.get chunks f.0.1.tile.chunk) c.0 c.1); run = run })),
     (λ run.
-        let h = run_is_region (IsFreeIn (space_in chunks nodes)) (HasRun (tile_in nodes)) (canonical object rows nodes kept) (record { chunk = run.key; start = r.start; end = r.end }) run.run in
+        let h = run_is_region (IsFreeIn (fit_space_in chunks nodes)) (HasRun (tile_in nodes)) (canonical object rows nodes kept) (record { chunk = run.key; start = r.start; end = r.end }) run.run in
         let n = node_of_tile nodes h.0 h.1 h.2.0 in
         let free : n.0.tile.free ≡ true = ap (λ (t : Tile). t.free) n.2 ∙ h.2.1.0 in
-        let bytes = ap region_of n.2 ∙ h.2.1.1 in
+        let bytes = ap tile_region n.2 ∙ h.2.1.1 in
         let chunk = ap (λ (q : FreeListRegion). q.chunk) bytes in
         let named : object_in (map.get chunks n.0.tile.chunk) ≡ r.object = ap (λ k. object_in (map.get chunks k)) chunk ∙ told_object (map.get chunks run.key) run.chunk run.held ∙ run.object in
         let is : record { object = object_in (map.get chunks n.0.tile.chunk); start = n.0.tile.start; end = n.0.tile.end } ≡ r =

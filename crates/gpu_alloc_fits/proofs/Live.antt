@@ -13,8 +13,8 @@ use Rattle.gpu_alloc_base.specs.Slots.{slot_cmp}
 use Rattle.gpu_alloc_base.specs.declared.free_list_block.Slot.{Slot}
 use Rattle.gpu_alloc_base.proofs.Lists.{contains_cases, contains_head, contains_later, contains_none}
 use Rattle.gpu_alloc_base.proofs.Slots.{in_slots, slot_exact, slot_inserted, slot_removed, slot_total}
-use Rattle.gpu_alloc_fits.specs.Inside.{live_in, live_slot, made_of, slot_of}
-use Rattle.gpu_alloc_fits.specs.Tiles.{GivesBack, IsLiveAt, IsTiled, IsUnused, KeepsLive, KeepsOthers, tile_in}
+use Rattle.gpu_alloc_fits.specs.Inside.{live_slot, live_slots_in, made_of, slot_of}
+use Rattle.gpu_alloc_fits.specs.Tiles.{HasNoLiveTile, IsLiveAt, IsTiled, KeepsLive, KeepsOthers, PutsTileBack, tile_in}
 use Rattle.gpu_alloc_fits.specs.declared.tile.Node.{Node}
 use Rattle.gpu_alloc_fits.specs.declared.tile.Tile.{Tile}
 use Rattle.gpu_alloc_fits.proofs.Nodes.{node_of_tile, tile_of_node}
@@ -53,8 +53,8 @@ IsLiveAs chunks nodes slot = (k : ℕ) × (a : Tile) × IsLiveAt (tile_in nodes)
 pub slot_of_live : (chunks : HeldChunks) (t : Tile) → t.free ≡ false → live_slot chunks t ≡ Some (slot_of chunks t)
 slot_of_live chunks t live = ap (λ b. cond b None (Some (slot_of chunks t))) live
 
-pub in_live : (chunks : HeldChunks) (nodes : Slab Node) (slot : Slot) → Decides (set.contains (live_in chunks nodes) slot) (IsLiveAs chunks nodes slot)
-unfolding live_in
+pub in_live : (chunks : HeldChunks) (nodes : Slab Node) (slot : Slot) → Decides (set.contains (live_slots_in chunks nodes) slot) (IsLiveAs chunks nodes slot)
+unfolding live_slots_in
 in_live chunks nodes slot =
     let d = in_slots (made_of (live_slot chunks) (entries nodes)) slot in (
       λ t.
@@ -78,22 +78,22 @@ same_slots s t to from = set.same_set slot_total slot_exact s t (λ q. same_from
 -- Live blocks as tiles change.
 
 module _ (chunks : HeldChunks) (old new : Slab Node) where
-  pub live_same : KeepsLive (tile_in old) (tile_in new) → live_in chunks new ≡ live_in chunks old
+  pub live_same : KeepsLive (tile_in old) (tile_in new) → live_slots_in chunks new ≡ live_slots_in chunks old
   live_same keeps = same_slots _ _
       (λ q t. let h = (in_live chunks new q).0 t in (in_live chunks old q).1 (h.0, h.1, keeps.was h.0 h.1 h.2, h.3))
       (λ q t. let h = (in_live chunks old q).0 t in (in_live chunks new q).1 (h.0, h.1, keeps.stays h.0 h.1 h.2, h.3))
 
   -- one more tile is live
-  pub live_more : (x : ℕ) (b : Tile) → IsUnused (tile_in old) x → IsLiveAt (tile_in new) x b → KeepsOthers (tile_in old) (tile_in new) x
-      → live_in chunks new ≡ set.insert (live_in chunks old) (slot_of chunks b)
+  pub live_more : (x : ℕ) (b : Tile) → HasNoLiveTile (tile_in old) x → IsLiveAt (tile_in new) x b → KeepsOthers (tile_in old) (tile_in new) x
+      → live_slots_in chunks new ≡ set.insert (live_slots_in chunks old) (slot_of chunks b)
   live_more x b unused live others = same_slots _ _
       (λ q t.
       let h = (in_live chunks new q).0 t in
       elim (cases_eq h.0 x) [
-        | inl here ↦ (slot_inserted (live_in chunks old) (slot_of chunks b) q).1 (inl (sym h.3 ∙ ap (slot_of chunks) (one_tile (tile_in new) h.0 x h.1 b h.2.0 live.0 here)))
-        | inr ne ↦ (slot_inserted (live_in chunks old) (slot_of chunks b) q).1 (inr ((in_live chunks old q).1 (h.0, h.1, others.was h.0 h.1 ne h.2, h.3)))
+        | inl here ↦ (slot_inserted (live_slots_in chunks old) (slot_of chunks b) q).1 (inl (sym h.3 ∙ ap (slot_of chunks) (one_tile (tile_in new) h.0 x h.1 b h.2.0 live.0 here)))
+        | inr ne ↦ (slot_inserted (live_slots_in chunks old) (slot_of chunks b) q).1 (inr ((in_live chunks old q).1 (h.0, h.1, others.was h.0 h.1 ne h.2, h.3)))
       ])
-      (λ q t. elim ((slot_inserted (live_in chunks old) (slot_of chunks b) q).0 t) [
+      (λ q t. elim ((slot_inserted (live_slots_in chunks old) (slot_of chunks b) q).0 t) [
         | inl is ↦ (in_live chunks new q).1 (x, b, live, sym is)
         | inr was ↦
             let h = (in_live chunks old q).0 was in
@@ -112,23 +112,23 @@ module _ (chunks : HeldChunks) (old new : Slab Node) where
         tiled.apart j k a b live_a.0 live_b.0 chunk (omega (arith, start, some_b)) (omega (arith, start, some_a))
 
     -- a live tile is live no more
-    pub live_less : (x : ℕ) (a : Tile) → IsLiveAt (tile_in old) x a → GivesBack (tile_in old) (tile_in new) x → live_in chunks new ≡ set.remove (live_in chunks old) (slot_of chunks a)
+    pub live_less : (x : ℕ) (a : Tile) → IsLiveAt (tile_in old) x a → PutsTileBack (tile_in old) (tile_in new) x → live_slots_in chunks new ≡ set.remove (live_slots_in chunks old) (slot_of chunks a)
     live_less x a live back = same_slots _ _
         (λ q t.
         let h = (in_live chunks new q).0 t in
         let was = back.was h.0 h.1 h.2 in
-        (slot_removed (live_in chunks old) (slot_of chunks a) q).1 (
+        (slot_removed (live_slots_in chunks old) (slot_of chunks a) q).1 (
           (λ is. was.1 (one_key h.0 x h.1 a was.0 live (h.3 ∙ is))),
           (in_live chunks old q).1 (h.0, h.1, was.0, h.3),
         ))
         (λ q t.
-        let r = (slot_removed (live_in chunks old) (slot_of chunks a) q).0 t in
+        let r = (slot_removed (live_slots_in chunks old) (slot_of chunks a) q).0 t in
         let h = (in_live chunks old q).0 r.1 in
         let ne : h.0 ≢ x = λ same. r.0 (sym h.3 ∙ ap (slot_of chunks) (one_tile (tile_in old) h.0 x h.1 a h.2.0 live.0 same)) in
         (in_live chunks new q).1 (h.0, h.1, back.stays h.0 h.1 h.2 ne, h.3))
 
 -- Live blocks as chunks come and go in which none is live.
-pub live_elsewhere : (old new : HeldChunks) (nodes : Slab Node) → ((k : ℕ) (a : Tile) → IsLiveAt (tile_in nodes) k a → map.get new a.chunk ≡ map.get old a.chunk) → live_in new nodes ≡ live_in old nodes
+pub live_elsewhere : (old new : HeldChunks) (nodes : Slab Node) → ((k : ℕ) (a : Tile) → IsLiveAt (tile_in nodes) k a → map.get new a.chunk ≡ map.get old a.chunk) → live_slots_in new nodes ≡ live_slots_in old nodes
 live_elsewhere old new nodes same = same_slots _ _
     (λ q t. let h = (in_live new nodes q).0 t in (in_live old nodes q).1 (h.0, h.1, h.2, sym (named h.1 (same h.0 h.1 h.2)) ∙ h.3))
     (λ q t. let h = (in_live old nodes q).0 t in (in_live new nodes q).1 (h.0, h.1, h.2, named h.1 (same h.0 h.1 h.2) ∙ h.3))

@@ -2,7 +2,7 @@
 use Rattle.std.proofs.Common.{◌≡◌, ◌≢◌, inl, inr, ℕ, Bool, true, Option, Some, None, IsSome, option_map, refl, sym, ◌∙◌, ap, subst}
 use Rattle.std.proofs.lemmas.Bool.{cases_eq}
 use Rattle.slab.specs.Slab.{Slab, ContainsKey, Updates, get}
-use Rattle.gpu_alloc_fits.specs.Links.{AreLinked, IsKept, Keeps, SetsBefore, after_in, after_of, before_in, before_of}
+use Rattle.gpu_alloc_fits.specs.Links.{AreLinked, AreNodesKept, KeepsNodes, SetsBefore, after_in, after_of, before_in, before_of}
 use Rattle.gpu_alloc_fits.specs.Tiles.{IsCalm, IsTiled, Sets, tile_in}
 use Rattle.gpu_alloc_fits.specs.declared.tile.Node.{Node}
 use Rattle.gpu_alloc_fits.specs.declared.tile.Tile.{Tile}
@@ -28,7 +28,7 @@ has_tile nodes k a at = let n = node_of_tile nodes k a at in subst IsSome (sym n
 
 -- What holds of nodes holds where tiles and neighbours stay.
 
-module _ (old new : Slab Node) (keeps : Keeps old new) where
+module _ (old new : Slab Node) (keeps : KeepsNodes old new) where
   same_tiles : tile_in new ≡ tile_in old
   same_tiles i k = keeps.tiles k i
 
@@ -37,7 +37,7 @@ module _ (old new : Slab Node) (keeps : Keeps old new) where
       let was = linked j k a b (sym (keeps.tiles j) ∙ is_a) (sym (keeps.tiles k) ∙ is_b) near in
       (keeps.after j ∙ was.0, keeps.before k ∙ was.1)
 
-  pub keeps_kept : (size : ℕ → ℕ) → IsKept size old → IsKept size new
+  pub keeps_kept : (size : ℕ → ℕ) → AreNodesKept size old → AreNodesKept size new
   keeps_kept size kept = record {
     tiled = subst (IsTiled size) (sym same_tiles) kept.tiled;
     calm = subst IsCalm (sym same_tiles) kept.calm;
@@ -51,7 +51,7 @@ module _ (old new : Slab Node) (keeps : Keeps old new) where
   pub with_tiles_back : (P : (ℕ → Option Tile) → Type 0) → P (tile_in new) → P (tile_in old)
   with_tiles_back P = subst P same_tiles
 
-pub keeps_self : (s : Slab Node) → Keeps s s
+pub keeps_self : (s : Slab Node) → KeepsNodes s s
 keeps_self s = record { tiles = λ k. refl; before = λ k. refl; after = λ k. refl }
 
 -- What is written.

@@ -16,11 +16,11 @@ use Rattle.gpu_alloc_base.proofs.FreeRuns.{tail_below}
 use Rattle.gpu_alloc_base.proofs.ListedRanges.{told_object}
 use Rattle.gpu_alloc_base.proofs.SlabViews.{found_by_key, get_by_key}
 use Rattle.gpu_alloc_base.proofs.Slots.{slot_inserted, slot_removed}
-use Rattle.gpu_alloc_fits.specs.Fits.{TakesPlace}
-use Rattle.gpu_alloc_fits.specs.Inside.{IsAtKey, IsBlock, IsLiveTile, IsPlace, IsSpareTile, IsStillFull, IsStored, IsTheWhole, IsWholeTile, IsWithout, chunk_of, chunks_in, live_in, live_slot, made_of, size_in, size_of, slot_of, space_in}
-use Rattle.gpu_alloc_fits.specs.Links.{IsKept, after_of, before_of}
-use Rattle.gpu_alloc_fits.specs.Space.{HasPlace, IsFitting, IsFreeIn, IsLiveSlot, IsLiveSpan, IsSoundSpace, IsSpare, IsWhollyFree, LiesInChunk, Space, with_slot, without_slot, without_chunk}
-use Rattle.gpu_alloc_fits.specs.Tiles.{GivesBack, HasRoomAt, HasRoomIn, IsFreeOf, IsLiveAt, IsUnused, KeepsElsewhere, KeepsOthers, tile_in}
+use Rattle.gpu_alloc_fits.specs.Fits.{TakesFitting}
+use Rattle.gpu_alloc_fits.specs.Inside.{IsAtKey, IsBlockPlace, IsBlockTile, IsLiveTile, IsSpareTile, IsStillFull, IsStoredInTiles, IsTheWhole, IsWholeTile, IsWithout, chunk_of_row, chunk_size_in, chunks_of_rows, fit_space_in, live_slot, live_slots_in, made_of, row_size, slot_of}
+use Rattle.gpu_alloc_fits.specs.Links.{AreNodesKept, after_of, before_of}
+use Rattle.gpu_alloc_fits.specs.Space.{HasPlace, IsFitting, IsFreeIn, IsLiveSlot, IsLiveFitSpan, IsSoundFitSpace, IsSpare, IsWhollyFree, LiesInChunk, FitSpace, with_slot, without_slot, without_chunk}
+use Rattle.gpu_alloc_fits.specs.Tiles.{HasNoLiveTile, HasRoomAt, HasRoomIn, IsFreeTileOf, IsLiveAt, KeepsElsewhere, KeepsOthers, PutsTileBack, tile_in}
 use Rattle.gpu_alloc_fits.specs.declared.fits.Chunk.{Chunk as Row}
 use Rattle.gpu_alloc_fits.specs.declared.search.Full.{Full}
 use Rattle.gpu_alloc_fits.specs.declared.tile.Node.{Node}
@@ -45,46 +45,46 @@ module _ {M : Type 0} (object : M → ℕ) (rows rows' : Slab (Row M)) (nodes no
   same_node : (k : ℕ) → get nodes' k ≡ get nodes k
   same_node k = ap (λ (xs : List (Option Node)). slice_index_or xs k None) same_nodes
 
-  same_sizes : size_in rows' ≡ size_in rows
-  same_sizes i k = size_of (same_row k i)
+  same_sizes : chunk_size_in rows' ≡ chunk_size_in rows
+  same_sizes i k = row_size (same_row k i)
 
   same_tiles : tile_in nodes' ≡ tile_in nodes
   same_tiles i k = tile_of (same_node k i)
 
-  pub same_space : space_in (chunks_in object rows') nodes' ≡ space_in (chunks_in object rows) nodes
-  unfolding live_in
+  pub same_space : fit_space_in (chunks_of_rows object rows') nodes' ≡ fit_space_in (chunks_of_rows object rows) nodes
+  unfolding live_slots_in
   same_space =
-      let chunks_same : chunks_in object rows' ≡ chunks_in object rows = (λ i. map.from_entries {R = nat_cmp} (list.map (λ (e : ℕ × Row M). (e.0, chunk_of object e.1)) (entries_from 0 (same_rows i)))) in
+      let chunks_same : chunks_of_rows object rows' ≡ chunks_of_rows object rows = (λ i. map.from_entries {R = nat_cmp} (list.map (λ (e : ℕ × Row M). (e.0, chunk_of_row object e.1)) (entries_from 0 (same_rows i)))) in
       λ i. record { chunks = chunks_same i; live = set.from_list (made_of (live_slot (chunks_same i)) (entries_from 0 (same_nodes i))) }
 
-  pub stored_same : (spare : Option ℕ) (full : Option Full) → IsStored object rows nodes spare full → IsStored object rows' nodes' spare full
+  pub stored_same : (spare : Option ℕ) (full : Option Full) → IsStoredInTiles object rows nodes spare full → IsStoredInTiles object rows' nodes' spare full
   stored_same spare full stored = record {
-    kept = subst (λ size. IsKept size nodes') (sym same_sizes) (keeps_kept nodes nodes' (record {
+    kept = subst (λ size. AreNodesKept size nodes') (sym same_sizes) (keeps_kept nodes nodes' (record {
       tiles = λ k. ap tile_of (same_node k);
       before = λ k. ap before_of (same_node k);
       after = λ k. ap after_of (same_node k);
-    }) (size_in rows) stored.kept);
+    }) (chunk_size_in rows) stored.kept);
     sizes = λ k row is. stored.sizes k row (sym (same_row k) ∙ is);
     one_object = λ i k a b is_a is_b same. stored.one_object i k a b (sym (same_row i) ∙ is_a) (sym (same_row k) ∙ is_b) same;
-    spare_is = subst (λ T. IsSpareTile (space_in (chunks_in object rows') nodes') (size_in rows') T spare) (sym same_tiles)
-        (subst (λ size. IsSpareTile (space_in (chunks_in object rows') nodes') size (tile_in nodes) spare) (sym same_sizes)
-        (subst (λ s. IsSpareTile s (size_in rows) (tile_in nodes) spare) (sym same_space) stored.spare_is));
+    spare_is = subst (λ T. IsSpareTile (fit_space_in (chunks_of_rows object rows') nodes') (chunk_size_in rows') T spare) (sym same_tiles)
+        (subst (λ size. IsSpareTile (fit_space_in (chunks_of_rows object rows') nodes') size (tile_in nodes) spare) (sym same_sizes)
+        (subst (λ s. IsSpareTile s (chunk_size_in rows) (tile_in nodes) spare) (sym same_space) stored.spare_is));
     still_full = subst (λ s. IsStillFull s full) (sym same_space) stored.still_full;
   }
 
-module _ {M : Type 0} (object : M → ℕ) (rows : Slab (Row M)) (nodes : Slab Node) (kept : IsKept (size_in rows) nodes) where
+module _ {M : Type 0} (object : M → ℕ) (rows : Slab (Row M)) (nodes : Slab Node) (kept : AreNodesKept (chunk_size_in rows) nodes) where
   abbrev chunks : HeldChunks
-  chunks = chunks_in object rows
+  chunks = chunks_of_rows object rows
 
-  abbrev space : Space
-  space = space_in chunks nodes
+  abbrev space : FitSpace
+  space = fit_space_in chunks nodes
 
   -- a live tile is a live block
   pub tile_is_live : (k : ℕ) (a : Tile) → IsLiveAt (tile_in nodes) k a → IsLiveSlot space (slot_of chunks a)
   tile_is_live k a live = (in_live chunks nodes (slot_of chunks a)).1 (k, a, live, refl)
 
   -- a chunk whose only tile is free is wholly free, and a free tile of such a chunk is its only one
-  pub whole_is_free : (x chunk : ℕ) → IsWholeTile (size_in rows) (tile_in nodes) x chunk → IsWhollyFree space chunk
+  pub whole_is_free : (x chunk : ℕ) → IsWholeTile (chunk_size_in rows) (tile_in nodes) x chunk → IsWhollyFree space chunk
   whole_is_free x chunk whole =
       let some = kept.tiled.nonempty x whole.tile whole.at in
       let held = held_chunk object rows chunk (omega (arith, some, whole.start, whole.end)) in
@@ -92,12 +92,12 @@ module _ {M : Type 0} (object : M → ℕ) (rows : Slab (Row M)) (nodes : Slab N
         held = subst IsSome (sym held.1) refl;
         unused = λ slot live same.
             let h = (in_live chunks nodes slot).0 live in
-            let end : whole.tile.end ≡ size_in rows whole.tile.chunk = whole.end ∙ ap (size_in rows) (sym whole.chunk_is) in
-            whole_unused (size_in rows) (tile_in nodes) x whole.tile kept.tiled whole.at whole.free whole.start end h.0 h.1 h.2 (ap (λ (s : Slot). s.chunk) h.3 ∙ same ∙ sym whole.chunk_is);
+            let end : whole.tile.end ≡ chunk_size_in rows whole.tile.chunk = whole.end ∙ ap (chunk_size_in rows) (sym whole.chunk_is) in
+            whole_unused (chunk_size_in rows) (tile_in nodes) x whole.tile kept.tiled whole.at whole.free whole.start end h.0 h.1 h.2 (ap (λ (s : Slot). s.chunk) h.3 ∙ same ∙ sym whole.chunk_is);
       }
 
-  pub free_is_whole : (x : ℕ) (a : Tile) → tile_in nodes x ≡ Some a → a.free ≡ true → IsWhollyFree space a.chunk → (a.start ≡ 0) × (a.end ≡ size_in rows a.chunk)
-  free_is_whole x a at free wholly = unused_whole (size_in rows) (tile_in nodes) x a kept.tiled kept.calm at free (λ k c live same. wholly.unused (slot_of chunks c) (tile_is_live k c live) same)
+  pub free_is_whole : (x : ℕ) (a : Tile) → tile_in nodes x ≡ Some a → a.free ≡ true → IsWhollyFree space a.chunk → (a.start ≡ 0) × (a.end ≡ chunk_size_in rows a.chunk)
+  free_is_whole x a at free wholly = unused_whole (chunk_size_in rows) (tile_in nodes) x a kept.tiled kept.calm at free (λ k c live same. wholly.unused (slot_of chunks c) (tile_is_live k c live) same)
 
   -- a live tile lies in its chunk
   tile_lies : (k : ℕ) (a : Tile) → IsLiveAt (tile_in nodes) k a → LiesInChunk space (slot_of chunks a)
@@ -113,18 +113,18 @@ module _ {M : Type 0} (object : M → ℕ) (rows : Slab (Row M)) (nodes : Slab N
         inside = omega (arith, some, inside, held.2);
       }
 
-  one_free : (spare : Option ℕ) → IsSpareTile space (size_in rows) (tile_in nodes) spare → (i k : ℕ) → IsWhollyFree space i → IsWhollyFree space k → i ≡ k
+  one_free : (spare : Option ℕ) → IsSpareTile space (chunk_size_in rows) (tile_in nodes) spare → (i k : ℕ) → IsWhollyFree space i → IsWhollyFree space k → i ≡ k
   one_free None none i k free_i free_k = absurd (none i free_i)
   one_free (Some x) whole i k free_i free_k = whole.only i free_i ∙ sym (whole.only k free_k)
 
-  pub sound : (spare : Option ℕ) (full : Option Full) → IsStored object rows nodes spare full → IsSoundSpace space
+  pub sound : (spare : Option ℕ) (full : Option Full) → IsStoredInTiles object rows nodes spare full → IsSoundFitSpace space
   sound spare full stored = record {
     one_object = λ i k c d is_c is_d same.
-        let r = found_by_key (chunk_of object) rows i c is_c in
-        let q = found_by_key (chunk_of object) rows k d is_d in
+        let r = found_by_key (chunk_of_row object) rows i c is_c in
+        let q = found_by_key (chunk_of_row object) rows k d is_d in
         stored.one_object i k r.0 q.0 r.1 q.1 (ap (λ (x : Chunk). x.object) r.2 ∙ same ∙ sym (ap (λ (x : Chunk). x.object) q.2));
     sizes = λ k c is.
-        let r = found_by_key (chunk_of object) rows k c is in
+        let r = found_by_key (chunk_of_row object) rows k c is in
         let s = stored.sizes k r.0 r.1 in
         let e = ap (λ (x : Chunk). x.size) r.2 in
         subst (λ n. (0 < n) × (n < 2 ^ 64)) e s;
@@ -163,8 +163,8 @@ module _ {M : Type 0} (object : M → ℕ) (rows : Slab (Row M)) (nodes : Slab N
       let inside_h = kept.tiled.inside h.0 h.1 h.2.0 in
       let mine = held_chunk object rows at.0.chunk (omega (arith, some, inside)) in
       let its = held_chunk object rows h.1.chunk (omega (arith, some_h, inside_h)) in
-      let r = found_by_key (chunk_of object) rows at.0.chunk mine.0 mine.1 in
-      let q = found_by_key (chunk_of object) rows h.1.chunk its.0 its.1 in
+      let r = found_by_key (chunk_of_row object) rows at.0.chunk mine.0 mine.1 in
+      let q = found_by_key (chunk_of_row object) rows h.1.chunk its.0 its.1 in
       let named : mine.0.object ≡ its.0.object =
       sym (told_object (map.get chunks at.0.chunk) mine.0 mine.1) ∙ at.1.1.of_object ∙ sym (ap (λ (s : Slot). s.object) h.3) ∙ told_object (map.get chunks h.1.chunk) its.0 its.1 in
       let chunk : at.0.chunk ≡ h.1.chunk = once at.0.chunk h.1.chunk r.0 q.0 r.1 q.1 (ap (λ (x : Chunk). x.object) r.2 ∙ named ∙ sym (ap (λ (x : Chunk). x.object) q.2)) in
@@ -173,33 +173,33 @@ module _ {M : Type 0} (object : M → ℕ) (rows : Slab (Row M)) (nodes : Slab N
       ap (slot_of chunks) (one_tile (tile_in nodes) k h.0 at.0 h.1 at.1.0 h.2.0 key) ∙ h.3
 
 -- the tile of a place stands under its key
-abbrev pub at_place : {M : Type 0} {name : M → ℕ} {rows : Slab (Row M)} {nodes : Slab Node} {object offset size : ℕ} {p : Place} → IsPlace name rows nodes object offset size p → IsAtKey (chunks_in name rows) (tile_in nodes) object offset size p.key
+abbrev pub at_place : {M : Type 0} {name : M → ℕ} {rows : Slab (Row M)} {nodes : Slab Node} {object offset size : ℕ} {p : Place} → IsBlockPlace name rows nodes object offset size p → IsAtKey (chunks_of_rows name rows) (tile_in nodes) object offset size p.key
 at_place {M} {name} {rows} {nodes} {object} {offset} {size} {p} is = (p.node.tile, (tile_of_node nodes p.key p.node is.at, is.block))
 
 -- A block is taken out of a free tile.
 
-module _ {M : Type 0} (object : M → ℕ) (rows : Slab (Row M)) (n0 n1 : Slab Node) (spare : Option ℕ) (full : Option Full) (stored : IsStored object rows n0 spare full) (x y : ℕ) (a b : Tile) (at : tile_in n0 y ≡ Some a) (unused : IsUnused (tile_in n0) x)
-    (live : IsLiveAt (tile_in n1) x b) (same_chunk : b.chunk ≡ a.chunk) (others : KeepsOthers (tile_in n0) (tile_in n1) x) (elsewhere : KeepsElsewhere a.chunk (tile_in n0) (tile_in n1)) (kept : IsKept (size_in rows) n1) where
+module _ {M : Type 0} (object : M → ℕ) (rows : Slab (Row M)) (n0 n1 : Slab Node) (spare : Option ℕ) (full : Option Full) (stored : IsStoredInTiles object rows n0 spare full) (x y : ℕ) (a b : Tile) (at : tile_in n0 y ≡ Some a) (unused : HasNoLiveTile (tile_in n0) x)
+    (live : IsLiveAt (tile_in n1) x b) (same_chunk : b.chunk ≡ a.chunk) (others : KeepsOthers (tile_in n0) (tile_in n1) x) (elsewhere : KeepsElsewhere a.chunk (tile_in n0) (tile_in n1)) (kept : AreNodesKept (chunk_size_in rows) n1) where
   abbrev chunks_t : HeldChunks
-  chunks_t = chunks_in object rows
+  chunks_t = chunks_of_rows object rows
 
-  live_is : live_in chunks_t n1 ≡ set.insert (live_in chunks_t n0) (slot_of chunks_t b)
+  live_is : live_slots_in chunks_t n1 ≡ set.insert (live_slots_in chunks_t n0) (slot_of chunks_t b)
   live_is = live_more chunks_t n0 n1 x b unused live others
 
-  pub taken_space : space_in chunks_t n1 ≡ with_slot (space_in chunks_t n0) (slot_of chunks_t b)
+  pub taken_space : fit_space_in chunks_t n1 ≡ with_slot (fit_space_in chunks_t n0) (slot_of chunks_t b)
   taken_space = λ i. record { chunks = chunks_t; live = live_is i }
 
   -- what is live stays so
-  stays_live : (slot : Slot) → IsLiveSlot (space_in chunks_t n0) slot → IsLiveSlot (space_in chunks_t n1) slot
-  stays_live slot was = subst (λ l. set.contains l slot ≡ true) (sym live_is) ((slot_inserted (live_in chunks_t n0) (slot_of chunks_t b) slot).1 (inr was))
+  stays_live : (slot : Slot) → IsLiveSlot (fit_space_in chunks_t n0) slot → IsLiveSlot (fit_space_in chunks_t n1) slot
+  stays_live slot was = subst (λ l. set.contains l slot ≡ true) (sym live_is) ((slot_inserted (live_slots_in chunks_t n0) (slot_of chunks_t b) slot).1 (inr was))
 
-  was_free : (chunk byte : ℕ) → IsFreeIn (space_in chunks_t n1) chunk byte → IsFreeIn (space_in chunks_t n0) chunk byte
+  was_free : (chunk byte : ℕ) → IsFreeIn (fit_space_in chunks_t n1) chunk byte → IsFreeIn (fit_space_in chunks_t n0) chunk byte
   was_free chunk byte f = record { held = f.held; is = f.is; inside = f.inside; unused = λ slot l same. f.unused slot (stays_live slot l) same }
 
-  was_wholly : (key : ℕ) → IsWhollyFree (space_in chunks_t n1) key → IsWhollyFree (space_in chunks_t n0) key
+  was_wholly : (key : ℕ) → IsWhollyFree (fit_space_in chunks_t n1) key → IsWhollyFree (fit_space_in chunks_t n0) key
   was_wholly key w = record { held = w.held; unused = λ slot l. w.unused slot (stays_live slot l) }
 
-  pub taken_full : (f : Option Full) → IsStillFull (space_in chunks_t n0) f → IsStillFull (space_in chunks_t n1) f
+  pub taken_full : (f : Option Full) → IsStillFull (fit_space_in chunks_t n0) f → IsStillFull (fit_space_in chunks_t n1) f
   taken_full None known = tt
   taken_full (Some f) known = record {
     nonempty = known.nonempty;
@@ -208,30 +208,30 @@ module _ {M : Type 0} (object : M → ℕ) (rows : Slab (Row M)) (n0 n1 : Slab N
   }
 
   -- the chunk of the block is not wholly free
-  used : IsWhollyFree (space_in chunks_t n1) a.chunk → ⊥
+  used : IsWhollyFree (fit_space_in chunks_t n1) a.chunk → ⊥
   used w = w.unused (slot_of chunks_t b) ((in_live chunks_t n1 (slot_of chunks_t b)).1 (x, b, live, refl)) same_chunk
 
-  taken_spare : (old new : Option ℕ) → IsSpareTile (space_in chunks_t n0) (size_in rows) (tile_in n0) old → IsWithout old y new → IsSpareTile (space_in chunks_t n1) (size_in rows) (tile_in n1) new
-  taken_spare None new none is = subst (IsSpareTile (space_in chunks_t n1) (size_in rows) (tile_in n1)) (sym is) (λ key w. none key (was_wholly key w))
+  taken_spare : (old new : Option ℕ) → IsSpareTile (fit_space_in chunks_t n0) (chunk_size_in rows) (tile_in n0) old → IsWithout old y new → IsSpareTile (fit_space_in chunks_t n1) (chunk_size_in rows) (tile_in n1) new
+  taken_spare None new none is = subst (IsSpareTile (fit_space_in chunks_t n1) (chunk_size_in rows) (tile_in n1)) (sym is) (λ key w. none key (was_wholly key w))
   taken_spare (Some z) new whole (inl is) =
-      subst (IsSpareTile (space_in chunks_t n1) (size_in rows) (tile_in n1)) (sym is.1)
+      subst (IsSpareTile (fit_space_in chunks_t n1) (chunk_size_in rows) (tile_in n1)) (sym is.1)
       (λ key w.
       let here : key ≡ a.chunk = whole.only key (was_wholly key w) ∙ sym whole.whole.chunk_is ∙ ap (λ (t : Tile). t.chunk) (one_tile (tile_in n0) z y whole.whole.tile a whole.whole.at at is.0) in
-      used (subst (IsWhollyFree (space_in chunks_t n1)) here w))
+      used (subst (IsWhollyFree (fit_space_in chunks_t n1)) here w))
   taken_spare (Some z) new whole (inr is) =
       let w = whole.whole in
       let other : w.tile.chunk ≢ a.chunk = λ same.
       let some = stored.kept.tiled.nonempty y a at in
-      let end : w.tile.end ≡ size_in rows a.chunk = w.end ∙ ap (size_in rows) (sym w.chunk_is ∙ same) in
+      let end : w.tile.end ≡ chunk_size_in rows a.chunk = w.end ∙ ap (chunk_size_in rows) (sym w.chunk_is ∙ same) in
       let inside = stored.kept.tiled.inside y a at in
       is.0 (stored.kept.tiled.apart z y w.tile a w.at at same (omega (arith, w.start, some)) (omega (arith, some, inside, end))) in
-      subst (IsSpareTile (space_in chunks_t n1) (size_in rows) (tile_in n1)) (sym is.1) (record {
+      subst (IsSpareTile (fit_space_in chunks_t n1) (chunk_size_in rows) (tile_in n1)) (sym is.1) (record {
         chunk = whole.chunk;
         whole = record { tile = w.tile; at = elsewhere z w.tile w.at other; free = w.free; start = w.start; end = w.end; chunk_is = w.chunk_is };
         only = λ key v. whole.only key (was_wholly key v);
       })
 
-  pub taken_stored : (new : Option ℕ) → IsWithout spare y new → (f : Option Full) → IsStillFull (space_in chunks_t n0) f → IsStored object rows n1 new f
+  pub taken_stored : (new : Option ℕ) → IsWithout spare y new → (f : Option Full) → IsStillFull (fit_space_in chunks_t n0) f → IsStoredInTiles object rows n1 new f
   taken_stored new is f known = record {
     kept = kept;
     sizes = stored.sizes;
@@ -242,32 +242,32 @@ module _ {M : Type 0} (object : M → ℕ) (rows : Slab (Row M)) (n0 n1 : Slab N
 
 -- A block comes back: its tile is joined with the free ones beside it.
 
-module _ {M : Type 0} (object : M → ℕ) (rows : Slab (Row M)) (n0 n1 : Slab Node) (spare : Option ℕ) (full : Option Full) (stored : IsStored object rows n0 spare full) (x y : ℕ) (a joint : Tile) (live : IsLiveAt (tile_in n0) x a)
-    (back : GivesBack (tile_in n0) (tile_in n1) x) (free : IsFreeOf a.chunk (tile_in n1) y joint) (elsewhere : KeepsElsewhere a.chunk (tile_in n0) (tile_in n1)) (kept : IsKept (size_in rows) n1) where
+module _ {M : Type 0} (object : M → ℕ) (rows : Slab (Row M)) (n0 n1 : Slab Node) (spare : Option ℕ) (full : Option Full) (stored : IsStoredInTiles object rows n0 spare full) (x y : ℕ) (a joint : Tile) (live : IsLiveAt (tile_in n0) x a)
+    (back : PutsTileBack (tile_in n0) (tile_in n1) x) (free : IsFreeTileOf a.chunk (tile_in n1) y joint) (elsewhere : KeepsElsewhere a.chunk (tile_in n0) (tile_in n1)) (kept : AreNodesKept (chunk_size_in rows) n1) where
   abbrev chunks_g : HeldChunks
-  chunks_g = chunks_in object rows
+  chunks_g = chunks_of_rows object rows
 
-  abbrev s0 : Space
-  s0 = space_in chunks_g n0
+  abbrev s0 : FitSpace
+  s0 = fit_space_in chunks_g n0
 
-  abbrev s1 : Space
-  s1 = space_in chunks_g n1
+  abbrev s1 : FitSpace
+  s1 = fit_space_in chunks_g n1
 
   abbrev slot : Slot
   slot = slot_of chunks_g a
 
-  less : live_in chunks_g n1 ≡ set.remove (live_in chunks_g n0) slot
-  less = live_less chunks_g n0 n1 (size_in rows) stored.kept.tiled x a live back
+  less : live_slots_in chunks_g n1 ≡ set.remove (live_slots_in chunks_g n0) slot
+  less = live_less chunks_g n0 n1 (chunk_size_in rows) stored.kept.tiled x a live back
 
   pub back_space : s1 ≡ without_slot s0 slot
   back_space = λ i. record { chunks = chunks_g; live = less i }
 
   -- what is live beside the block stays so, and what is live was
   stays_beside : (q : Slot) → IsLiveSlot s0 q → q ≢ slot → IsLiveSlot s1 q
-  stays_beside q was other = subst (λ l. set.contains l q ≡ true) (sym less) ((slot_removed (live_in chunks_g n0) slot q).1 (other, was))
+  stays_beside q was other = subst (λ l. set.contains l q ≡ true) (sym less) ((slot_removed (live_slots_in chunks_g n0) slot q).1 (other, was))
 
   was_live : (q : Slot) → IsLiveSlot s1 q → IsLiveSlot s0 q
-  was_live q now = ((slot_removed (live_in chunks_g n0) slot q).0 (subst (λ l. set.contains l q ≡ true) less now)).1
+  was_live q now = ((slot_removed (live_slots_in chunks_g n0) slot q).0 (subst (λ l. set.contains l q ≡ true) less now)).1
 
   -- another chunk is wholly free where it was
   was_other : (key : ℕ) → key ≢ a.chunk → IsWhollyFree s1 key → IsWhollyFree s0 key
@@ -284,27 +284,27 @@ module _ {M : Type 0} (object : M → ℕ) (rows : Slab (Row M)) (n0 n1 : Slab N
   was_used w = w.unused slot ((in_live chunks_g n0 slot).1 (x, a, live, refl)) refl
 
   -- the joint is all of its chunk exactly where that is wholly free
-  whole_joint : joint.start ≡ 0 → joint.end ≡ size_in rows a.chunk → IsWholeTile (size_in rows) (tile_in n1) y a.chunk
+  whole_joint : joint.start ≡ 0 → joint.end ≡ chunk_size_in rows a.chunk → IsWholeTile (chunk_size_in rows) (tile_in n1) y a.chunk
   whole_joint start end = record { tile = joint; at = free.at; free = free.free; start = start; end = end; chunk_is = free.chunk_is }
 
-  joint_whole : IsWhollyFree s1 a.chunk → (joint.start ≡ 0) × (joint.end ≡ size_in rows a.chunk)
+  joint_whole : IsWhollyFree s1 a.chunk → (joint.start ≡ 0) × (joint.end ≡ chunk_size_in rows a.chunk)
   joint_whole w =
       let h = free_is_whole object rows n1 kept y joint free.at free.free (subst (IsWhollyFree s1) (sym free.chunk_is) w) in
-      (h.0, h.1 ∙ ap (size_in rows) free.chunk_is)
+      (h.0, h.1 ∙ ap (chunk_size_in rows) free.chunk_is)
 
   -- the wholly free chunk that was there is there
-  spare_stays : (z : ℕ) (whole : IsTheWhole s0 (size_in rows) (tile_in n0) z) → IsWholeTile (size_in rows) (tile_in n1) z whole.chunk
+  spare_stays : (z : ℕ) (whole : IsTheWhole s0 (chunk_size_in rows) (tile_in n0) z) → IsWholeTile (chunk_size_in rows) (tile_in n1) z whole.chunk
   spare_stays z whole =
       let w = whole.whole in
       let other : w.tile.chunk ≢ a.chunk = λ same. was_used (subst (IsWhollyFree s0) (sym w.chunk_is ∙ same) (whole_is_free object rows n0 stored.kept z whole.chunk w)) in
       record { tile = w.tile; at = elsewhere z w.tile w.at other; free = w.free; start = w.start; end = w.end; chunk_is = w.chunk_is }
 
   -- what a return leaves, of the space and the block by whatever else they are
-  pub stays_as : (s : Space) (b : Slot) → s0 ≡ s → slot ≡ b → (IsSpare (without_slot s0 slot) slot.chunk → ⊥) → (IsSpare (without_slot s b) b.chunk → ⊥) × (s1 ≡ without_slot s b)
+  pub stays_as : (s : FitSpace) (b : Slot) → s0 ≡ s → slot ≡ b → (IsSpare (without_slot s0 slot) slot.chunk → ⊥) → (IsSpare (without_slot s b) b.chunk → ⊥) × (s1 ≡ without_slot s b)
   stays_as s b same is none =
       subst (λ t. (IsSpare (without_slot t b) b.chunk → ⊥) × (s1 ≡ without_slot t b)) same (subst (λ q. (IsSpare (without_slot s0 q) q.chunk → ⊥) × (s1 ≡ without_slot s0 q)) is (none, back_space))
 
-  pub goes_as : (s s2 : Space) (b : Slot) (held : Chunk) → s0 ≡ s → slot ≡ b → IsSpare (without_slot s0 slot) slot.chunk → map.get chunks_g joint.chunk ≡ Some held → s2 ≡ without_chunk s1 joint.chunk
+  pub goes_as : (s s2 : FitSpace) (b : Slot) (held : Chunk) → s0 ≡ s → slot ≡ b → IsSpare (without_slot s0 slot) slot.chunk → map.get chunks_g joint.chunk ≡ Some held → s2 ≡ without_chunk s1 joint.chunk
       → IsSpare (without_slot s b) b.chunk × ((map.get s.chunks b.chunk ≡ Some held) × (s2 ≡ without_chunk (without_slot s b) b.chunk))
   goes_as s s2 b held same is spare_one row left =
       let at : map.get chunks_g a.chunk ≡ Some held = ap (map.get chunks_g) (sym free.chunk_is) ∙ row in
@@ -313,11 +313,11 @@ module _ {M : Type 0} (object : M → ℕ) (rows : Slab (Row M)) (n0 n1 : Slab N
       (subst (λ q. IsSpare (without_slot s0 q) q.chunk × ((map.get s0.chunks q.chunk ≡ Some held) × (s2 ≡ without_chunk (without_slot s0 q) q.chunk))) is (spare_one, (at, left_here)))
 
   -- The chunk is not wholly free.
-  module _ (not_whole : (joint.start ≡ 0) × (joint.end ≡ size_in rows a.chunk) → ⊥) where
+  module _ (not_whole : (joint.start ≡ 0) × (joint.end ≡ chunk_size_in rows a.chunk) → ⊥) where
     partly : IsWhollyFree s1 a.chunk → ⊥
     partly w = not_whole (joint_whole w)
 
-    partly_spare : (old : Option ℕ) → IsSpareTile s0 (size_in rows) (tile_in n0) old → IsSpareTile s1 (size_in rows) (tile_in n1) old
+    partly_spare : (old : Option ℕ) → IsSpareTile s0 (chunk_size_in rows) (tile_in n0) old → IsSpareTile s1 (chunk_size_in rows) (tile_in n1) old
     partly_spare None none = λ key w. elim (cases_eq key a.chunk) [
       | inl here ↦ partly (subst (IsWhollyFree s1) here w)
       | inr other ↦ none key (was_other key other w)
@@ -331,16 +331,16 @@ module _ {M : Type 0} (object : M → ℕ) (rows : Slab (Row M)) (n0 n1 : Slab N
       ];
     }
 
-    pub partly_stored : IsStored object rows n1 spare None
+    pub partly_stored : IsStoredInTiles object rows n1 spare None
     partly_stored = record { kept = kept; sizes = stored.sizes; one_object = stored.one_object; spare_is = partly_spare spare stored.spare_is; still_full = tt }
 
     pub partly_stays : IsSpare (without_slot s0 slot) slot.chunk → ⊥
     partly_stays spare_one = partly (subst (λ s. IsWhollyFree s a.chunk) (sym back_space) spare_one.free)
 
   -- It is, as the first one.
-  module _ (start : joint.start ≡ 0) (end : joint.end ≡ size_in rows a.chunk) (none : spare ≡ None) where
+  module _ (start : joint.start ≡ 0) (end : joint.end ≡ chunk_size_in rows a.chunk) (none : spare ≡ None) where
     none_was : (key : ℕ) → IsWhollyFree s0 key → ⊥
-    none_was = subst (IsSpareTile s0 (size_in rows) (tile_in n0)) none stored.spare_is
+    none_was = subst (IsSpareTile s0 (chunk_size_in rows) (tile_in n0)) none stored.spare_is
 
     only_here : (key : ℕ) → IsWhollyFree s1 key → key ≡ a.chunk
     only_here key w = elim (cases_eq key a.chunk) [
@@ -348,7 +348,7 @@ module _ {M : Type 0} (object : M → ℕ) (rows : Slab (Row M)) (n0 n1 : Slab N
       | inr other ↦ absurd (none_was key (was_other key other w))
     ]
 
-    pub first_stored : IsStored object rows n1 (Some y) None
+    pub first_stored : IsStoredInTiles object rows n1 (Some y) None
     first_stored = record {
       kept = kept;
       sizes = stored.sizes;
@@ -361,9 +361,9 @@ module _ {M : Type 0} (object : M → ℕ) (rows : Slab (Row M)) (n0 n1 : Slab N
     first_stays spare_one = spare_one.differs (only_here spare_one.other (subst (λ s. IsWhollyFree s spare_one.other) (sym back_space) spare_one.other_free))
 
   -- It is, beside another one.
-  module _ (start : joint.start ≡ 0) (end : joint.end ≡ size_in rows a.chunk) (z : ℕ) (some : spare ≡ Some z) where
-    pub the_other : IsTheWhole s0 (size_in rows) (tile_in n0) z
-    the_other = subst (IsSpareTile s0 (size_in rows) (tile_in n0)) some stored.spare_is
+  module _ (start : joint.start ≡ 0) (end : joint.end ≡ chunk_size_in rows a.chunk) (z : ℕ) (some : spare ≡ Some z) where
+    pub the_other : IsTheWhole s0 (chunk_size_in rows) (tile_in n0) z
+    the_other = subst (IsSpareTile s0 (chunk_size_in rows) (tile_in n0)) some stored.spare_is
 
     other_is_free : IsWhollyFree s0 the_other.chunk
     other_is_free = whole_is_free object rows n0 stored.kept z the_other.chunk the_other.whole
@@ -371,7 +371,7 @@ module _ {M : Type 0} (object : M → ℕ) (rows : Slab (Row M)) (n0 n1 : Slab N
     pub other_differs : the_other.chunk ≢ a.chunk
     other_differs same = was_used (subst (IsWhollyFree s0) same other_is_free)
 
-    pub goes_whole : IsWholeTile (size_in rows) (tile_in n1) y a.chunk
+    pub goes_whole : IsWholeTile (chunk_size_in rows) (tile_in n1) y a.chunk
     goes_whole = whole_joint start end
 
     pub goes_spare : IsSpare (without_slot s0 slot) slot.chunk
@@ -386,17 +386,17 @@ module _ {M : Type 0} (object : M → ℕ) (rows : Slab (Row M)) (n0 n1 : Slab N
     pub goes_only : (key : ℕ) → key ≢ a.chunk → IsWhollyFree s1 key → key ≡ the_other.chunk
     goes_only key other w = the_other.only key (was_other key other w)
 
-    pub goes_other : IsWholeTile (size_in rows) (tile_in n1) z the_other.chunk
+    pub goes_other : IsWholeTile (chunk_size_in rows) (tile_in n1) z the_other.chunk
     goes_other = spare_stays z the_other
 
 -- The live block of a span.
 
-module _ {M : Type 0} (object : M → ℕ) (rows : Slab (Row M)) (nodes : Slab Node) (kept : IsKept (size_in rows) nodes) (name offset size : ℕ) where
+module _ {M : Type 0} (object : M → ℕ) (rows : Slab (Row M)) (nodes : Slab Node) (kept : AreNodesKept (chunk_size_in rows) nodes) (name offset size : ℕ) where
   abbrev chunks_s : HeldChunks
-  chunks_s = chunks_in object rows
+  chunks_s = chunks_of_rows object rows
 
   -- where none stands, none is live
-  pub none_at : ((k : ℕ) → IsAtKey chunks_s (tile_in nodes) name offset size k → ⊥) → (slot : Slot) → IsLiveSpan (space_in chunks_s nodes) name offset size slot → ⊥
+  pub none_at : ((k : ℕ) → IsAtKey chunks_s (tile_in nodes) name offset size k → ⊥) → (slot : Slot) → IsLiveFitSpan (fit_space_in chunks_s nodes) name offset size slot → ⊥
   none_at none slot span =
       let f = found_at object rows nodes kept slot span.live in
       none f.0 (
@@ -411,17 +411,17 @@ module _ {M : Type 0} (object : M → ℕ) (rows : Slab (Row M)) (nodes : Slab N
       )
 
   module _ (k : ℕ) (a : Tile) (at_a : tile_in nodes k ≡ Some a) (at : IsAtKey chunks_s (tile_in nodes) name offset size k) where
-    is_block : IsBlock chunks_s name offset size a
-    is_block = subst (IsBlock chunks_s name offset size) (one_tile (tile_in nodes) k k at.0 a at.1.0 at_a refl) at.1.1
+    is_block : IsBlockTile chunks_s name offset size a
+    is_block = subst (IsBlockTile chunks_s name offset size) (one_tile (tile_in nodes) k k at.0 a at.1.0 at_a refl) at.1.1
 
     slot_is : slot_of chunks_s a ≡ record { object = name; chunk = a.chunk; offset = offset; size = size }
     slot_is = let b = is_block in λ i. record { object = b.of_object i; chunk = a.chunk; offset = b.tile.starts i; size = b.tile.of_size i }
 
-    pub span_at : IsLiveSpan (space_in chunks_s nodes) name offset size (record { object = name; chunk = a.chunk; offset = offset; size = size })
-    span_at = record { live = subst (IsLiveSlot (space_in chunks_s nodes)) slot_is (tile_is_live object rows nodes kept k a (at_a, is_block.tile.live)); of_object = refl; starts = refl; of_size = refl }
+    pub span_at : IsLiveFitSpan (fit_space_in chunks_s nodes) name offset size (record { object = name; chunk = a.chunk; offset = offset; size = size })
+    span_at = record { live = subst (IsLiveSlot (fit_space_in chunks_s nodes)) slot_is (tile_is_live object rows nodes kept k a (at_a, is_block.tile.live)); of_object = refl; starts = refl; of_size = refl }
 
     -- it is the only one
-    pub the_span : HasOneKeyEach (λ (row : Row M). object row.memory) rows → (slot : Slot) → IsLiveSpan (space_in chunks_s nodes) name offset size slot → record { object = name; chunk = a.chunk; offset = offset; size = size } ≡ slot
+    pub the_span : HasOneKeyEach (λ (row : Row M). object row.memory) rows → (slot : Slot) → IsLiveFitSpan (fit_space_in chunks_s nodes) name offset size slot → record { object = name; chunk = a.chunk; offset = offset; size = size } ≡ slot
     the_span once slot span =
         let b = is_block in
         let here : IsAtKey chunks_s (tile_in nodes) slot.object slot.offset slot.size k = (
@@ -437,12 +437,12 @@ module _ {M : Type 0} (object : M → ℕ) (rows : Slab (Row M)) (nodes : Slab N
         sym slot_is ∙ the_slot object rows nodes kept once slot span.live k here
 
 -- what else is known of full
-pub with_full : {M : Type 0} (object : M → ℕ) (rows : Slab (Row M)) (nodes : Slab Node) (spare : Option ℕ) (full new : Option Full) → IsStored object rows nodes spare full → IsStillFull (space_in (chunks_in object rows) nodes) new
-    → IsStored object rows nodes spare new
+pub with_full : {M : Type 0} (object : M → ℕ) (rows : Slab (Row M)) (nodes : Slab Node) (spare : Option ℕ) (full new : Option Full) → IsStoredInTiles object rows nodes spare full → IsStillFull (fit_space_in (chunks_of_rows object rows) nodes) new
+    → IsStoredInTiles object rows nodes spare new
 with_full object rows nodes spare full new stored known = record { kept = stored.kept; sizes = stored.sizes; one_object = stored.one_object; spare_is = stored.spare_is; still_full = known }
 
 -- no host memory for a block that has a place
-pub refused : {E : Type 0} (s new : Space) (size alignment : ℕ) (answer : Result (Option Slot) E) → IsErr answer → HasPlace s size alignment → new ≡ s → TakesPlace s size alignment answer new
+pub refused : {E : Type 0} (s new : FitSpace) (size alignment : ℕ) (answer : Result (Option Slot) E) → IsErr answer → HasPlace s size alignment → new ≡ s → TakesFitting s size alignment answer new
 refused s new size alignment (Ok x) is place same = absurd (cc)
 refused s new size alignment (Err e) is place same = (place, same)
 
@@ -452,7 +452,7 @@ room_of T size alignment k a found at = subst (HasRoomIn size alignment) (one_ti
 
 -- A block at the end of a tile with room.
 
-module _ {M : Type 0} (object : M → ℕ) (rows : Slab (Row M)) (nodes : Slab Node) (kept : IsKept (size_in rows) nodes) (size mask k : ℕ) (a : Tile) (at : tile_in nodes k ≡ Some a) (room : HasRoomIn size (mask + 1) a)
+module _ {M : Type 0} (object : M → ℕ) (rows : Slab (Row M)) (nodes : Slab Node) (kept : AreNodesKept (chunk_size_in rows) nodes) (size mask k : ℕ) (a : Tile) (at : tile_in nodes k ≡ Some a) (room : HasRoomIn size (mask + 1) a)
     (start : ℕ) (start_is : start ≡ tail_start size (mask + 1) a.end) where
   block_ends : start + size ≤ a.end
   block_ends = let enough = room.1.enough in omega (arith, enough, start_is, tail_below size (mask + 1) a.end)
@@ -464,23 +464,23 @@ module _ {M : Type 0} (object : M → ℕ) (rows : Slab (Row M)) (nodes : Slab N
       let inside = kept.tiled.inside k a at in
       let row = held_row object rows a.chunk (omega (arith, some, inside)) in
       let bound = (sizes a.chunk row.0 row.1).1 in
-      let size_is = ap size_of row.1 in
+      let size_is = ap row_size row.1 in
       omega (arith, block_ends, inside, bound, size_is)
 
-  pub block_fits : (slot : Slot) (row : Row M) → get rows a.chunk ≡ Some row → slot ≡ record { object = object row.memory; chunk = a.chunk; offset = start; size = size } → IsFitting (space_in (chunks_in object rows) nodes) size (mask + 1) slot
+  pub block_fits : (slot : Slot) (row : Row M) → get rows a.chunk ≡ Some row → slot ≡ record { object = object row.memory; chunk = a.chunk; offset = start; size = size } → IsFitting (fit_space_in (chunks_of_rows object rows) nodes) size (mask + 1) slot
   block_fits slot row there is =
-      let place : IsListPlace (IsFreeIn (space_in (chunks_in object rows) nodes)) size (mask + 1) a.chunk start =
-      subst (IsListPlace (IsFreeIn (space_in (chunks_in object rows) nodes)) size (mask + 1) a.chunk) (sym start_is) (in_place object rows nodes kept size (mask + 1) (omega arith) k (a, (at, room))) in
-      subst (IsFitting (space_in (chunks_in object rows) nodes) size (mask + 1)) (sym is) (record {
+      let place : IsListPlace (IsFreeIn (fit_space_in (chunks_of_rows object rows) nodes)) size (mask + 1) a.chunk start =
+      subst (IsListPlace (IsFreeIn (fit_space_in (chunks_of_rows object rows) nodes)) size (mask + 1) a.chunk) (sym start_is) (in_place object rows nodes kept size (mask + 1) (omega arith) k (a, (at, room))) in
+      subst (IsFitting (fit_space_in (chunks_of_rows object rows) nodes) size (mask + 1)) (sym is) (record {
         exact = refl;
         aligned = place.aligned;
-        chunk = chunk_of object row;
-        held = get_by_key (chunk_of object) rows a.chunk ∙ ap (option_map (chunk_of object)) there;
+        chunk = chunk_of_row object row;
+        held = get_by_key (chunk_of_row object) rows a.chunk ∙ ap (option_map (chunk_of_row object)) there;
         object = refl;
         free = place.free;
       })
 
-  pub block_is : (row : Row M) → get rows a.chunk ≡ Some row → slot_of (chunks_in object rows) (record { chunk = a.chunk; start = start; end = start + size; free = false }) ≡ record { object = object row.memory; chunk = a.chunk; offset = start; size = size }
+  pub block_is : (row : Row M) → get rows a.chunk ≡ Some row → slot_of (chunks_of_rows object rows) (record { chunk = a.chunk; start = start; end = start + size; free = false }) ≡ record { object = object row.memory; chunk = a.chunk; offset = start; size = size }
   block_is row there =
-      block_slot (chunks_in object rows) a.chunk start (start + size) size (object row.memory) refl
-      (told_object (map.get (chunks_in object rows) a.chunk) (chunk_of object row) (get_by_key (chunk_of object) rows a.chunk ∙ ap (option_map (chunk_of object)) there))
+      block_slot (chunks_of_rows object rows) a.chunk start (start + size) size (object row.memory) refl
+      (told_object (map.get (chunks_of_rows object rows) a.chunk) (chunk_of_row object row) (get_by_key (chunk_of_row object) rows a.chunk ∙ ap (option_map (chunk_of_row object)) there))

@@ -6,16 +6,16 @@ use Rattle.std.specs.FinSet as set
 use Rattle.gpu_alloc_base.specs.Accounts.{HeldChunks}
 use Rattle.gpu_alloc_base.specs.Codes.{chunk_code, slot_code}
 use Rattle.gpu_alloc_base.specs.Slots.{slot_cmp}
-use Rattle.gpu_alloc_fits.specs.Fits.{Store}
-use Rattle.gpu_alloc_fits.specs.Space.{Space}
+use Rattle.gpu_alloc_fits.specs.Fits.{FitStore}
+use Rattle.gpu_alloc_fits.specs.Space.{FitSpace}
 
-abbrev pub space_code : Coded Space
-space_code =
+abbrev pub fit_space_code : Coded FitSpace
+fit_space_code =
     code_by (HeldChunks × set.FinSet slot_cmp) (coded× (map.code coded_ℕ chunk_code) (set.code slot_code))
     (λ s. (s.chunks, s.live)) (λ c. record { chunks = c.0; live = c.1 }) (λ _. refl)
 
-abbrev pub store_code : Coded Store
-store_code =
-    code_by (Space × (ℕ × ℕ)) (coded× space_code (coded× coded_ℕ coded_ℕ))
+abbrev pub fit_store_code : Coded FitStore
+fit_store_code =
+    code_by (FitSpace × (ℕ × ℕ)) (coded× fit_space_code (coded× coded_ℕ coded_ℕ))
     (λ s. (s.space, (s.chunk_room, s.tile_room)))
     (λ c. record { space = c.0; chunk_room = c.1.0; tile_room = c.1.1 }) (λ _. refl)

@@ -1,21 +1,21 @@
 -- What the calls of a store of exact runs do.
 use Rattle.std.specs.Prelude.{◌≡◌, ℕ, ◌<◌, ◌≤◌, Option, Some, None, Result, Ok, Err}
-use Rattle.gpu_alloc_fits.specs.Space.{Space, HasPlace, IsFitting, with_slot}
+use Rattle.gpu_alloc_fits.specs.Space.{FitSpace, HasPlace, IsFitting, with_slot}
 use Rattle.gpu_alloc_base.specs.declared.free_list_block.Slot.{Slot}
 
 -- A store: its space, and how many more chunks and tiles there is room for.
-pub record Store : Type 0 where
-  pub space : Space
+pub record FitStore : Type 0 where
+  pub space : FitSpace
   pub chunk_room : ℕ
   pub tile_room : ℕ
 
 -- there is room for one more chunk with one more block, which may be cut out of its middle
-pub record HasRooms (s : Store) : Type 0 where
+pub record HasTileRooms (s : FitStore) : Type 0 where
   pub chunk : 0 < s.chunk_room
   pub tiles : 3 ≤ s.tile_room
 
 -- a place is looked for: a block in one, or none there, or no host memory for a block in one
-abbrev pub TakesPlace : {E : Type 0} → Space → ℕ → ℕ → Result (Option Slot) E → Space → Type 0
-TakesPlace s size alignment (Ok None) new = (HasPlace s size alignment → ⊥) × (new ≡ s)
-TakesPlace s size alignment (Ok (Some slot)) new = IsFitting s size alignment slot × (new ≡ with_slot s slot)
-TakesPlace s size alignment (Err e) new = HasPlace s size alignment × (new ≡ s)
+abbrev pub TakesFitting : {E : Type 0} → FitSpace → ℕ → ℕ → Result (Option Slot) E → FitSpace → Type 0
+TakesFitting s size alignment (Ok None) new = (HasPlace s size alignment → ⊥) × (new ≡ s)
+TakesFitting s size alignment (Ok (Some slot)) new = IsFitting s size alignment slot × (new ≡ with_slot s slot)
+TakesFitting s size alignment (Err e) new = HasPlace s size alignment × (new ≡ s)

@@ -11,9 +11,9 @@ use Rattle.gpu_alloc_base.specs.SlabViews.{by_key, HasOneKeyEach}
 use Rattle.gpu_alloc_base.specs.Slots.{slot_cmp}
 use Rattle.gpu_alloc_base.specs.declared.buddy_block.Leaf.{Leaf}
 use Rattle.gpu_alloc_base.specs.declared.free_list_block.Slot.{Slot}
-use Rattle.gpu_alloc_fits.specs.Fits.{Store}
-use Rattle.gpu_alloc_fits.specs.Links.{IsKept}
-use Rattle.gpu_alloc_fits.specs.Space.{Space, HasPlace, IsWhollyFree}
+use Rattle.gpu_alloc_fits.specs.Fits.{FitStore}
+use Rattle.gpu_alloc_fits.specs.Links.{AreNodesKept}
+use Rattle.gpu_alloc_fits.specs.Space.{FitSpace, HasPlace, IsWhollyFree}
 use Rattle.gpu_alloc_fits.specs.Tiles.{tile_in}
 use Rattle.gpu_alloc_fits.specs.declared.fits.Chunk.{Chunk as Row}
 use Rattle.gpu_alloc_fits.specs.declared.search.Full.{Full}
@@ -22,20 +22,20 @@ use Rattle.gpu_alloc_fits.specs.declared.tile.Place.{Place}
 use Rattle.gpu_alloc_fits.specs.declared.tile.Tile.{Tile}
 
 -- a row's chunk
-abbrev pub chunk_of : {M : Type 0} → (M → ℕ) → Row M → Chunk
-chunk_of object row = record { object = object row.memory; size = row.size }
+abbrev pub chunk_of_row : {M : Type 0} → (M → ℕ) → Row M → Chunk
+chunk_of_row object row = record { object = object row.memory; size = row.size }
 
 -- the chunks of a slab by key
-abbrev pub chunks_in : {M : Type 0} → (M → ℕ) → Slab (Row M) → HeldChunks
-chunks_in object rows = by_key (chunk_of object) rows
+abbrev pub chunks_of_rows : {M : Type 0} → (M → ℕ) → Slab (Row M) → HeldChunks
+chunks_of_rows object rows = by_key (chunk_of_row object) rows
 
-abbrev pub size_of : {M : Type 0} → Option (Row M) → ℕ
-size_of None = 0
-size_of (Some row) = row.size
+abbrev pub row_size : {M : Type 0} → Option (Row M) → ℕ
+row_size None = 0
+row_size (Some row) = row.size
 
 -- how many bytes the chunk under a key has, 0 where there is no chunk
-abbrev pub size_in : {M : Type 0} → Slab (Row M) → ℕ → ℕ
-size_in rows key = size_of (get rows key)
+abbrev pub chunk_size_in : {M : Type 0} → Slab (Row M) → ℕ → ℕ
+chunk_size_in rows key = row_size (get rows key)
 
 -- the block that a live tile is
 abbrev pub slot_of : HeldChunks → Tile → Slot
@@ -46,19 +46,19 @@ abbrev pub live_slot : HeldChunks → Tile → Option Slot
 live_slot chunks t = cond t.free None (Some (slot_of chunks t))
 
 -- a live block as a row of a list, in the form of a buddy allocator's
-abbrev pub row_of : Slot → Leaf
-row_of b = record { object = b.object; chunk = b.chunk; offset = b.offset; size = b.size; index = 0 }
+abbrev pub leaf_of_slot : Slot → Leaf
+leaf_of_slot b = record { object = b.object; chunk = b.chunk; offset = b.offset; size = b.size; index = 0 }
 
 abbrev pub live_row : HeldChunks → Tile → Option Leaf
-live_row chunks t = cond t.free None (Some (row_of (slot_of chunks t)))
+live_row chunks t = cond t.free None (Some (leaf_of_slot (slot_of chunks t)))
 
 -- what the tiles of a slab give, where they give anything
 abbrev pub made_of : {Y : Type 0} → (Tile → Option Y) → List (ℕ × Node) → List Y
 made_of h rest = filter_map (λ e. h e.1.tile) rest
 
 -- the live blocks
-unfoldable pub live_in : HeldChunks → Slab Node → set.FinSet slot_cmp
-live_in chunks nodes = set.from_list (made_of (live_slot chunks) (entries nodes))
+unfoldable pub live_slots_in : HeldChunks → Slab Node → set.FinSet slot_cmp
+live_slots_in chunks nodes = set.from_list (made_of (live_slot chunks) (entries nodes))
 
 -- the range that a free tile is
 abbrev pub free_range : HeldChunks → Tile → Option FreeRange
@@ -70,12 +70,12 @@ abbrev pub listed : {Y : Type 0} → Option Y → List Y
 listed None = []
 listed (Some y) = y ∷ []
 
-abbrev pub space_in : HeldChunks → Slab Node → Space
-space_in chunks nodes = record { chunks = chunks; live = live_in chunks nodes }
+abbrev pub fit_space_in : HeldChunks → Slab Node → FitSpace
+fit_space_in chunks nodes = record { chunks = chunks; live = live_slots_in chunks nodes }
 
-abbrev pub store_in : HeldChunks → ℕ → Slab Node → Store
-store_in chunks chunk_room nodes =
-    record { space = space_in chunks nodes; chunk_room = chunk_room; tile_room = nodes.capacity - slab_len nodes }
+abbrev pub fit_store_in : HeldChunks → ℕ → Slab Node → FitStore
+fit_store_in chunks chunk_room nodes =
+    record { space = fit_space_in chunks nodes; chunk_room = chunk_room; tile_room = nodes.capacity - slab_len nodes }
 
 -- the tile is live, and has these bytes of its chunk
 pub record IsLiveTile (offset size : ℕ) (t : Tile) : Type 0 where
@@ -84,19 +84,19 @@ pub record IsLiveTile (offset size : ℕ) (t : Tile) : Type 0 where
   pub of_size : t.end - t.start ≡ size
 
 -- it is a live block of this span of an object
-pub record IsBlock (chunks : HeldChunks) (object offset size : ℕ) (t : Tile) : Type 0 where
+pub record IsBlockTile (chunks : HeldChunks) (object offset size : ℕ) (t : Tile) : Type 0 where
   pub tile : IsLiveTile offset size t
   pub of_object : object_in (map.get chunks t.chunk) ≡ object
 
 -- such a tile stands there, in a chunk of that size
-pub record IsPlace {M : Type 0} (name : M → ℕ) (rows : Slab (Row M)) (nodes : Slab Node) (object offset size : ℕ) (p : Place) : Type 0 where
+pub record IsBlockPlace {M : Type 0} (name : M → ℕ) (rows : Slab (Row M)) (nodes : Slab Node) (object offset size : ℕ) (p : Place) : Type 0 where
   pub at : get nodes p.key ≡ Some p.node
-  pub block : IsBlock (chunks_in name rows) object offset size p.node.tile
-  pub whole : size_in rows p.node.tile.chunk ≡ p.whole
+  pub block : IsBlockTile (chunks_of_rows name rows) object offset size p.node.tile
+  pub whole : chunk_size_in rows p.node.tile.chunk ≡ p.whole
 
 -- such a tile stands under the key
 abbrev pub IsAtKey : HeldChunks → (ℕ → Option Tile) → ℕ → ℕ → ℕ → ℕ → Type 0
-IsAtKey chunks T object offset size k = (a : Tile) × ((T k ≡ Some a) × IsBlock chunks object offset size a)
+IsAtKey chunks T object offset size k = (a : Tile) × ((T k ≡ Some a) × IsBlockTile chunks object offset size a)
 
 -- the tile under the key is free and all of this chunk
 pub record IsWholeTile (size : ℕ → ℕ) (T : ℕ → Option Tile) (x chunk : ℕ) : Type 0 where
@@ -108,13 +108,13 @@ pub record IsWholeTile (size : ℕ → ℕ) (T : ℕ → Option Tile) (x chunk :
   pub chunk_is : tile.chunk ≡ chunk
 
 -- the same for some chunk, and no other one is wholly free
-pub record IsTheWhole (s : Space) (size : ℕ → ℕ) (T : ℕ → Option Tile) (x : ℕ) : Type 0 where
+pub record IsTheWhole (s : FitSpace) (size : ℕ → ℕ) (T : ℕ → Option Tile) (x : ℕ) : Type 0 where
   pub chunk : ℕ
   pub whole : IsWholeTile size T x chunk
   pub only : (key : ℕ) → IsWhollyFree s key → key ≡ chunk
 
 -- the wholly free chunk, by the key of its tile, if there is one
-abbrev pub IsSpareTile : Space → (ℕ → ℕ) → (ℕ → Option Tile) → Option ℕ → Type 0
+abbrev pub IsSpareTile : FitSpace → (ℕ → ℕ) → (ℕ → Option Tile) → Option ℕ → Type 0
 IsSpareTile s size T None = (key : ℕ) → IsWhollyFree s key → ⊥
 IsSpareTile s size T (Some x) = IsTheWhole s size T x
 
@@ -124,7 +124,7 @@ IsWithout None key new = new ≡ None
 IsWithout (Some z) key new = ((z ≡ key) × (new ≡ None)) ⊎ ((z ≢ key) × (new ≡ Some z))
 
 -- a request that was found to have no place still has none
-pub record HasNone (s : Space) (f : Full) : Type 0 where
+pub record HasNoPlace (s : FitSpace) (f : Full) : Type 0 where
   pub nonempty : 0 < f.size
   pub alignment : IsAlignMask f.align_mask
   pub none : HasPlace s f.size (f.align_mask + 1) → ⊥
@@ -134,15 +134,15 @@ abbrev pub IsBeyond : Option Full → ℕ → ℕ → Type 0
 IsBeyond None size align_mask = ⊥
 IsBeyond (Some f) size align_mask = (f.size ≤ size) × (f.align_mask ≤ align_mask)
 
-abbrev pub IsStillFull : Space → Option Full → Type 0
+abbrev pub IsStillFull : FitSpace → Option Full → Type 0
 IsStillFull s None = Unit {0}
-IsStillFull s (Some f) = HasNone s f
+IsStillFull s (Some f) = HasNoPlace s f
 
 -- what holds of the fields between calls
-pub record IsStored {M : Type 0} (object : M → ℕ) (rows : Slab (Row M)) (nodes : Slab Node) (spare : Option ℕ)
+pub record IsStoredInTiles {M : Type 0} (object : M → ℕ) (rows : Slab (Row M)) (nodes : Slab Node) (spare : Option ℕ)
     (full : Option Full) : Type 0 where
-  pub kept : IsKept (size_in rows) nodes
+  pub kept : AreNodesKept (chunk_size_in rows) nodes
   pub sizes : (k : ℕ) (row : Row M) → get rows k ≡ Some row → (0 < row.size) × (row.size < 2 ^ 64)
   pub one_object : HasOneKeyEach (λ row. object row.memory) rows
-  pub spare_is : IsSpareTile (space_in (chunks_in object rows) nodes) (size_in rows) (tile_in nodes) spare
-  pub still_full : IsStillFull (space_in (chunks_in object rows) nodes) full
+  pub spare_is : IsSpareTile (fit_space_in (chunks_of_rows object rows) nodes) (chunk_size_in rows) (tile_in nodes) spare
+  pub still_full : IsStillFull (fit_space_in (chunks_of_rows object rows) nodes) full

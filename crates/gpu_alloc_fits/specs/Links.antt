@@ -26,13 +26,13 @@ AreLinked T before after =
     (j k : ℕ) (a b : Tile) → T j ≡ Some a → T k ≡ Some b → AreNeighbours a b → (after j ≡ k) × (before k ≡ j)
 
 -- what holds of nodes between calls
-pub record IsKept (size : ℕ → ℕ) (nodes : Slab Node) : Type 0 where
+pub record AreNodesKept (size : ℕ → ℕ) (nodes : Slab Node) : Type 0 where
   pub tiled : IsTiled size (tile_in nodes)
   pub calm : IsCalm (tile_in nodes)
   pub linked : AreLinked (tile_in nodes) (before_in nodes) (after_in nodes)
 
 -- what holds where the tile under one key is free, and may touch free ones
-pub record IsBeside (size : ℕ → ℕ) (x : ℕ) (nodes : Slab Node) : Type 0 where
+pub record AreNodesKeptBut (size : ℕ → ℕ) (x : ℕ) (nodes : Slab Node) : Type 0 where
   pub tiled : IsTiled size (tile_in nodes)
   pub calm : IsCalmBut x (tile_in nodes)
   pub linked : AreLinked (tile_in nodes) (before_in nodes) (after_in nodes)
@@ -41,7 +41,7 @@ pub record IsBeside (size : ℕ → ℕ) (x : ℕ) (nodes : Slab Node) : Type 0 
   pub free : tile.free ≡ true
 
 -- tiles and neighbours are unchanged
-pub record Keeps (old new : Slab Node) : Type 0 where
+pub record KeepsNodes (old new : Slab Node) : Type 0 where
   pub tiles : (k : ℕ) → tile_in new k ≡ tile_in old k
   pub before : (k : ℕ) → before_in new k ≡ before_in old k
   pub after : (k : ℕ) → after_in new k ≡ after_in old k

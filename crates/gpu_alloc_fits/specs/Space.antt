@@ -14,40 +14,40 @@ use Rattle.gpu_alloc_base.specs.Slots.{slot_cmp}
 use Rattle.gpu_alloc_base.specs.declared.free_list_block.Slot.{Slot}
 
 -- the held chunks by key, and the live blocks
-pub record Space : Type 0 where
+pub record FitSpace : Type 0 where
   pub chunks : HeldChunks
   pub live : set.FinSet slot_cmp
 
-abbrev pub no_space : Space
-no_space = record { chunks = map.empty; live = set.empty }
+abbrev pub no_fit_space : FitSpace
+no_fit_space = record { chunks = map.empty; live = set.empty }
 
-abbrev pub IsLiveSlot : Space → Slot → Type 0
+abbrev pub IsLiveSlot : FitSpace → Slot → Type 0
 IsLiveSlot s slot = IsTrue (set.contains s.live slot)
 
 -- a live block of this span of an object
-pub record IsLiveSpan (s : Space) (object offset size : ℕ) (slot : Slot) : Type 0 where
+pub record IsLiveFitSpan (s : FitSpace) (object offset size : ℕ) (slot : Slot) : Type 0 where
   pub live : IsLiveSlot s slot
   pub of_object : slot.object ≡ object
   pub starts : slot.offset ≡ offset
   pub of_size : slot.size ≡ size
 
 -- no live block has this span
-abbrev pub IsNoLiveSpan : Space → ℕ → ℕ → ℕ → Type 0
-IsNoLiveSpan s object offset size = (slot : Slot) → IsLiveSpan s object offset size slot → ⊥
+abbrev pub IsNoLiveFitSpan : FitSpace → ℕ → ℕ → ℕ → Type 0
+IsNoLiveFitSpan s object offset size = (slot : Slot) → IsLiveFitSpan s object offset size slot → ⊥
 
 -- the byte lies in a held chunk, and in no live block
-pub record IsFreeIn (s : Space) (chunk at : ℕ) : Type 0 where
+pub record IsFreeIn (s : FitSpace) (chunk at : ℕ) : Type 0 where
   pub held : Chunk
   pub is : map.get s.chunks chunk ≡ Some held
   pub inside : at < held.size
   pub unused : (slot : Slot) → IsLiveSlot s slot → slot.chunk ≡ chunk → IsIn slot.offset slot.size at → ⊥
 
 -- there is room for a block of this size, at a multiple of the alignment, in a held chunk
-abbrev pub HasPlace : Space → ℕ → ℕ → Type 0
+abbrev pub HasPlace : FitSpace → ℕ → ℕ → Type 0
 HasPlace s size alignment = (chunk start : ℕ) × IsListPlace (IsFreeIn s) size alignment chunk start
 
 -- the block has exactly this size, and lies in free bytes of a held chunk at a multiple of the alignment
-pub record IsFitting (s : Space) (size alignment : ℕ) (slot : Slot) : Type 0 where
+pub record IsFitting (s : FitSpace) (size alignment : ℕ) (slot : Slot) : Type 0 where
   pub exact : slot.size ≡ size
   pub aligned : IsMultipleOf alignment slot.offset
   pub chunk : Chunk
@@ -56,46 +56,46 @@ pub record IsFitting (s : Space) (size alignment : ℕ) (slot : Slot) : Type 0 w
   pub free : AreFree (IsFreeIn s) slot.chunk slot.offset (slot.offset + slot.size)
 
 -- the block begins a chunk that was not held
-pub record BeginsChunk (s : Space) (size : ℕ) (slot : Slot) : Type 0 where
+pub record BeginsFitChunk (s : FitSpace) (size : ℕ) (slot : Slot) : Type 0 where
   pub exact : slot.size ≡ size
   pub start : slot.offset ≡ 0
   pub free_key : map.get s.chunks slot.chunk ≡ None
 
 -- one more block is live
-abbrev pub with_slot : Space → Slot → Space
+abbrev pub with_slot : FitSpace → Slot → FitSpace
 with_slot s slot = record s { live = set.insert s.live slot }
 
 -- one block fewer
-abbrev pub without_slot : Space → Slot → Space
+abbrev pub without_slot : FitSpace → Slot → FitSpace
 without_slot s slot = record s { live = set.remove s.live slot }
 
 -- one more chunk is held, of the block's object
-abbrev pub with_chunk : Space → Slot → ℕ → Space
+abbrev pub with_chunk : FitSpace → Slot → ℕ → FitSpace
 with_chunk s slot size =
     record s { chunks = map.insert s.chunks slot.chunk (record { object = slot.object; size = size }) }
 
 -- one chunk fewer
-abbrev pub without_chunk : Space → ℕ → Space
+abbrev pub without_chunk : FitSpace → ℕ → FitSpace
 without_chunk s key = record s { chunks = map.remove s.chunks key }
 
 -- the chunk is held, and no block in it is live
-pub record IsWhollyFree (s : Space) (key : ℕ) : Type 0 where
+pub record IsWhollyFree (s : FitSpace) (key : ℕ) : Type 0 where
   pub held : IsSome (map.get s.chunks key)
   pub unused : (slot : Slot) → IsLiveSlot s slot → slot.chunk ≢ key
 
 -- the chunk is wholly free, and another one is too
-pub record IsSpare (s : Space) (key : ℕ) : Type 0 where
+pub record IsSpare (s : FitSpace) (key : ℕ) : Type 0 where
   pub free : IsWhollyFree s key
   pub other : ℕ
   pub differs : other ≢ key
   pub other_free : IsWhollyFree s other
 
 -- no held chunk is of this object
-abbrev pub IsUnheld : Space → ℕ → Type 0
+abbrev pub IsUnheld : FitSpace → ℕ → Type 0
 IsUnheld s object = (key : ℕ) (chunk : Chunk) → map.get s.chunks key ≡ Some chunk → chunk.object ≢ object
 
 -- the range is a free run of the chunk of its object
-pub record IsRunOf (s : Space) (r : FreeRange) : Type 0 where
+pub record IsFitRunOf (s : FitSpace) (r : FreeRange) : Type 0 where
   pub key : ℕ
   pub chunk : Chunk
   pub held : map.get s.chunks key ≡ Some chunk
@@ -103,7 +103,7 @@ pub record IsRunOf (s : Space) (r : FreeRange) : Type 0 where
   pub run : IsFreeRun (IsFreeIn s) key r.start r.end
 
 -- a live block is not empty, and lies in its chunk
-pub record LiesInChunk (s : Space) (slot : Slot) : Type 0 where
+pub record LiesInChunk (s : FitSpace) (slot : Slot) : Type 0 where
   pub chunk : Chunk
   pub held : map.get s.chunks slot.chunk ≡ Some chunk
   pub object : slot.object ≡ chunk.object
@@ -111,7 +111,7 @@ pub record LiesInChunk (s : Space) (slot : Slot) : Type 0 where
   pub inside : slot.offset + slot.size ≤ chunk.size
 
 -- chunks have objects of their own, live blocks are apart, and at most one chunk is wholly free
-pub record IsSoundSpace (s : Space) : Type 0 where
+pub record IsSoundFitSpace (s : FitSpace) : Type 0 where
   pub one_object : (i k : ℕ) (c d : Chunk) → map.get s.chunks i ≡ Some c → map.get s.chunks k ≡ Some d
       → c.object ≡ d.object → i ≡ k
   pub sizes : (k : ℕ) (c : Chunk) → map.get s.chunks k ≡ Some c → (0 < c.size) × (c.size < 2 ^ 64)
@@ -127,13 +127,13 @@ abbrev pub bytes_of : Slot → Bytes
 bytes_of slot = record { object = slot.object; offset = slot.offset; size = slot.size }
 
 -- a call that takes no block keeps each block that was in hand
-abbrev pub Leaves : Space → Space → Type 0
+abbrev pub Leaves : FitSpace → FitSpace → Type 0
 Leaves s new = in_hand.Leaves bytes_of s.live new.live
 
 -- a grant adds its block
-abbrev pub Adds : Space → Space → Slot → Type 0
+abbrev pub Adds : FitSpace → FitSpace → Slot → Type 0
 Adds s new slot = in_hand.Adds bytes_of s.live new.live slot
 
 -- a return removes its block, and no other
-abbrev pub Removes : Space → Slot → Space → Type 0
+abbrev pub Removes : FitSpace → Slot → FitSpace → Type 0
 Removes s slot new = in_hand.Removes bytes_of s.live slot new.live

@@ -11,8 +11,8 @@ abbrev pub tile_in : Slab Node → ℕ → Option Tile
 tile_in nodes key = option_map (λ (n : Node). n.tile) (get nodes key)
 
 -- its bytes
-abbrev pub region_of : Tile → FreeListRegion
-region_of t = record { chunk = t.chunk; start = t.start; end = t.end }
+abbrev pub tile_region : Tile → FreeListRegion
+tile_region t = record { chunk = t.chunk; start = t.start; end = t.end }
 
 -- the byte lies in the tile
 abbrev pub Covers : Tile → ℕ → ℕ → Type 0
@@ -52,12 +52,12 @@ abbrev pub IsLiveAt : (ℕ → Option Tile) → ℕ → Tile → Type 0
 IsLiveAt T k a = (T k ≡ Some a) × (a.free ≡ false)
 
 -- no live tile stands under the key
-abbrev pub IsUnused : (ℕ → Option Tile) → ℕ → Type 0
-IsUnused T k = (a : Tile) → IsLiveAt T k a → ⊥
+abbrev pub HasNoLiveTile : (ℕ → Option Tile) → ℕ → Type 0
+HasNoLiveTile T k = (a : Tile) → IsLiveAt T k a → ⊥
 
 -- there is a free tile of these bytes
 abbrev pub HasRun : (ℕ → Option Tile) → FreeListRegion → Type 0
-HasRun T r = (k : ℕ) × (a : Tile) × ((T k ≡ Some a) × ((a.free ≡ true) × (region_of a ≡ r)))
+HasRun T r = (k : ℕ) × (a : Tile) × ((T k ≡ Some a) × ((a.free ≡ true) × (tile_region a ≡ r)))
 
 -- no free tile ends where the one of this key starts
 abbrev pub IsFirst : ℕ → (ℕ → Option Tile) → Type 0
@@ -90,12 +90,12 @@ pub record KeepsOthers (T T' : ℕ → Option Tile) (x : ℕ) : Type 0 where
   pub was : (k : ℕ) (a : Tile) → k ≢ x → IsLiveAt T' k a → IsLiveAt T k a
 
 -- the tile under one key is no longer live, and the others are
-pub record GivesBack (T T' : ℕ → Option Tile) (x : ℕ) : Type 0 where
+pub record PutsTileBack (T T' : ℕ → Option Tile) (x : ℕ) : Type 0 where
   pub stays : (k : ℕ) (a : Tile) → IsLiveAt T k a → k ≢ x → IsLiveAt T' k a
   pub was : (k : ℕ) (a : Tile) → IsLiveAt T' k a → IsLiveAt T k a × (k ≢ x)
 
 -- the tile under the key is free, and of this chunk
-pub record IsFreeOf (chunk : ℕ) (T : ℕ → Option Tile) (x : ℕ) (a : Tile) : Type 0 where
+pub record IsFreeTileOf (chunk : ℕ) (T : ℕ → Option Tile) (x : ℕ) (a : Tile) : Type 0 where
   pub at : T x ≡ Some a
   pub free : a.free ≡ true
   pub chunk_is : a.chunk ≡ chunk

@@ -3,7 +3,7 @@
 
 ghost use Rattle.std.specs.Prelude.{◌≡◌, ◌<◌};
 ghost use Rattle.slab.specs.Slab.{slab_len};
-ghost use Rattle.gpu_alloc_fits.specs.Links.{Keeps};
+ghost use Rattle.gpu_alloc_fits.specs.Links.{KeepsNodes};
 
 use crate::tile::{NONE, Node};
 use slab::Slab;
@@ -108,7 +108,7 @@ pub(crate) fn file<A: Allocator>(
     key: usize,
     class: usize,
 )
-    ensures keeps { Keeps nodes.old nodes.new }
+    ensures keeps { KeepsNodes nodes.old nodes.new }
     ensures len { slab_len nodes.new ≡ slab_len nodes.old }
     ensures capacity { (nodes.new).capacity ≡ (nodes.old).capacity }
 {
@@ -129,7 +129,7 @@ pub(crate) fn unfile<A: Allocator>(
     key: usize,
     class: usize,
 )
-    ensures keeps { Keeps nodes.old nodes.new }
+    ensures keeps { KeepsNodes nodes.old nodes.new }
     ensures len { slab_len nodes.new ≡ slab_len nodes.old }
     ensures capacity { (nodes.new).capacity ≡ (nodes.old).capacity }
 {
@@ -157,7 +157,7 @@ pub(crate) fn refile<A: Allocator>(
     was: usize,
     class: usize,
 )
-    ensures keeps { Keeps nodes.old nodes.new }
+    ensures keeps { KeepsNodes nodes.old nodes.new }
     ensures len { slab_len nodes.new ≡ slab_len nodes.old }
     ensures capacity { (nodes.new).capacity ≡ (nodes.old).capacity }
 {
@@ -171,7 +171,7 @@ pub(crate) fn refile<A: Allocator>(
 /// Writes which tiles are above and below this one in its list.
 #[inline(always)]
 fn set_place<A: Allocator>(nodes: &mut Slab<Node, A>, key: usize, up: usize, down: usize)
-    ensures keeps { Keeps nodes.old nodes.new }
+    ensures keeps { KeepsNodes nodes.old nodes.new }
     ensures len { slab_len nodes.new ≡ slab_len nodes.old }
     ensures capacity { (nodes.new).capacity ≡ (nodes.old).capacity }
 {
@@ -184,7 +184,7 @@ fn set_place<A: Allocator>(nodes: &mut Slab<Node, A>, key: usize, up: usize, dow
 /// Sets the tile above this one in its list.
 #[inline(always)]
 fn set_up<A: Allocator>(nodes: &mut Slab<Node, A>, key: usize, value: usize)
-    ensures keeps { Keeps nodes.old nodes.new }
+    ensures keeps { KeepsNodes nodes.old nodes.new }
     ensures len { slab_len nodes.new ≡ slab_len nodes.old }
     ensures capacity { (nodes.new).capacity ≡ (nodes.old).capacity }
 {
@@ -196,7 +196,7 @@ fn set_up<A: Allocator>(nodes: &mut Slab<Node, A>, key: usize, value: usize)
 /// Sets the tile below this one in its list.
 #[inline(always)]
 fn set_down<A: Allocator>(nodes: &mut Slab<Node, A>, key: usize, value: usize)
-    ensures keeps { Keeps nodes.old nodes.new }
+    ensures keeps { KeepsNodes nodes.old nodes.new }
     ensures len { slab_len nodes.new ≡ slab_len nodes.old }
     ensures capacity { (nodes.new).capacity ≡ (nodes.old).capacity }
 {

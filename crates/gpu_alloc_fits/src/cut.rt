@@ -2,9 +2,9 @@
 
 ghost use Rattle.std.specs.Prelude.{◌≡◌, ◌≤◌, ◌<◌, ◌+◌, ℕ, Some, false, true};
 ghost use Rattle.slab.specs.Slab.{HasRoomFor, slab_len};
-ghost use Rattle.gpu_alloc_fits.specs.Inside.{size_in};
-ghost use Rattle.gpu_alloc_fits.specs.Links.{IsKept};
-ghost use Rattle.gpu_alloc_fits.specs.Tiles.{IsFreeRight, IsLiveAt, IsUnused, KeepsElsewhere, KeepsOthers, tile_in};
+ghost use Rattle.gpu_alloc_fits.specs.Inside.{chunk_size_in};
+ghost use Rattle.gpu_alloc_fits.specs.Links.{AreNodesKept};
+ghost use Rattle.gpu_alloc_fits.specs.Tiles.{HasNoLiveTile, IsFreeRight, IsLiveAt, KeepsElsewhere, KeepsOthers, tile_in};
 
 use crate::classes::{Classes, class_of, file, refile, unfile};
 use crate::fits::Chunk;
@@ -25,15 +25,15 @@ pub(crate) fn cut_out<M: MemoryObject, A: Allocator>(
     start: u64,
     end: u64,
 ) -> usize
-    requires kept { IsKept (size_in chunks.now) nodes.old }
+    requires kept { AreNodesKept (chunk_size_in chunks.now) nodes.old }
     requires run { (tile_in nodes.old key ≡ Some run) × (run.free ≡ true) }
     requires nonempty { start < end }
     requires inside { (run.start ≤ start) × (end ≤ run.end) }
     requires room { HasRoomFor nodes.old 2 }
-    ensures kept { IsKept (size_in chunks.now) nodes.new }
+    ensures kept { AreNodesKept (chunk_size_in chunks.now) nodes.new }
     ensures live { IsLiveAt (tile_in nodes.new) result
         (record { chunk = run.chunk; start = start; end = end; free = false }) }
-    ensures added { IsUnused (tile_in nodes.old) result }
+    ensures added { HasNoLiveTile (tile_in nodes.old) result }
     ensures others { KeepsOthers (tile_in nodes.old) (tile_in nodes.new) result }
     ensures elsewhere { KeepsElsewhere run.chunk (tile_in nodes.old) (tile_in nodes.new) }
 {
@@ -59,15 +59,15 @@ fn cut_end<M: MemoryObject, A: Allocator>(
     run: Tile,
     at: u64,
 ) -> usize
-    requires kept { IsKept (size_in chunks.now) nodes.old }
+    requires kept { AreNodesKept (chunk_size_in chunks.now) nodes.old }
     requires run { (tile_in nodes.old key ≡ Some run) × (run.free ≡ true) }
     requires within { (run.start ≤ at) × (at < run.end) }
     requires room { HasRoomFor nodes.old 1 }
-    ensures kept { IsKept (size_in chunks.now) nodes.new }
+    ensures kept { AreNodesKept (chunk_size_in chunks.now) nodes.new }
     ensures right { IsFreeRight result (tile_in nodes.new) }
     ensures live { IsLiveAt (tile_in nodes.new) result
         (record { chunk = run.chunk; start = at; end = run.end; free = false }) }
-    ensures added { IsUnused (tile_in nodes.old) result }
+    ensures added { HasNoLiveTile (tile_in nodes.old) result }
     ensures others { KeepsOthers (tile_in nodes.old) (tile_in nodes.new) result }
     ensures elsewhere { KeepsElsewhere run.chunk (tile_in nodes.old) (tile_in nodes.new) }
     ensures len { slab_len nodes.new ≤ slab_len nodes.old + 1 }
@@ -104,12 +104,12 @@ fn cut_back<M: MemoryObject, A: Allocator>(
     tile: Tile,
     at: u64,
 )
-    requires kept { IsKept (size_in chunks.now) nodes.old }
+    requires kept { AreNodesKept (chunk_size_in chunks.now) nodes.old }
     requires live { IsLiveAt (tile_in nodes.old) key tile }
     requires within { (tile.start < at) × (at ≤ tile.end) }
     requires right { IsFreeRight key (tile_in nodes.old) }
     requires room { HasRoomFor nodes.old 1 }
-    ensures kept { IsKept (size_in chunks.now) nodes.new }
+    ensures kept { AreNodesKept (chunk_size_in chunks.now) nodes.new }
     ensures live { IsLiveAt (tile_in nodes.new) key (record tile { end = at }) }
     ensures others { KeepsOthers (tile_in nodes.old) (tile_in nodes.new) key }
     ensures elsewhere { KeepsElsewhere tile.chunk (tile_in nodes.old) (tile_in nodes.new) }

@@ -9,13 +9,13 @@ ghost use Rattle.gpu_alloc_types.specs.declared.types.FreeRange.{FreeRange as Ra
 ghost use Rattle.gpu_alloc_base.specs.AlignMasks.{IsAlignMask};
 ghost use Rattle.gpu_alloc_base.specs.RangeOrder.{AreInOrder};
 ghost use Rattle.gpu_alloc_base.specs.declared.free_list_block.Slot.{Slot as LiveSlot};
-ghost use Rattle.gpu_alloc_fits.specs.Fits.{HasRooms, TakesPlace};
-ghost use Rattle.gpu_alloc_fits.specs.Inside.{IsAtKey, IsBlock, IsLiveTile, IsPlace, IsWholeTile, IsWithout};
-ghost use Rattle.gpu_alloc_fits.specs.Inside.{chunks_in, free_range, listed, live_row, size_in};
-ghost use Rattle.gpu_alloc_fits.specs.Links.{IsKept};
+ghost use Rattle.gpu_alloc_fits.specs.Fits.{HasTileRooms, TakesFitting};
+ghost use Rattle.gpu_alloc_fits.specs.Inside.{IsAtKey, IsBlockPlace, IsBlockTile, IsLiveTile, IsWholeTile, IsWithout};
+ghost use Rattle.gpu_alloc_fits.specs.Inside.{chunk_size_in, chunks_of_rows, free_range, listed, live_row};
+ghost use Rattle.gpu_alloc_fits.specs.Links.{AreNodesKept};
 ghost use Rattle.gpu_alloc_fits.specs.Listed.{AddsSlots, ListsChunks};
-ghost use Rattle.gpu_alloc_fits.specs.Space.{Adds, BeginsChunk, HasPlace, IsLiveSlot, IsLiveSpan, IsNoLiveSpan, IsRunOf};
-ghost use Rattle.gpu_alloc_fits.specs.Space.{IsSoundSpace, IsSpare, IsUnheld, IsWhollyFree, Leaves, Removes, no_space};
+ghost use Rattle.gpu_alloc_fits.specs.Space.{Adds, BeginsFitChunk, HasPlace, IsFitRunOf, IsLiveFitSpan, IsLiveSlot, IsNoLiveFitSpan};
+ghost use Rattle.gpu_alloc_fits.specs.Space.{IsSoundFitSpace, IsSpare, IsUnheld, IsWhollyFree, Leaves, Removes, no_fit_space};
 ghost use Rattle.gpu_alloc_fits.specs.Space.{with_chunk, with_slot, without_chunk, without_slot};
 ghost use Rattle.gpu_alloc_fits.specs.Tiles.{KeepsElsewhere, KeepsLive, tile_in};
 
@@ -76,26 +76,26 @@ pub struct Fits<M: MemoryObject, A: Allocator = Global> {
 }
 
 impl<M: MemoryObject, A: Allocator> Model for Fits<M, A> {
-    ghost use Rattle.gpu_alloc_fits.specs.Codes.{store_code};
-    ghost use Rattle.gpu_alloc_fits.specs.Fits.{Store};
+    ghost use Rattle.gpu_alloc_fits.specs.Codes.{fit_store_code};
+    ghost use Rattle.gpu_alloc_fits.specs.Fits.{FitStore};
 
-    ghost Value = { Store };
+    ghost Value = { FitStore };
 
-    ghost coded = { store_code };
+    ghost coded = { fit_store_code };
 
     ghost use Rattle.std.specs.Prelude.{◌-◌};
     ghost use Rattle.slab.specs.Slab.{slab_len};
-    ghost use Rattle.gpu_alloc_fits.specs.Inside.{IsStored, chunks_in, store_in};
+    ghost use Rattle.gpu_alloc_fits.specs.Inside.{IsStoredInTiles, chunks_of_rows, fit_store_in};
 
-    ghost view = { λ f. store_in (chunks_in M.object f.chunks) (f.chunks.capacity - slab_len f.chunks) f.tiles };
+    ghost view = { λ f. fit_store_in (chunks_of_rows M.object f.chunks) (f.chunks.capacity - slab_len f.chunks) f.tiles };
 
-    ghost invariant = { λ f. IsStored M.object f.chunks f.tiles f.spare f.known.full };
+    ghost invariant = { λ f. IsStoredInTiles M.object f.chunks f.tiles f.spare f.known.full };
 }
 
 impl<M: MemoryObject, A: Allocator + Copy> Fits<M, A> {
     /// A store without chunks. Its slabs take their memory from `alloc`; this call takes none.
     pub fn new(alloc: A) -> Self
-        ensures empty { result.space ≡ no_space }
+        ensures empty { result.space ≡ no_fit_space }
     {
         Fits {
             chunks: Slab::new(alloc),
@@ -111,7 +111,7 @@ impl<M: MemoryObject, A: Allocator + Copy> Fits<M, A> {
     ///
     /// The only error is want of host memory. Nothing changes.
     pub fn free_ranges(&self, alloc: A) -> Result<Vec<FreeRange, A>, AllocError>
-        ensures runs { IfOk result (λ ranges. (r : Range) → Contains ranges.items r ↔ IsRunOf (self.now).space r) }
+        ensures runs { IfOk result (λ ranges. (r : Range) → Contains ranges.items r ↔ IsFitRunOf (self.now).space r) }
         ensures order { IfOk result (λ ranges. AreInOrder ranges.items) }
     {
         let mut ranges = Vec::new(alloc);
@@ -128,7 +128,7 @@ impl<M: MemoryObject, A: Allocator> Fits<M, A> {
     ///
     /// The only error is want of memory. Nothing but the room changes, even after an error.
     pub fn reserve(&mut self) -> Result<(), AllocError>
-        ensures room { OnOk result (HasRooms self.new) }
+        ensures room { OnOk result (HasTileRooms self.new) }
         ensures kept { (self.new).space ≡ (self.old).space }
     {
         self.chunks.reserve(1)?;
@@ -166,7 +166,7 @@ impl<M: MemoryObject, A: Allocator> Fits<M, A> {
     pub fn take(&mut self, size: u64, align_mask: u64) -> Result<Option<FitBlock<M>>, AllocError>
         requires nonempty { 0 < size }
         requires alignment { IsAlignMask align_mask }
-        ensures takes { TakesPlace (self.old).space size (align_mask + 1) result (self.new).space }
+        ensures takes { TakesFitting (self.old).space size (align_mask + 1) result (self.new).space }
         ensures added { IfOk result (λ block. IfSome block (Adds (self.old).space (self.new).space)) }
         ensures leaves { Leaves (self.old).space (self.new).space }
     {
@@ -209,12 +209,12 @@ impl<M: MemoryObject, A: Allocator> Fits<M, A> {
     /// handles of its object. Room for both was made. It allocates nothing and cannot fail.
     pub fn begin(&mut self, memory: M, handle: M, memory_size: u64, size: u64) -> FitBlock<M>
         requires same { M.object handle ≡ M.object memory }
-        requires room { HasRooms self.old }
+        requires room { HasTileRooms self.old }
         requires nonempty { 0 < size }
         requires inside { size ≤ memory_size }
         requires new_object { IsUnheld (self.old).space (M.object memory) }
         ensures object { result.object ≡ M.object memory }
-        ensures begins { BeginsChunk (self.old).space size result }
+        ensures begins { BeginsFitChunk (self.old).space size result }
         ensures space { (self.new).space ≡ with_slot (with_chunk (self.old).space result memory_size) result }
         ensures added { Adds (self.old).space (self.new).space result }
         ensures leaves { Leaves (self.old).space (self.new).space }
@@ -262,7 +262,7 @@ impl<M: MemoryObject, A: Allocator> Fits<M, A> {
     ///
     /// Each other block that a caller has in hand is still live, and may be returned next (`removed`). `looks` counts
     /// the tiles next to the block that are looked at: at most two.
-    pub fn give_back<L: Ledger>(
+    pub fn put_back<L: Ledger>(
         &mut self,
         block: FitBlock<M>,
         looks: &mut Steps<L>,
@@ -300,7 +300,7 @@ impl<M: MemoryObject, A: Allocator> Fits<M, A> {
             return None;
         }
         match self.spare {
-            Some(_) => Some(end(
+            Some(_) => Some(let_chunk_go(
                 &mut self.chunks,
                 &mut self.tiles,
                 &mut self.classes,
@@ -329,7 +329,7 @@ impl<M: MemoryObject, A: Allocator> Fits<M, A> {
         let key = self.spare?;
         self.spare = None;
         let chunk = self.tiles[key].tile.chunk;
-        let (memory, size) = end(
+        let (memory, size) = let_chunk_go(
             &mut self.chunks,
             &mut self.tiles,
             &mut self.classes,
@@ -346,9 +346,9 @@ impl<M: MemoryObject, A: Allocator> Fits<M, A> {
     /// linear in the tiles.
     #[inline(always)]
     pub fn find(&self, key: usize, object: u64, offset: u64, size: u64) -> Option<(Slot, usize)>
-        ensures found { MatchOption result (IsNoLiveSpan (self.now).space object offset size)
-            (λ found. IsLiveSpan (self.now).space object offset size found.0) }
-        ensures exact { (slot : LiveSlot) → IsLiveSpan (self.now).space object offset size slot
+        ensures found { MatchOption result (IsNoLiveFitSpan (self.now).space object offset size)
+            (λ found. IsLiveFitSpan (self.now).space object offset size found.0) }
+        ensures exact { (slot : LiveSlot) → IsLiveFitSpan (self.now).space object offset size slot
             → IfSome result (λ found. found.0 ≡ slot) }
     {
         let place = place_of(&self.chunks, &self.tiles, key, object, offset, size)?;
@@ -389,7 +389,7 @@ impl<M: MemoryObject, A: Allocator> Fits<M, A> {
 
     /// A lemma: does nothing at run time. Its contract is what every store keeps.
     pub fn keeps_sound(&self)
-        ensures { IsSoundSpace (self.now).space }
+        ensures { IsSoundFitSpace (self.now).space }
     {
         let _ = &self.chunks;
     }
@@ -429,16 +429,16 @@ fn is_whole(tile: Tile, size: u64) -> bool
 
 /// Removes the wholly free chunk that is the tile under this key, and returns a handle of its object and its size in
 /// bytes.
-fn end<M: MemoryObject, A: Allocator>(
+fn let_chunk_go<M: MemoryObject, A: Allocator>(
     chunks: &mut Slab<Chunk<M>, A>,
     tiles: &mut Slab<Node, A>,
     classes: &mut Classes,
     key: usize,
     chunk: usize,
 ) -> (M, u64)
-    requires kept { IsKept (size_in chunks.old) tiles.old }
-    requires whole { IsWholeTile (size_in chunks.old) (tile_in tiles.old) key chunk }
-    ensures kept { IsKept (size_in chunks.new) tiles.new }
+    requires kept { AreNodesKept (chunk_size_in chunks.old) tiles.old }
+    requires whole { IsWholeTile (chunk_size_in chunks.old) (tile_in tiles.old) key chunk }
+    ensures kept { AreNodesKept (chunk_size_in chunks.new) tiles.new }
     ensures lives { KeepsLive (tile_in tiles.old) (tile_in tiles.new) }
     ensures elsewhere { KeepsElsewhere chunk (tile_in tiles.old) (tile_in tiles.new) }
     ensures row { get chunks.old chunk ≡ Some (record { memory = result.0; size = result.1 }) }
@@ -461,10 +461,10 @@ fn place_of<M: MemoryObject, A: Allocator>(
     offset: u64,
     size: u64,
 ) -> Option<Place>
-    requires kept { IsKept (size_in chunks.now) tiles.now }
+    requires kept { AreNodesKept (chunk_size_in chunks.now) tiles.now }
     ensures { MatchOption result
-        ((k : ℕ) → IsAtKey (chunks_in M.object chunks.now) (tile_in tiles.now) object offset size k → ⊥)
-        (IsPlace M.object chunks.now tiles.now object offset size) }
+        ((k : ℕ) → IsAtKey (chunks_of_rows M.object chunks.now) (tile_in tiles.now) object offset size k → ⊥)
+        (IsBlockPlace M.object chunks.now tiles.now object offset size) }
 {
     if let Some(node) = tiles.get(key) {
         if is_of(chunks, node.tile, object, offset, size) {
@@ -494,10 +494,10 @@ fn search<M: MemoryObject, A: Allocator>(
     offset: u64,
     size: u64,
 ) -> Option<usize>
-    requires kept { IsKept (size_in chunks.now) tiles.now }
+    requires kept { AreNodesKept (chunk_size_in chunks.now) tiles.now }
     ensures { MatchOption result
-        ((k : ℕ) → IsAtKey (chunks_in M.object chunks.now) (tile_in tiles.now) object offset size k → ⊥)
-        (IsAtKey (chunks_in M.object chunks.now) (tile_in tiles.now) object offset size) }
+        ((k : ℕ) → IsAtKey (chunks_of_rows M.object chunks.now) (tile_in tiles.now) object offset size k → ⊥)
+        (IsAtKey (chunks_of_rows M.object chunks.now) (tile_in tiles.now) object offset size) }
 {
     for (key, node) in tiles.iter() {
         if is_of(chunks, node.tile, object, offset, size) {
@@ -518,7 +518,7 @@ fn is_of<M: MemoryObject, A: Allocator>(
 ) -> bool
     requires nonempty { tile.start ≤ tile.end }
     requires held { ContainsKey chunks.now tile.chunk }
-    ensures { IsTrue result ↔ IsBlock (chunks_in M.object chunks.now) object offset size tile }
+    ensures { IsTrue result ↔ IsBlockTile (chunks_of_rows M.object chunks.now) object offset size tile }
 {
     is_live_tile(tile, offset, size) && chunks[tile.chunk].memory.object() == object
 }
@@ -542,7 +542,7 @@ fn list_live<M: MemoryObject, A: Allocator, B: Allocator>(
     requires nonempty { tile.start ≤ tile.end }
     requires held { ContainsKey chunks.now tile.chunk }
     ensures { OnOk result (rows.new.items ≡ rows.old.items
-        ++ listed (live_row (chunks_in M.object chunks.now) tile)) }
+        ++ listed (live_row (chunks_of_rows M.object chunks.now) tile)) }
 {
     if tile.free {
         return Ok(());
@@ -566,7 +566,7 @@ fn list_free<M: MemoryObject, A: Allocator, B: Allocator>(
 ) -> Result<(), AllocError>
     requires held { ContainsKey chunks.now tile.chunk }
     ensures { OnOk result (ranges.new.items ≡ ranges.old.items
-        ++ listed (free_range (chunks_in M.object chunks.now) tile)) }
+        ++ listed (free_range (chunks_of_rows M.object chunks.now) tile)) }
 {
     if !tile.free {
         return Ok(());

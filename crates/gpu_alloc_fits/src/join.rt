@@ -2,9 +2,9 @@
 
 ghost use Rattle.std.specs.Prelude.{◌≡◌, ◌≤◌, ◌+◌, ◌↔◌, ℕ, Some, true, false, IsTrue};
 ghost use Rattle.slab.specs.Slab.{ContainsKey, get};
-ghost use Rattle.gpu_alloc_fits.specs.Inside.{size_in};
-ghost use Rattle.gpu_alloc_fits.specs.Links.{IsBeside, IsKept, with_free};
-ghost use Rattle.gpu_alloc_fits.specs.Tiles.{GivesBack, IsFirst, IsFreeOf, KeepsElsewhere, KeepsLive, tile_in};
+ghost use Rattle.gpu_alloc_fits.specs.Inside.{chunk_size_in};
+ghost use Rattle.gpu_alloc_fits.specs.Links.{AreNodesKept, AreNodesKeptBut, with_free};
+ghost use Rattle.gpu_alloc_fits.specs.Tiles.{IsFirst, IsFreeTileOf, KeepsElsewhere, KeepsLive, PutsTileBack, tile_in};
 ghost use Rattle.gpu_alloc_fits.specs.declared.tile.Tile.{Tile as TileOf};
 
 use crate::classes::{Classes, class_of, refile, unfile};
@@ -33,13 +33,13 @@ pub(crate) fn put_back<M: MemoryObject, A: Allocator, L: Ledger>(
     place: Place,
     looks: &mut Steps<L>,
 ) -> (Tile, usize)
-    requires kept { IsKept (size_in chunks.now) nodes.old }
+    requires kept { AreNodesKept (chunk_size_in chunks.now) nodes.old }
     requires at { get nodes.old place.key ≡ Some place.node }
     requires live { place.node.tile.free ≡ false }
-    requires whole { size_in chunks.now place.node.tile.chunk ≡ place.whole }
-    ensures kept { IsKept (size_in chunks.now) nodes.new }
-    ensures back { GivesBack (tile_in nodes.old) (tile_in nodes.new) place.key }
-    ensures joint { IsFreeOf place.node.tile.chunk (tile_in nodes.new) result.1 result.0 }
+    requires whole { chunk_size_in chunks.now place.node.tile.chunk ≡ place.whole }
+    ensures kept { AreNodesKept (chunk_size_in chunks.now) nodes.new }
+    ensures back { PutsTileBack (tile_in nodes.old) (tile_in nodes.new) place.key }
+    ensures joint { IsFreeTileOf place.node.tile.chunk (tile_in nodes.new) result.1 result.0 }
     ensures elsewhere { KeepsElsewhere place.node.tile.chunk (tile_in nodes.old) (tile_in nodes.new) }
     ensures few { looks.new ≤ looks.old + 2 }
 {
@@ -75,13 +75,13 @@ fn join_before<M: MemoryObject, A: Allocator, L: Ledger>(
     place: Place,
     looks: &mut Steps<L>,
 ) -> Joint
-    requires beside { IsBeside (size_in chunks.now) place.key nodes.old }
+    requires beside { AreNodesKeptBut (chunk_size_in chunks.now) place.key nodes.old }
     requires at { get nodes.old place.key ≡ Some (with_free true place.node) }
-    requires whole { size_in chunks.now place.node.tile.chunk ≡ place.whole }
-    ensures beside { IsBeside (size_in chunks.now) result.key nodes.new }
+    requires whole { chunk_size_in chunks.now place.node.tile.chunk ≡ place.whole }
+    ensures beside { AreNodesKeptBut (chunk_size_in chunks.now) result.key nodes.new }
     ensures first { IsFirst result.key (tile_in nodes.new) }
     ensures lives { KeepsLive (tile_in nodes.old) (tile_in nodes.new) }
-    ensures joint { (b : TileOf) × IsFreeOf place.node.tile.chunk (tile_in nodes.new) result.key b }
+    ensures joint { (b : TileOf) × IsFreeTileOf place.node.tile.chunk (tile_in nodes.new) result.key b }
     ensures elsewhere { KeepsElsewhere place.node.tile.chunk (tile_in nodes.old) (tile_in nodes.new) }
     ensures few { looks.new ≤ looks.old + 1 }
 {
@@ -113,12 +113,12 @@ fn join_after<M: MemoryObject, A: Allocator, L: Ledger>(
     whole: u64,
     looks: &mut Steps<L>,
 ) -> Tile
-    requires beside { IsBeside (size_in chunks.now) key nodes.old }
-    requires whole { (a : TileOf) → tile_in nodes.old key ≡ Some a → size_in chunks.now a.chunk ≡ whole }
+    requires beside { AreNodesKeptBut (chunk_size_in chunks.now) key nodes.old }
+    requires whole { (a : TileOf) → tile_in nodes.old key ≡ Some a → chunk_size_in chunks.now a.chunk ≡ whole }
     requires first { IsFirst key (tile_in nodes.old) }
-    ensures kept { IsKept (size_in chunks.now) nodes.new }
+    ensures kept { AreNodesKept (chunk_size_in chunks.now) nodes.new }
     ensures lives { KeepsLive (tile_in nodes.old) (tile_in nodes.new) }
-    ensures joint { (a : TileOf) → tile_in nodes.old key ≡ Some a → IsFreeOf a.chunk (tile_in nodes.new) key result }
+    ensures joint { (a : TileOf) → tile_in nodes.old key ≡ Some a → IsFreeTileOf a.chunk (tile_in nodes.new) key result }
     ensures elsewhere { (a : TileOf) → tile_in nodes.old key ≡ Some a
         → KeepsElsewhere a.chunk (tile_in nodes.old) (tile_in nodes.new) }
     ensures few { looks.new ≤ looks.old + 1 }

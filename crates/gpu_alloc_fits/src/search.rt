@@ -3,8 +3,8 @@
 ghost use Rattle.std.specs.Prelude.{◌≡◌, ◌↔◌, ◌+◌, ◌≤◌, ◌<◌, ℕ, None, IfSome, IsTrue, MatchOption, true, false};
 ghost use Rattle.gpu_alloc_base.specs.AlignMasks.{IsAlignMask};
 ghost use Rattle.gpu_alloc_base.specs.FreeRuns.{tail_start};
-ghost use Rattle.gpu_alloc_fits.specs.Inside.{IsBeyond, IsStillFull, chunks_in, size_in, space_in};
-ghost use Rattle.gpu_alloc_fits.specs.Links.{IsKept};
+ghost use Rattle.gpu_alloc_fits.specs.Inside.{IsBeyond, IsStillFull, chunk_size_in, chunks_of_rows, fit_space_in};
+ghost use Rattle.gpu_alloc_fits.specs.Links.{AreNodesKept};
 ghost use Rattle.gpu_alloc_fits.specs.Space.{HasPlace};
 ghost use Rattle.gpu_alloc_fits.specs.Tiles.{HasRoomAt, HasRoomIn, tile_in};
 
@@ -102,12 +102,12 @@ pub(crate) fn find_place<M: MemoryObject, A: Allocator>(
 ) -> Option<usize>
     requires nonempty { 0 < size }
     requires alignment { IsAlignMask align_mask }
-    requires kept { IsKept (size_in chunks.now) nodes.now }
-    requires still_full { IsStillFull (space_in (chunks_in M.object chunks.now) nodes.now) known.old.full }
+    requires kept { AreNodesKept (chunk_size_in chunks.now) nodes.now }
+    requires still_full { IsStillFull (fit_space_in (chunks_of_rows M.object chunks.now) nodes.now) known.old.full }
     ensures place { MatchOption result
-        (HasPlace (space_in (chunks_in M.object chunks.now) nodes.now) size (align_mask + 1) → ⊥)
+        (HasPlace (fit_space_in (chunks_of_rows M.object chunks.now) nodes.now) size (align_mask + 1) → ⊥)
         (HasRoomAt (tile_in nodes.now) size (align_mask + 1)) }
-    ensures still_full { IsStillFull (space_in (chunks_in M.object chunks.now) nodes.now) known.new.full }
+    ensures still_full { IsStillFull (fit_space_in (chunks_of_rows M.object chunks.now) nodes.now) known.new.full }
 {
     if known.is_full(size, align_mask) {
         return None;

@@ -8,8 +8,8 @@ use Rattle.gpu_alloc_base.specs.FreeRuns.{AreRuns}
 use Rattle.gpu_alloc_base.specs.Slots.{slot_cmp}
 use Rattle.gpu_alloc_base.specs.declared.free_list_block.Slot.{Slot}
 use Rattle.gpu_alloc_base.specs.declared.region.FreeListRegion.{FreeListRegion}
-use Rattle.gpu_alloc_freelist.specs.FreeListInside.{space_in}
-use Rattle.gpu_alloc_freelist.specs.FreeListSound.{IsSoundSpace}
+use Rattle.gpu_alloc_freelist.specs.FreeListInside.{list_space_in}
+use Rattle.gpu_alloc_freelist.specs.FreeListSound.{IsSoundListSpace}
 use Rattle.gpu_alloc_freelist.specs.FreeListState.{IsFreeIn}
 use Rattle.gpu_alloc_freelist.specs.Runs.{Cuts}
 use Rattle.gpu_alloc_freelist.specs.Wholes.{is_whole, wholes}
@@ -20,20 +20,20 @@ use Rattle.gpu_alloc_freelist.proofs.WholeCounts.{one}
 use Rattle.gpu_alloc_freelist.proofs.WholeRuns.{wholes_cut}
 
 module _ (held : HeldChunks) (live : set.FinSet slot_cmp) (latest : ℕ) (regions new : List FreeListRegion) (size alignment i : ℕ) (r : FreeListRegion) (slot : Slot) (chunk : Chunk)
-    (sound : IsSoundSpace (space_in held live latest)) (runs : AreRuns regions (IsFreeIn (space_in held live latest))) (of : IsTailOf regions size alignment i r slot)
+    (sound : IsSoundListSpace (list_space_in held live latest)) (runs : AreRuns regions (IsFreeIn (list_space_in held live latest))) (of : IsTailOf regions size alignment i r slot)
     (some : 0 < size) (is_held : map.get held r.chunk ≡ Some chunk) (object : slot.object ≡ chunk.object) (cuts : Cuts regions i slot.offset new) where
   -- its run loses it
-  pub cut_taken : IsTaken (space_in held live latest) new slot
+  pub cut_taken : IsTaken (list_space_in held live latest) new slot
   cut_taken =
       let within = tail_within regions size alignment i r slot of some in
-      tail_taken regions size alignment i r slot of (space_in held live latest) runs chunk is_held object new some sound
-      (λ d. cut_beside (IsFreeIn (space_in held live latest)) regions new i slot.offset d runs of.found.0 (within d).0 (within d).1 cuts)
+      tail_taken regions size alignment i r slot of (list_space_in held live latest) runs chunk is_held object new some sound
+      (λ d. cut_beside (IsFreeIn (list_space_in held live latest)) regions new i slot.offset d runs of.found.0 (within d).0 (within d).1 cuts)
 
   -- and is no whole chunk any more
   pub cut_counts : wholes held new + one (is_whole held) r ≡ wholes held regions
   cut_counts =
       let here : get_or regions i r ≡ r = sym of.region in
-      let inside = region_inside (space_in held live latest) sound regions runs r chunk (i, of.found.0, here) is_held in
+      let inside = region_inside (list_space_in held live latest) sound regions runs r chunk (i, of.found.0, here) is_held in
       let less = wholes_cut held regions new i slot.offset r chunk of.found.0 (ap (λ (q : FreeListRegion). map.get held q.chunk) here ∙ is_held)
       (omega (arith, inside, tail_end regions size alignment i r slot of, tail_some regions size alignment i r slot of some)) cuts in
       omega (arith, less, ap (one (is_whole held)) here)

@@ -19,7 +19,7 @@ use Rattle.gpu_alloc_base.specs.declared.region.FreeListRegion.{FreeListRegion}
 use Rattle.gpu_alloc_base.proofs.Lists.{contains_head, contains_later, seek}
 use Rattle.gpu_alloc_base.proofs.Maps.{kept_other}
 use Rattle.gpu_alloc_base.proofs.Slots.{slot_removed, slot_test, slot_total}
-use Rattle.gpu_alloc_freelist.specs.FreeListState.{Space, IsFreeIn, IsLiveSlot}
+use Rattle.gpu_alloc_freelist.specs.FreeListState.{ListSpace, IsFreeIn, IsLiveSlot}
 use Rattle.gpu_alloc_freelist.proofs.FreeListGrants.{Rises, head_before, tail_rises}
 
 -- the block ends where the run starts
@@ -38,7 +38,7 @@ in_items s q = (
   λ has. set.contains-items s q ∙ list_any-from_Contains (eq_by_cmp_equiv slot_total) q (set.items s) has,
 )
 
-module _ (s : Space) (r : FreeListRegion) (run : IsFreeRun (IsFreeIn s) r.chunk r.start r.end) where
+module _ (s : ListSpace) (r : FreeListRegion) (run : IsFreeRun (IsFreeIn s) r.chunk r.start r.end) where
   -- where the run starts behind its chunk's start, and no live block ends there, the byte before it is free
   free_before : 0 < r.start → ((q : Slot) → IsLiveSlot s q → Ends q r → ⊥) → IsFreeIn s r.chunk (r.start - 1)
   free_before behind none =
@@ -142,7 +142,7 @@ few (r ∷ runs) live held rises each =
       | inr more ↦ omega (arith, more.1, at_r, at_t, starts)
     ]
 
-pub few_runs : (s : Space) (runs : List FreeListRegion) → ((r : FreeListRegion) → Contains runs r → IsFreeRun (IsFreeIn s) r.chunk r.start r.end) → Rises IsBefore runs → length runs ≤ set.len s.live + map.len s.chunks
+pub few_runs : (s : ListSpace) (runs : List FreeListRegion) → ((r : FreeListRegion) → Contains runs r → IsFreeRun (IsFreeIn s) r.chunk r.start r.end) → Rises IsBefore runs → length runs ≤ set.len s.live + map.len s.chunks
 few_runs s runs are rises = few runs s.live s.chunks rises (λ r has.
     let run = are r has in (
       run.nonempty,

@@ -12,7 +12,7 @@ use Rattle.gpu_alloc_base.proofs.InHand.{no_chunks}
 use Rattle.gpu_alloc_base.proofs.Lists.{contains_head, none_is_some}
 use Rattle.gpu_alloc_base.proofs.SlabViews.{map_there, map_absent}
 use Rattle.gpu_alloc_base.proofs.Sums.{len_less}
-use Rattle.gpu_alloc_freelist.specs.Chunks.{AreFiled, IsFiled, chunk_of, held_in, keys_in}
+use Rattle.gpu_alloc_freelist.specs.Chunks.{AreFiled, IsFiled, chunk_of, held_in, keys_by_number}
 use Rattle.gpu_alloc_freelist.specs.declared.freelist.chunks.NumberedChunk.{NumberedChunk}
 use Rattle.gpu_alloc_freelist.specs.declared.freelist.chunks.NumberedKey.{NumberedKey}
 use Rattle.gpu_alloc_freelist.proofs.NumberSearch.{said_at}
@@ -60,11 +60,11 @@ module _ {M : Type 0} where
     ]
 
     -- and is listed
-    pub held_listed : (k : ℕ) → IsSome (map.get (held_in object rows) k) → IsSome (map.get (keys_in numbers) k)
+    pub held_listed : (k : ℕ) → IsSome (map.get (held_in object rows) k) → IsSome (map.get (keys_by_number numbers) k)
     held_listed k some =
         let h = held_stands k some in
         let there = row_found number_of key_of numbers (entry (number_in h.1) h.0) filed.rising ((filed.exact (entry (number_in h.1) h.0)).1 (h.1, h.2, refl)) in
-        subst (λ q. IsSome (map.get (keys_in numbers) q)) h.3 (rw there refl)
+        subst (λ q. IsSome (map.get (keys_by_number numbers) q)) h.3 (rw there refl)
 
     -- nothing is held where nothing is listed
     pub none_listed : length numbers ≡ 0 → map.len (held_in object rows) ≡ 0

@@ -17,9 +17,9 @@ use Rattle.gpu_alloc_types.specs.Properties.{Properties}
 use Rattle.gpu_alloc_base.specs.Chunks.{IsThere, Chunk, object_in}
 use Rattle.gpu_alloc_freelist.specs.FreeList.{MayGo, IsFirstToGo, IsWhollyFree, without_chunk}
 use Rattle.gpu_alloc_base.specs.Accounts.{Account, account, IsCounted, chunks_and_remaining}
-use Rattle.gpu_alloc_freelist.specs.FreeListAllocator.{AreGone, AreRisingNumbers, LetsGo, GivesBack, Agrees, size_in, object_of, size_of, without_numbers, without_objects_of, sees_chunks}
-use Rattle.gpu_alloc_freelist.specs.FreeListSound.{IsSound}
-use Rattle.gpu_alloc_freelist.specs.FreeListState.{Listing, Space}
+use Rattle.gpu_alloc_freelist.specs.FreeListAllocator.{AreGone, AreRisingNumbers, LetsGo, LetsWholeChunksGo, Agrees, size_in, object_of, size_of_chunk, without_numbers, without_objects_of, sees_chunks}
+use Rattle.gpu_alloc_freelist.specs.FreeListSound.{IsSoundListing}
+use Rattle.gpu_alloc_freelist.specs.FreeListState.{Listing, ListSpace}
 use Rattle.gpu_alloc_base.specs.declared.heap.Heap.{Heap}
 use Rattle.gpu_alloc_base.proofs.Lists.{contains_head, contains_later, contains_none}
 use Rattle.gpu_alloc_base.proofs.Maps.{found_value, gone, kept_key, kept_other}
@@ -41,7 +41,7 @@ without_one_more : (chunks : map.FinMap nat_cmp Chunk) (gone : List ℕ) (n : �
 without_one_more chunks [] n = refl
 without_one_more chunks (k ∷ ks) n = without_one_more (map.remove chunks k) ks n
 
-objects_one_more : (s : Space) (objects : ℕ → Option Object) (gone : List ℕ) (n : ℕ) → without_objects_of s objects (gone ++ n ∷ []) ≡ put (without_objects_of s objects gone) (object_of s n) None
+objects_one_more : (s : ListSpace) (objects : ℕ → Option Object) (gone : List ℕ) (n : ℕ) → without_objects_of s objects (gone ++ n ∷ []) ≡ put (without_objects_of s objects gone) (object_of s n) None
 objects_one_more s objects [] n = refl
 objects_one_more s objects (k ∷ ks) n = objects_one_more s (put objects (object_of s k) None) ks n
 
@@ -59,13 +59,13 @@ pub record IsOnItsWay (keep_last : Bool) (from : Account Listing) (objects : ℕ
   pub left : (number : ℕ) → MayGo from.allocator.space keep_last number → Contains gone number ⊎ MayGo a.allocator.space keep_last number
   pub goes : (number : ℕ) → MayGo a.allocator.space keep_last number → MayGo from.allocator.space keep_last number
   pub later : (earlier number : ℕ) → Contains gone earlier → MayGo a.allocator.space keep_last number → earlier < number
-  pub sound : IsSound a.allocator
+  pub sound : IsSoundListing a.allocator
   pub agrees : Agrees a.allocator p now
   pub counted : IsCounted a.allocator.space.chunks a.heap a.remaining
   pub total : chunks_and_remaining a.allocator.space.chunks a.remaining ≡ chunks_and_remaining from.allocator.space.chunks from.remaining
 
 -- nothing went yet
-pub begins : {keep_last : Bool} {a : Account Listing} {objects : ℕ → Option Object} {p : Properties} → IsSound a.allocator → Agrees a.allocator p objects → IsCounted a.allocator.space.chunks a.heap a.remaining → IsOnItsWay keep_last a objects p [] [] a objects
+pub begins : {keep_last : Bool} {a : Account Listing} {objects : ℕ → Option Object} {p : Properties} → IsSoundListing a.allocator → Agrees a.allocator p objects → IsCounted a.allocator.space.chunks a.heap a.remaining → IsOnItsWay keep_last a objects p [] [] a objects
 begins {keep_last} {a} {objects} {p} sound agrees counted = record {
   lets = (refl, λ i. record { allocator = a.allocator; heap = record a.heap { used = same_used i }; remaining = same_remaining i });
   objects_are = refl;
@@ -88,7 +88,7 @@ begins {keep_last} {a} {objects} {p} sound agrees counted = record {
 
 -- none may go any more
 pub ends : {keep_last : Bool} {from a : Account Listing} {objects now : ℕ → Option Object} {p : Properties} {gone : List ℕ} {es : List Event} → IsOnItsWay keep_last from objects p gone es a now
-    → ((number : ℕ) → MayGo a.allocator.space keep_last number → ⊥) → GivesBack keep_last from gone es a objects now
+    → ((number : ℕ) → MayGo a.allocator.space keep_last number → ⊥) → LetsWholeChunksGo keep_last from gone es a objects now
 ends {keep_last} {from} {a} {objects} {now} {p} {gone} {es} w none = (
   record {
     rising = w.rising;
@@ -110,7 +110,7 @@ module _ {keep_last : Bool} {from a : Account Listing} {objects now : ℕ → Op
   object_is : object_of from.allocator.space n ≡ chunk.object
   object_is = ap object_in was_held
 
-  size_is : size_of from.allocator.space n ≡ chunk.size
+  size_is : size_of_chunk from.allocator.space n ≡ chunk.size
   size_is = ap size_in was_held
 
   -- the ledger counts it, and one more object may be held
@@ -126,7 +126,7 @@ module _ {keep_last : Bool} {from a : Account Listing} {objects now : ℕ → Op
   abbrev next : Account Listing
   next = account_without_chunk a n chunk
 
-  next_sound : IsSound next.allocator
+  next_sound : IsSoundListing next.allocator
   next_sound = sound_without_chunk a.allocator n w.sound first.goes.0
 
   -- it holds the chunk
@@ -164,8 +164,8 @@ module _ {keep_last : Bool} {from a : Account Listing} {objects now : ℕ → Op
       chunks_are : map.remove (without_numbers from.allocator.space.chunks gone_so_far) n ≡ without_numbers from.allocator.space.chunks (gone_so_far ++ n ∷ [])
       chunks_are = sym (without_one_more from.allocator.space.chunks gone_so_far n)
 
-      used_is : from.heap.used - sum_by (size_of from.allocator.space) gone_so_far - chunk.size ≡ from.heap.used - sum_by (size_of from.allocator.space) (gone_so_far ++ n ∷ [])
-      used_is = omega (arith, sum_by-append (size_of from.allocator.space) gone_so_far (n ∷ []), size_is)
+      used_is : from.heap.used - sum_by (size_of_chunk from.allocator.space) gone_so_far - chunk.size ≡ from.heap.used - sum_by (size_of_chunk from.allocator.space) (gone_so_far ++ n ∷ [])
+      used_is = omega (arith, sum_by-append (size_of_chunk from.allocator.space) gone_so_far (n ∷ []), size_is)
 
       remaining_is : from.remaining + length gone_so_far + 1 ≡ from.remaining + length (gone_so_far ++ n ∷ [])
       remaining_is = omega (arith, length-append gone_so_far (n ∷ []))
@@ -200,16 +200,16 @@ module _ {keep_last : Bool} {from a : Account Listing} {objects now : ℕ → Op
   }
 
   -- the same of the values that are so
-  pub goes_on_as : (space : Space) (heap : Heap) (objects_now : ℕ → Option Object) → space ≡ without_chunk a.allocator.space n → heap ≡ record a.heap { used = a.heap.used - chunk.size } → objects_now ≡ put now chunk.object None
+  pub goes_on_as : (space : ListSpace) (heap : Heap) (objects_now : ℕ → Option Object) → space ≡ without_chunk a.allocator.space n → heap ≡ record a.heap { used = a.heap.used - chunk.size } → objects_now ≡ put now chunk.object None
       → IsOnItsWay keep_last from objects p (gone_so_far ++ n ∷ []) (es ++ Deallocated chunk.object ∷ []) (account (record a.allocator { space = space }) heap (a.remaining + 1)) objects_now
   goes_on_as space heap objects_now space_is heap_is objects_are = rw (space_is, heap_is, objects_are) goes_on
 
 -- For callers: what is so of the account that is left, by the names of the chunks that went. It is so where none goes, and where one goes first and it is so of the others.
 
 module _ (Goes : Account Listing → List ℕ → Account Listing → Type 0) (none_goes : (a : Account Listing) → Goes a [] a)
-    (one_goes : (a new : Account Listing) (n : ℕ) (chunk : Chunk) (names : List ℕ) → IsSound a.allocator → map.get a.allocator.space.chunks n ≡ Some chunk → IsWhollyFree a.allocator.space n → Goes (account_without_chunk a n chunk) names new
+    (one_goes : (a new : Account Listing) (n : ℕ) (chunk : Chunk) (names : List ℕ) → IsSoundListing a.allocator → map.get a.allocator.space.chunks n ≡ Some chunk → IsWhollyFree a.allocator.space n → Goes (account_without_chunk a n chunk) names new
     → Goes a (chunk.object ∷ names) new) where
-  each_goes : (chunk_of : ℕ → Chunk) (gone : List ℕ) (a new : Account Listing) → IsSound a.allocator → AreRisingNumbers gone
+  each_goes : (chunk_of : ℕ → Chunk) (gone : List ℕ) (a new : Account Listing) → IsSoundListing a.allocator → AreRisingNumbers gone
       → ((n : ℕ) → Contains gone n → (map.get a.allocator.space.chunks n ≡ Some (chunk_of n)) × IsWhollyFree a.allocator.space n)
       → new ≡ record {
         allocator = record a.allocator { space = record a.allocator.space { chunks = without_numbers a.allocator.space.chunks gone } };
@@ -244,9 +244,9 @@ module _ (Goes : Account Listing → List ℕ → Account Listing → Type 0) (n
       remaining : a.remaining + length (n ∷ others) ≡ a.remaining + 1 + length others
       remaining = omega arith
 
-  pub all_go : (a new : Account Listing) (keep_last : Bool) (gone : List ℕ) (es : List Event) → IsSound a.allocator → AreGone a.allocator.space keep_last gone → LetsGo a gone es new → Goes a (list.map (object_of a.allocator.space) gone) new
+  pub all_go : (a new : Account Listing) (keep_last : Bool) (gone : List ℕ) (es : List Event) → IsSoundListing a.allocator → AreGone a.allocator.space keep_last gone → LetsGo a gone es new → Goes a (list.map (object_of a.allocator.space) gone) new
   all_go a new keep_last gone es sound are lets =
-      each_goes (λ n. record { object = object_of a.allocator.space n; size = size_of a.allocator.space n }) gone a new sound are.rising
+      each_goes (λ n. record { object = object_of a.allocator.space n; size = size_of_chunk a.allocator.space n }) gone a new sound are.rising
       (λ n has.
       let free = ((are.all n).0 has).0 in
       let there = found_value _ free.held in

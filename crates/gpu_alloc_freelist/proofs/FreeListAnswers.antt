@@ -9,18 +9,18 @@ use Rattle.gpu_alloc_types.specs.Device.{Object, Event, HeldWith}
 use Rattle.gpu_alloc_types.specs.Properties.{Properties}
 use Rattle.gpu_alloc_base.specs.Wanted.{Wanted}
 use Rattle.gpu_alloc_base.specs.Chunks.{Chunk, IsNew, IsThere}
-use Rattle.gpu_alloc_freelist.specs.FreeList.{IsTail, with_slot, with_chunk, first_tail}
+use Rattle.gpu_alloc_freelist.specs.FreeList.{IsTail, with_slot, with_numbered_chunk, first_tail}
 use Rattle.gpu_alloc_base.specs.Accounts.{Account}
 use Rattle.gpu_alloc_base.specs.Case.{Answers, RefusesFirst}
 use Rattle.gpu_alloc_base.specs.NewObject.{HasOneMore}
 use Rattle.gpu_alloc_freelist.specs.FreeListAllocator.{Agrees, ObjectsAfter, IsGranted, case_of, chunk_size, list_case, next_size, question, sees_chunks, listing_with_slot, rounded, alignment as alignment_of}
 use Rattle.gpu_alloc_base.proofs.Books.{KeepsBooks, refused_keeps, made_new, answers_agree as chunks_agree}
-use Rattle.gpu_alloc_freelist.specs.FreeListSound.{IsSound, IsSoundSpace, LiesInChunk}
-use Rattle.gpu_alloc_freelist.specs.FreeListState.{Space, Listing, IsLiveSlot, IsFreeIn}
+use Rattle.gpu_alloc_freelist.specs.FreeListSound.{IsSoundListing, IsSoundListSpace, LiesInChunk}
+use Rattle.gpu_alloc_freelist.specs.FreeListState.{ListSpace, Listing, IsLiveSlot, IsFreeIn}
 use Rattle.gpu_alloc_base.specs.FreeRuns.{AreFree, IsFreeRun, tail_start}
 use Rattle.gpu_alloc_base.specs.FreeSpace.{IsIn, IsMultipleOf, IsPowerOfTwo}
 use Rattle.gpu_alloc_base.specs.NewChunk.{chunk_question}
-use Rattle.gpu_alloc_freelist.specs.FreeListInside.{FitsAChunk}
+use Rattle.gpu_alloc_freelist.specs.FreeListInside.{FitsAListChunk}
 use Rattle.gpu_alloc_base.specs.AlignMasks.{IsAlignMask}
 use Rattle.gpu_alloc_base.specs.declared.error.AllocationError.{AllocationError}
 use Rattle.gpu_alloc_base.specs.declared.free_list_block.Slot.{Slot}
@@ -36,14 +36,14 @@ use Rattle.gpu_alloc_base.proofs.FreeRuns.{run_stops, tail_below, tail_ends}
 -- A block more.
 
 -- the bytes of a block were free
-abbrev pub WasFree : Space → Slot → Type 0
+abbrev pub WasFree : ListSpace → Slot → Type 0
 WasFree s slot = AreFree (IsFreeIn s) slot.chunk slot.offset (slot.offset + slot.size)
 
 -- a block begins and ends at whole atoms
 abbrev pub IsOfAtoms : ℕ → Slot → Type 0
 IsOfAtoms atom slot = IsMultipleOf atom slot.offset × IsMultipleOf atom slot.size
 
-pub sound_with_slot : (l : Listing) (slot : Slot) → IsSound l → LiesInChunk l.space slot → WasFree l.space slot → IsOfAtoms l.atom slot → IsSound (listing_with_slot l slot)
+pub sound_with_slot : (l : Listing) (slot : Slot) → IsSoundListing l → LiesInChunk l.space slot → WasFree l.space slot → IsOfAtoms l.atom slot → IsSoundListing (listing_with_slot l slot)
 sound_with_slot l slot s lies free atoms = record {
   space = space_with_slot l.space slot s.space lies free;
   one_object = s.one_object;
@@ -58,13 +58,13 @@ sound_with_slot l slot s lies free atoms = record {
 
 -- the allocator with one chunk more
 abbrev pub listing_with_chunk : Listing → ℕ → ℕ → Listing
-listing_with_chunk l object whole = record l { space = with_chunk l.space object whole; next_chunk = next_size l whole }
+listing_with_chunk l object whole = record l { space = with_numbered_chunk l.space object whole; next_chunk = next_size l whole }
 
 -- no held chunk is of this object
 abbrev pub IsOther : Listing → ℕ → Type 0
 IsOther l object = (k : ℕ) (c : Chunk) → map.get l.space.chunks k ≡ Some c → c.object ≡ object → ⊥
 
-pub sound_with_chunk : (l : Listing) (object whole : ℕ) → IsSound l → IsOther l object → 0 < whole → whole ≤ l.final_chunk → IsMultipleOf l.atom whole → IsSound (listing_with_chunk l object whole)
+pub sound_with_chunk : (l : Listing) (object whole : ℕ) → IsSoundListing l → IsOther l object → 0 < whole → whole ≤ l.final_chunk → IsMultipleOf l.atom whole → IsSoundListing (listing_with_chunk l object whole)
 sound_with_chunk l object whole s other some fits atoms =
     let m = l.space.chunks in
     let number : ℕ = l.space.latest + 1 in
@@ -98,11 +98,11 @@ pub record IsAskable (l : Listing) (size alignment : ℕ) : Type 0 where
   pub aligned : l.atom ≤ alignment
 
 -- a tail starts at whole atoms
-tail_atoms : (l : Listing) (size alignment end : ℕ) → IsSound l → IsAskable l size alignment → IsMultipleOf l.atom (tail_start size alignment end)
+tail_atoms : (l : Listing) (size alignment end : ℕ) → IsSoundListing l → IsAskable l size alignment → IsMultipleOf l.atom (tail_start size alignment end)
 tail_atoms l size alignment end s asked = multiple_of_lower l.atom alignment (tail_start size alignment end) (s.atom.0, s.atom.1.1) asked.power asked.aligned (multiple_down (end - size) alignment)
 
 -- a free run ends at whole atoms: where its chunk does, or where a live block starts
-pub run_ends : (l : Listing) (chunk start end : ℕ) → IsSound l → IsFreeRun (IsFreeIn l.space) chunk start end → IsMultipleOf l.atom end
+pub run_ends : (l : Listing) (chunk start end : ℕ) → IsSoundListing l → IsFreeRun (IsFreeIn l.space) chunk start end → IsMultipleOf l.atom end
 run_ends l chunk start end s run =
     let last = run.free (end - 1) (omega (arith, run.nonempty)) (omega (arith, run.nonempty)) in
     let never : (end % l.atom ≡ 0 → ⊥) → ⊥ = λ odd.
@@ -131,14 +131,14 @@ run_ends l chunk start end s run =
 
 -- the tail of a run
 
-pub tail_enough : (s : Space) (size alignment : ℕ) (slot : Slot) → IsTail s size alignment slot → size ≤ slot.size
+pub tail_enough : (s : ListSpace) (size alignment : ℕ) (slot : Slot) → IsTail s size alignment slot → size ≤ slot.size
 tail_enough s size alignment slot tail = omega (arith, tail.start, tail.end, tail_below size alignment tail.run.end, tail.last.room.enough)
 
-pub tail_free : (s : Space) (size alignment : ℕ) (slot : Slot) → IsTail s size alignment slot → WasFree s slot
+pub tail_free : (s : ListSpace) (size alignment : ℕ) (slot : Slot) → IsTail s size alignment slot → WasFree s slot
 tail_free s size alignment slot tail at low high =
     subst (λ k. IsFreeIn s k at) (sym tail.chunk) (tail.last.run.free at (omega (arith, low, tail.start, tail.last.room.from)) (omega (arith, high, tail.end)))
 
-pub tail_lies : (s : Space) (size alignment : ℕ) (slot : Slot) → 0 < size → IsTail s size alignment slot → LiesInChunk s slot
+pub tail_lies : (s : ListSpace) (size alignment : ℕ) (slot : Slot) → 0 < size → IsTail s size alignment slot → LiesInChunk s slot
 tail_lies s size alignment slot some tail =
     let enough = tail_enough s size alignment slot tail in
     let last = tail_free s size alignment slot tail (slot.offset + slot.size - 1) (omega (arith, some, enough)) (omega (arith, some, enough)) in
@@ -151,25 +151,25 @@ tail_lies s size alignment slot some tail =
       inside = omega (arith, some, enough, last.inside, ap (λ (c : Chunk). c.size) same);
     }
 
-pub tail_of_atoms : (l : Listing) (size alignment : ℕ) (slot : Slot) → IsSound l → IsAskable l size alignment → IsTail l.space size alignment slot → IsOfAtoms l.atom slot
+pub tail_of_atoms : (l : Listing) (size alignment : ℕ) (slot : Slot) → IsSoundListing l → IsAskable l size alignment → IsTail l.space size alignment slot → IsOfAtoms l.atom slot
 tail_of_atoms l size alignment slot s asked tail =
     let start = subst (IsMultipleOf l.atom) (sym tail.start) (tail_atoms l size alignment tail.run.end s asked) in
     (start, multiple_rest l.atom slot.offset slot.size start (subst (IsMultipleOf l.atom) (sym tail.end) (run_ends l tail.run.chunk tail.run.start tail.run.end s tail.last.run)))
 
-pub sound_with_tail : (l : Listing) (size alignment : ℕ) (slot : Slot) → IsSound l → IsAskable l size alignment → IsTail l.space size alignment slot → IsSound (listing_with_slot l slot)
+pub sound_with_tail : (l : Listing) (size alignment : ℕ) (slot : Slot) → IsSoundListing l → IsAskable l size alignment → IsTail l.space size alignment slot → IsSoundListing (listing_with_slot l slot)
 sound_with_tail l size alignment slot s asked tail =
     sound_with_slot l slot s (tail_lies l.space size alignment slot asked.nonempty tail) (tail_free l.space size alignment slot tail) (tail_of_atoms l size alignment slot s asked tail)
 
 -- and of a new chunk
 
-module _ (s : Space) (object whole size alignment : ℕ) where
+module _ (s : ListSpace) (object whole size alignment : ℕ) where
   abbrev first : Slot
   first = first_tail s object whole size alignment
 
   pub first_enough : size ≤ whole → size ≤ first.size
   first_enough fits = omega (arith, fits, tail_below size alignment whole)
 
-  pub first_free : IsSoundSpace s → WasFree (with_chunk s object whole) first
+  pub first_free : IsSoundListSpace s → WasFree (with_numbered_chunk s object whole) first
   first_free k at low high = record {
     held = record { object = object; size = whole };
     is = own_inserted s.chunks (s.latest + 1) (record { object = object; size = whole });
@@ -177,7 +177,7 @@ module _ (s : Space) (object whole size alignment : ℕ) where
     unused = λ q live same. absurd (none_in_next s k q live same);
   }
 
-  pub first_lies : 0 < size → size ≤ whole → LiesInChunk (with_chunk s object whole) first
+  pub first_lies : 0 < size → size ≤ whole → LiesInChunk (with_numbered_chunk s object whole) first
   first_lies some fits = record {
     chunk = record { object = object; size = whole };
     held = own_inserted s.chunks (s.latest + 1) (record { object = object; size = whole });
@@ -186,7 +186,7 @@ module _ (s : Space) (object whole size alignment : ℕ) where
     inside = omega (arith, tail_below size alignment whole);
   }
 
-pub first_of_atoms : (l : Listing) (object whole size alignment : ℕ) → IsSound l → IsAskable l size alignment → IsMultipleOf l.atom whole → IsOfAtoms l.atom (first_tail l.space object whole size alignment)
+pub first_of_atoms : (l : Listing) (object whole size alignment : ℕ) → IsSoundListing l → IsAskable l size alignment → IsMultipleOf l.atom whole → IsOfAtoms l.atom (first_tail l.space object whole size alignment)
 first_of_atoms l object whole size alignment s asked atoms =
     let start = tail_atoms l size alignment whole s asked in
     let end : tail_start size alignment whole + (whole - tail_start size alignment whole) ≡ whole = tail_ends size alignment whole in
@@ -205,7 +205,7 @@ other_objects l p objects object agrees none k c is same =
 abbrev pub listing_in_new_chunk : Listing → ℕ → ℕ → ℕ → Listing
 listing_in_new_chunk l object size alignment = listing_with_slot (listing_with_chunk l object (chunk_size l size)) (first_tail l.space object (chunk_size l size) size alignment)
 
-pub sound_in_new_chunk : (l : Listing) (object size alignment : ℕ) → IsSound l → IsOther l object → IsAskable l size alignment → IsSound (listing_in_new_chunk l object size alignment)
+pub sound_in_new_chunk : (l : Listing) (object size alignment : ℕ) → IsSoundListing l → IsOther l object → IsAskable l size alignment → IsSoundListing (listing_in_new_chunk l object size alignment)
 sound_in_new_chunk l object size alignment s other asked =
     let whole : ℕ = chunk_size l size in
     let enough = chunk_size_enough l size s asked.nonempty asked.fits in
@@ -219,7 +219,7 @@ sound_in_new_chunk l object size alignment s other asked =
 -- A request as the books see it.
 
 -- one that is in order keeps them
-module _ (a : Account Listing) (size alignment flags : ℕ) (s : IsSound a.allocator) where
+module _ (a : Account Listing) (size alignment flags : ℕ) (s : IsSoundListing a.allocator) where
   pub keeps_books : KeepsBooks (λ l. l.space.chunks) (λ slot. slot.chunk) (list_case a size alignment flags)
   keeps_books = record {
     count = refl;
@@ -243,7 +243,7 @@ made_in : (l after : Listing) (slot : Slot) (f g : ℕ → Option Object) → Ob
 made_in l after slot f g objects none = made_new (λ (q : Slot). q.chunk) (λ (q : Slot). q.object) l.memory_type l.props l.space.chunks after.space.chunks slot f g objects none
 
 -- the device held none of its name
-was_new : (a new : Account Listing) (size alignment flags : ℕ) (slot : Slot) (f g : ℕ → Option Object) → IsSound a.allocator → slot ≡ first_tail a.allocator.space slot.object (chunk_size a.allocator size) size alignment
+was_new : (a new : Account Listing) (size alignment flags : ℕ) (slot : Slot) (f g : ℕ → Option Object) → IsSoundListing a.allocator → slot ≡ first_tail a.allocator.space slot.object (chunk_size a.allocator size) size alignment
     → ObjectsAfter a.allocator (Ok slot) new.allocator f g → f slot.object ≡ None
 was_new a new size alignment flags slot f g s is objects =
     let entered = (keeps_books a size alignment flags s).in_new slot is in
@@ -253,8 +253,8 @@ was_new a new size alignment flags slot f g s is objects =
 -- What is sound stays so.
 
 -- after every answer
-pub answers_sound : (a new : Account Listing) (size alignment flags : ℕ) (es : List Event) (answer : Result Slot AllocationError) (p : Properties) (f g : ℕ → Option Object) → IsSound a.allocator → Agrees a.allocator p f
-    → IsAskable a.allocator size alignment → Answers (list_case a size alignment flags) es answer new → ObjectsAfter a.allocator answer new.allocator f g → IsSound new.allocator
+pub answers_sound : (a new : Account Listing) (size alignment flags : ℕ) (es : List Event) (answer : Result Slot AllocationError) (p : Properties) (f g : ℕ → Option Object) → IsSoundListing a.allocator → Agrees a.allocator p f
+    → IsAskable a.allocator size alignment → Answers (list_case a size alignment flags) es answer new → ObjectsAfter a.allocator answer new.allocator f g → IsSoundListing new.allocator
 answers_sound a new size alignment flags es (Ok slot) p f g s agrees asked (inl gives) objects =
     rw (gives.state) (sound_with_tail a.allocator size alignment slot s asked gives.place)
 answers_sound a new size alignment flags es (Ok slot) p f g s agrees asked (inr gives) objects =
@@ -272,7 +272,7 @@ kept_type a new size alignment flags es (Ok slot) (inr gives) = rw (gives.state)
 kept_type a new size alignment flags es (Err e) refused = rw (refused_keeps (list_case a size alignment flags) es e new refused) (refl, refl)
 
 -- after every answer
-pub answers_agree : (a new : Account Listing) (size alignment flags : ℕ) (es : List Event) (answer : Result Slot AllocationError) (p now : Properties) (f g : ℕ → Option Object) → IsSound a.allocator → Agrees a.allocator p f → now ≡ p
+pub answers_agree : (a new : Account Listing) (size alignment flags : ℕ) (es : List Event) (answer : Result Slot AllocationError) (p now : Properties) (f g : ℕ → Option Object) → IsSoundListing a.allocator → Agrees a.allocator p f → now ≡ p
     → Answers (list_case a size alignment flags) es answer new → ObjectsAfter a.allocator answer new.allocator f g → Agrees new.allocator now g
 answers_agree a new size alignment flags es answer p now f g s agrees same answers objects =
     let kept = kept_type a new size alignment flags es answer answers in
@@ -294,11 +294,11 @@ starts_aligned l w size alignment end at r is =
     (subst (IsMultipleOf (w.align_mask + 1)) (sym is) (multiple_of_lower (w.align_mask + 1) alignment (tail_start size alignment end) r.power r.asked.power r.aligned (multiple_down (end - size) alignment)))
 
 -- what follows of a live block, once all is sound
-granted_now : (old : Listing) (w : Wanted) (now new : Listing) (slot : Slot) → new ≡ now → IsSound new → IsLiveSlot now.space slot → now.atom ≡ old.atom → w.size ≤ slot.size → slot.offset % (w.align_mask + 1) ≡ 0
+granted_now : (old : Listing) (w : Wanted) (now new : Listing) (slot : Slot) → new ≡ now → IsSoundListing new → IsLiveSlot now.space slot → now.atom ≡ old.atom → w.size ≤ slot.size → slot.offset % (w.align_mask + 1) ≡ 0
     → ((other : Slot) → IsLiveSlot old.space other → other.object ≡ slot.object → (at : ℕ) → IsIn other.offset other.size at → IsIn slot.offset slot.size at → ⊥)
     → IsGranted old w new slot
 granted_now old w now new slot is sound live atom enough aligned was_free =
-    let s : IsSound now = subst IsSound is sound in
+    let s : IsSoundListing now = subst IsSoundListing is sound in
     let there = s.space.inside slot live in
     let atoms = subst (λ n. IsOfAtoms n slot) atom (s.slots slot live) in
     rw is (record {
@@ -310,7 +310,7 @@ granted_now old w now new slot is sound live atom enough aligned was_free =
       was_free = was_free;
     })
 
-pub answers_granted : (a new : Account Listing) (w : Wanted) (size alignment flags : ℕ) (es : List Event) (answer : Result Slot AllocationError) (p : Properties) (f g : ℕ → Option Object) → IsSound a.allocator → Agrees a.allocator p f
+pub answers_granted : (a new : Account Listing) (w : Wanted) (size alignment flags : ℕ) (es : List Event) (answer : Result Slot AllocationError) (p : Properties) (f g : ℕ → Option Object) → IsSoundListing a.allocator → Agrees a.allocator p f
     → IsRoundedTo a.allocator w size alignment → Answers (list_case a size alignment flags) es answer new → ObjectsAfter a.allocator answer new.allocator f g → IfOk answer (IsGranted a.allocator w new.allocator)
 answers_granted a new w size alignment flags es (Ok slot) p f g s agrees r (inl gives) objects =
     let t = gives.place in
@@ -329,7 +329,7 @@ answers_granted a new w size alignment flags es (Ok slot) p f g s agrees r (inr 
     let first = first_tail a.allocator.space slot.object whole size alignment in
     let fits = chunk_size_enough a.allocator size s r.asked.nonempty r.asked.fits in
     granted_now a.allocator w (listing_in_new_chunk a.allocator slot.object size alignment) new.allocator slot (ap (λ (x : Account Listing). x.allocator) gives.state) sound
-    (subst (IsLiveSlot (with_slot (with_chunk a.allocator.space slot.object whole) first)) (sym is) (now_live (with_chunk a.allocator.space slot.object whole) first)) refl
+    (subst (IsLiveSlot (with_slot (with_numbered_chunk a.allocator.space slot.object whole) first)) (sym is) (now_live (with_numbered_chunk a.allocator.space slot.object whole) first)) refl
     (omega (arith, r.enough, first_enough a.allocator.space slot.object whole size alignment fits, ap (λ (q : Slot). q.size) is)) (starts_aligned a.allocator w size alignment whole slot.offset r (ap (λ (q : Slot). q.offset) is))
     (λ other live same at in_other in_slot.
     let there = s.space.inside other live in
@@ -338,11 +338,11 @@ answers_granted a new w size alignment flags es (Err e) p f g s agrees r answers
 
 -- What is looked for.
 
-pub askable : (l : Listing) (size mask : ℕ) → FitsAChunk l size mask → IsAskable l size (mask + 1)
+pub askable : (l : Listing) (size mask : ℕ) → FitsAListChunk l size mask → IsAskable l size (mask + 1)
 askable l size mask r = record { nonempty = r.nonempty; fits = r.fits; power = power_of_bit (mask + 1) r.alignment.power; aligned = r.aligned }
 
 -- what a request is rounded to
-pub rounds : (l : Listing) (w : Wanted) (size alignment : ℕ) → size ≡ rounded l w → alignment ≡ alignment_of l w → IsSound l → 0 < w.size → rounded l w ≤ l.final_chunk → IsAlignMask w.align_mask → IsRoundedTo l w size alignment
+pub rounds : (l : Listing) (w : Wanted) (size alignment : ℕ) → size ≡ rounded l w → alignment ≡ alignment_of l w → IsSoundListing l → 0 < w.size → rounded l w ≤ l.final_chunk → IsAlignMask w.align_mask → IsRoundedTo l w size alignment
 rounds l w size alignment size_is alignment_is s some fits mask =
     let atom : IsPowerOfTwo l.atom = (s.atom.0, s.atom.1.1) in
     let enough = up_enough w.size l.atom some (omega (arith, s.atom.1.1, pow_pos s.atom.0)) in
@@ -371,13 +371,13 @@ pub question_is : (l : Listing) (size whole flags : ℕ) (visible : Bool) → wh
 question_is l size whole flags visible whole_is sees = λ i. record { size = whole_is i; memory_type = l.memory_type; flags = flags; mapped = sees i }
 
 -- the allocator with a block in it
-pub grown_is : (l : Listing) (s now : Space) (slot : Slot) (object whole next size alignment : ℕ) → s ≡ l.space → slot ≡ first_tail s object whole size alignment → now ≡ with_slot (with_chunk s object whole) slot
+pub grown_is : (l : Listing) (s now : ListSpace) (slot : Slot) (object whole next size alignment : ℕ) → s ≡ l.space → slot ≡ first_tail s object whole size alignment → now ≡ with_slot (with_numbered_chunk s object whole) slot
     → whole ≡ chunk_size l size → next ≡ next_size l whole → record l { space = now; next_chunk = next } ≡ listing_in_new_chunk l object size alignment
 grown_is l s now slot object whole next size alignment s_is slot_is now_is whole_is next_is =
-    let space : now ≡ with_slot (with_chunk l.space object (chunk_size l size)) (first_tail l.space object (chunk_size l size) size alignment) =
+    let space : now ≡ with_slot (with_numbered_chunk l.space object (chunk_size l size)) (first_tail l.space object (chunk_size l size) size alignment) =
     now_is
-    ∙ ap (with_slot (with_chunk s object whole)) slot_is
-    ∙ ap (λ x. with_slot (with_chunk x object whole) (first_tail x object whole size alignment)) s_is
-    ∙ ap (λ n. with_slot (with_chunk l.space object n) (first_tail l.space object n size alignment)) whole_is in
+    ∙ ap (with_slot (with_numbered_chunk s object whole)) slot_is
+    ∙ ap (λ x. with_slot (with_numbered_chunk x object whole) (first_tail x object whole size alignment)) s_is
+    ∙ ap (λ n. with_slot (with_numbered_chunk l.space object n) (first_tail l.space object n size alignment)) whole_is in
     let next_one : next ≡ next_size l (chunk_size l size) = next_is ∙ ap (next_size l) whole_is in
     λ i. record l { space = space i; next_chunk = next_one i }

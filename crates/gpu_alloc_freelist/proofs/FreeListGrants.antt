@@ -11,12 +11,12 @@ use Rattle.std.specs.FinMap as map
 use Rattle.std.specs.FinSet as set
 use Rattle.gpu_alloc_base.specs.Accounts.{HeldChunks}
 use Rattle.gpu_alloc_base.specs.Chunks.{Chunk}
-use Rattle.gpu_alloc_freelist.specs.FreeList.{HasPlace, IsTail, TakesTail, first_tail, with_slot, with_chunk}
+use Rattle.gpu_alloc_freelist.specs.FreeList.{HasPlace, IsTail, TakesTail, first_tail, with_slot, with_numbered_chunk}
 use Rattle.gpu_alloc_base.specs.Slots.{region_of, slot_cmp}
-use Rattle.gpu_alloc_freelist.specs.FreeListInside.{IsListed, room_for, space_in}
+use Rattle.gpu_alloc_freelist.specs.FreeListInside.{IsListed, list_space_in, room_for}
 use Rattle.gpu_alloc_freelist.specs.Runs.{IsLastFit}
-use Rattle.gpu_alloc_freelist.specs.FreeListSound.{IsSoundSpace}
-use Rattle.gpu_alloc_freelist.specs.FreeListState.{Space, IsFreeIn}
+use Rattle.gpu_alloc_freelist.specs.FreeListSound.{IsSoundListSpace}
+use Rattle.gpu_alloc_freelist.specs.FreeListState.{ListSpace, IsFreeIn}
 use Rattle.gpu_alloc_freelist.specs.Wholes.{wholes}
 use Rattle.gpu_alloc_base.specs.FreeRuns.{AreFree, AreRising, AreRuns, AreRunsBeside, HasRoom, IsBefore, IsFreeRun, IsLastWithRoom, IsSpaced, Without, tail_start}
 use Rattle.gpu_alloc_base.specs.declared.free_list_block.Slot.{Slot}
@@ -96,14 +96,14 @@ one_list F xs ys are rising runs =
     (λ r has. (are r).1 (region_is_run F (Contains ys) runs.spaced r has))
 
 -- what was found in one list of runs is found in another of the same bytes
-pub found_again : (s t : Space) (xs ys : List FreeListRegion) (size alignment i : ℕ) → s ≡ t → AreRuns xs (IsFreeIn s) → AreRuns ys (IsFreeIn t) → IsFoundAt ys size alignment i → IsFoundAt xs size alignment i
+pub found_again : (s t : ListSpace) (xs ys : List FreeListRegion) (size alignment i : ℕ) → s ≡ t → AreRuns xs (IsFreeIn s) → AreRuns ys (IsFreeIn t) → IsFoundAt ys size alignment i → IsFoundAt xs size alignment i
 found_again s t xs ys size alignment i same runs_x runs_y found =
     let one : ys ≡ xs = same_runs (IsFreeIn s) ys xs (subst (λ u. AreRuns ys (IsFreeIn u)) (sym same) runs_y) runs_x in
     subst (λ rs. IsFoundAt rs size alignment i) one found
 
 -- A block more.
 
-module _ (s : Space) (slot : Slot) where
+module _ (s : ListSpace) (slot : Slot) where
   -- the free bytes are those that were, but for the block's
   pub free_without : (chunk at : ℕ) → IsFreeIn (with_slot s slot) chunk at → Without (IsFreeIn s) (region_of slot) chunk at
   free_without chunk at free = (
@@ -132,13 +132,13 @@ module _ (s : Space) (slot : Slot) where
       split false not_live = refl
 
 -- the runs without a block's bytes, which becomes live
-pub record IsTaken (s : Space) (regions : List FreeListRegion) (slot : Slot) : Type 0 where
+pub record IsTaken (s : ListSpace) (regions : List FreeListRegion) (slot : Slot) : Type 0 where
   pub runs : AreRuns regions (IsFreeIn (with_slot s slot))
-  pub sound : IsSoundSpace (with_slot s slot)
+  pub sound : IsSoundListSpace (with_slot s slot)
   pub fresh : set.contains s.live slot ≡ false
 
 -- so it is where the bytes in hand are the block's, in its chunk
-pub taken : (s : Space) (regions : List FreeListRegion) (slot : Slot) (chunk : Chunk) → IsSoundSpace s → AreRunsBeside regions (IsFreeIn s) (region_of slot) → 0 < slot.size
+pub taken : (s : ListSpace) (regions : List FreeListRegion) (slot : Slot) (chunk : Chunk) → IsSoundListSpace s → AreRunsBeside regions (IsFreeIn s) (region_of slot) → 0 < slot.size
     → map.get s.chunks slot.chunk ≡ Some chunk → slot.object ≡ chunk.object → IsTaken s regions slot
 taken s regions slot chunk sound beside some held object =
     let last = beside.inside (slot.offset + slot.size - 1) (omega (arith, some)) (omega (arith, some)) in
@@ -151,17 +151,17 @@ taken s regions slot chunk sound beside some held object =
 
 -- A chunk more.
 
-module _ (s : Space) (object size : ℕ) where
+module _ (s : ListSpace) (object size : ℕ) where
   -- the space with the chunk, and the chunk
-  abbrev mid : Space
-  mid = with_chunk s object size
+  abbrev mid : ListSpace
+  mid = with_numbered_chunk s object size
 
   abbrev made : Chunk
   made = record { object = object; size = size }
 
   -- Its tail from some offset on is taken.
 
-  module _ (sound : IsSoundSpace s) (offset : ℕ) (below : offset < size) where
+  module _ (sound : IsSoundListSpace s) (offset : ℕ) (below : offset < size) where
     abbrev pub tail : Slot
     tail = record { object = object; chunk = s.latest + 1; offset = offset; size = size - offset }
 
@@ -253,7 +253,7 @@ module _ (s : Space) (object size : ℕ) where
 
 -- Places.
 
-module _ (s : Space) (regions : List FreeListRegion) (runs : AreRuns regions (IsFreeIn s)) (size alignment : ℕ) (positive : 0 < alignment) where
+module _ (s : ListSpace) (regions : List FreeListRegion) (runs : AreRuns regions (IsFreeIn s)) (size alignment : ℕ) (positive : 0 < alignment) where
   -- where no region has room there is no place
   pub no_place : 0 < size → All (λ r. HasRoom size alignment r.start r.end → ⊥) regions → HasPlace s size alignment → ⊥
   no_place some none place =
@@ -274,13 +274,13 @@ module _ (s : Space) (regions : List FreeListRegion) (runs : AreRuns regions (Is
   found_or_none None some at none = ((λ t. absurd (cc)), (λ place. absurd (no_place some none place)))
 
 -- a region is a free run, and a free run a region
-pub regions_are_runs : (s : Space) (regions : List FreeListRegion) → AreRuns regions (IsFreeIn s) → (r : FreeListRegion) → Contains regions r ↔ IsFreeRun (IsFreeIn s) r.chunk r.start r.end
+pub regions_are_runs : (s : ListSpace) (regions : List FreeListRegion) → AreRuns regions (IsFreeIn s) → (r : FreeListRegion) → Contains regions r ↔ IsFreeRun (IsFreeIn s) r.chunk r.start r.end
 regions_are_runs s regions runs r = (region_is_run (IsFreeIn s) (Contains regions) runs.spaced r, run_is_region (IsFreeIn s) (Contains regions) runs.spaced r)
 
 -- The tail of a run.
 
 -- what an error is returned for
-pub refused : {E : Type 0} (s new : Space) (size alignment : ℕ) (r : Result (Option Slot) E) → IsErr r → HasPlace s size alignment → new ≡ s → TakesTail s size alignment r new
+pub refused : {E : Type 0} (s new : ListSpace) (size alignment : ℕ) (r : Result (Option Slot) E) → IsErr r → HasPlace s size alignment → new ≡ s → TakesTail s size alignment r new
 refused s new size alignment (Err e) err place same = (place, same)
 refused s new size alignment (Ok o) err place same = absurd (cc)
 
@@ -339,7 +339,7 @@ module _ (regions : List FreeListRegion) (size alignment i : ℕ) (r : FreeListR
       let end = ap (λ (q : FreeListRegion). q.end) e ∙ sym tail_end in
       λ k. record { chunk = chunk k; start = slot.offset; end = end k }
 
-  module _ (s : Space) (runs : AreRuns regions (IsFreeIn s)) (chunk : Chunk) (held : map.get s.chunks r.chunk ≡ Some chunk) (object : slot.object ≡ chunk.object) where
+  module _ (s : ListSpace) (runs : AreRuns regions (IsFreeIn s)) (chunk : Chunk) (held : map.get s.chunks r.chunk ≡ Some chunk) (object : slot.object ≡ chunk.object) where
     -- the chunk of the tail
     pub tail_held : map.get s.chunks slot.chunk ≡ Some chunk
     tail_held = subst (λ k. map.get s.chunks k ≡ Some chunk) (sym of.chunk) held
@@ -356,17 +356,17 @@ module _ (regions : List FreeListRegion) (size alignment i : ℕ) (r : FreeListR
     }
 
     -- and becomes a live block
-    pub tail_taken : (new : List FreeListRegion) → 0 < size → IsSoundSpace s → ((d : FreeListRegion) → AreRunsBeside new (IsFreeIn s) (record (get_or regions i d) { start = slot.offset })) → IsTaken s new slot
+    pub tail_taken : (new : List FreeListRegion) → 0 < size → IsSoundListSpace s → ((d : FreeListRegion) → AreRunsBeside new (IsFreeIn s) (record (get_or regions i d) { start = slot.offset })) → IsTaken s new slot
     tail_taken new some sound beside = taken s new slot chunk sound (subst (AreRunsBeside new (IsFreeIn s)) (tail_region r) (beside r)) (tail_some some) tail_held object
 
 -- What the stores keep with a block more.
 
 pub listed : (chunks : HeldChunks) (latest : ℕ) (live new : set.FinSet slot_cmp) (regions : List FreeListRegion) (slot : Slot) (count room whole : ℕ) → new ≡ set.insert live slot
-    → IsTaken (space_in chunks live latest) regions slot → count ≤ room → wholes chunks regions ≡ whole → IsListed (space_in chunks new latest) regions count room whole
+    → IsTaken (list_space_in chunks live latest) regions slot → count ≤ room → wholes chunks regions ≡ whole → IsListed (list_space_in chunks new latest) regions count room whole
 listed chunks latest live new regions slot count room whole is took enough counted =
-    let e : with_slot (space_in chunks live latest) slot ≡ space_in chunks new latest = ap (λ l. space_in chunks l latest) (sym is) in
+    let e : with_slot (list_space_in chunks live latest) slot ≡ list_space_in chunks new latest = ap (λ l. list_space_in chunks l latest) (sym is) in
     record {
-      sound = subst IsSoundSpace e took.sound;
+      sound = subst IsSoundListSpace e took.sound;
       runs = subst (λ s. AreRuns regions (IsFreeIn s)) e took.runs;
       room = enough;
       whole = counted;
@@ -379,12 +379,12 @@ some_room chunks live regions some = (omega (arith, some), (omega (arith, some),
 -- The lists with a new chunk, and the block that is its tail.
 
 -- a slot is the tail of a new chunk
-pub record IsFirstTail (s : Space) (object whole size alignment : ℕ) (slot : Slot) : Type 0 where
+pub record IsFirstTail (s : ListSpace) (object whole size alignment : ℕ) (slot : Slot) : Type 0 where
   pub is : slot ≡ first_tail s object whole size alignment
   pub some : 0 < size
   pub inside : size ≤ whole
 
-module _ (s : Space) (object whole size alignment : ℕ) (slot : Slot) (of : IsFirstTail s object whole size alignment slot) (sound : IsSoundSpace s) where
+module _ (s : ListSpace) (object whole size alignment : ℕ) (slot : Slot) (of : IsFirstTail s object whole size alignment slot) (sound : IsSoundListSpace s) where
   first_start : slot.offset ≡ tail_start size alignment whole
   first_start = ap (λ (x : Slot). x.offset) of.is
 
@@ -403,35 +403,35 @@ module _ (s : Space) (object whole size alignment : ℕ) (slot : Slot) (of : IsF
       λ k. record { chunk = chunk k; start = slot.offset; end = end k }
 
   -- nothing of the chunk is left
-  pub begun_at_0 : (regions : List FreeListRegion) → AreRuns regions (IsFreeIn s) → slot.offset ≡ 0 → AreRunsBeside regions (IsFreeIn (with_chunk s object whole)) (region_of slot)
-  begun_at_0 regions runs none = subst (AreRunsBeside regions (IsFreeIn (with_chunk s object whole))) first_region (taken_at_0 s object whole sound slot.offset first_below regions runs none)
+  pub begun_at_0 : (regions : List FreeListRegion) → AreRuns regions (IsFreeIn s) → slot.offset ≡ 0 → AreRunsBeside regions (IsFreeIn (with_numbered_chunk s object whole)) (region_of slot)
+  begun_at_0 regions runs none = subst (AreRunsBeside regions (IsFreeIn (with_numbered_chunk s object whole))) first_region (taken_at_0 s object whole sound slot.offset first_below regions runs none)
 
   -- the front is left, and pushed
-  pub begun_behind : (regions new : List FreeListRegion) → AreRuns regions (IsFreeIn s) → 0 < slot.offset → new ≡ regions ++ record { chunk = s.latest + 1; start = 0; end = slot.offset } ∷ [] → AreRunsBeside new (IsFreeIn (with_chunk s object whole)) (region_of slot)
+  pub begun_behind : (regions new : List FreeListRegion) → AreRuns regions (IsFreeIn s) → 0 < slot.offset → new ≡ regions ++ record { chunk = s.latest + 1; start = 0; end = slot.offset } ∷ [] → AreRunsBeside new (IsFreeIn (with_numbered_chunk s object whole)) (region_of slot)
   begun_behind regions new runs some pushed_is =
-      subst (λ rs. AreRunsBeside rs (IsFreeIn (with_chunk s object whole)) (region_of slot)) (sym pushed_is)
-      (subst (AreRunsBeside (regions ++ record { chunk = s.latest + 1; start = 0; end = slot.offset } ∷ []) (IsFreeIn (with_chunk s object whole))) first_region (taken_behind s object whole sound slot.offset first_below regions runs some))
+      subst (λ rs. AreRunsBeside rs (IsFreeIn (with_numbered_chunk s object whole)) (region_of slot)) (sym pushed_is)
+      (subst (AreRunsBeside (regions ++ record { chunk = s.latest + 1; start = 0; end = slot.offset } ∷ []) (IsFreeIn (with_numbered_chunk s object whole))) first_region (taken_behind s object whole sound slot.offset first_below regions runs some))
 
   -- the tail becomes a live block
-  pub begun_taken : (new : List FreeListRegion) → whole < 2 ^ 64 → AreRunsBeside new (IsFreeIn (with_chunk s object whole)) (region_of slot) → IsTaken (with_chunk s object whole) new slot
+  pub begun_taken : (new : List FreeListRegion) → whole < 2 ^ 64 → AreRunsBeside new (IsFreeIn (with_numbered_chunk s object whole)) (region_of slot) → IsTaken (with_numbered_chunk s object whole) new slot
   begun_taken new fits beside =
       let chunk : Chunk = record { object = object; size = whole } in
       let own = own_inserted s.chunks (s.latest + 1) chunk in
       let number : s.latest + 1 ≡ slot.chunk = ap (λ (x : Slot). x.chunk) (sym of.is) in
-      taken (with_chunk s object whole) new slot chunk (space_with_chunk s object whole sound (omega (arith, first_below)) fits) beside (omega (arith, first_start, first_size, first_below))
-      (subst (λ k. map.get (with_chunk s object whole).chunks k ≡ Some chunk) number own) (ap (λ (x : Slot). x.object) of.is)
+      taken (with_numbered_chunk s object whole) new slot chunk (space_with_chunk s object whole sound (omega (arith, first_below)) fits) beside (omega (arith, first_start, first_size, first_below))
+      (subst (λ k. map.get (with_numbered_chunk s object whole).chunks k ≡ Some chunk) number own) (ap (λ (x : Slot). x.object) of.is)
 
 module _ (chunks more : HeldChunks) (latest now object whole : ℕ) (live new : set.FinSet slot_cmp) (slot : Slot) (chunks_are : more ≡ map.insert chunks (latest + 1) (record { object = object; size = whole })) (now_is : now ≡ latest + 1)
     (live_are : new ≡ set.insert live slot) where
   -- the stores tell the space with the chunk and the block
-  pub with_chunk_in : space_in more new now ≡ with_slot (with_chunk (space_in chunks live latest) object whole) slot
+  pub with_chunk_in : list_space_in more new now ≡ with_slot (with_numbered_chunk (list_space_in chunks live latest) object whole) slot
   with_chunk_in = λ k. record { chunks = chunks_are k; live = live_are k; latest = now_is k }
 
   -- and what they keep
-  pub listed_with_chunk : (regions : List FreeListRegion) (count room counted : ℕ) → IsTaken (with_chunk (space_in chunks live latest) object whole) regions slot → count ≤ room → wholes more regions ≡ counted
-      → IsListed (space_in more new now) regions count room counted
+  pub listed_with_chunk : (regions : List FreeListRegion) (count room counted : ℕ) → IsTaken (with_numbered_chunk (list_space_in chunks live latest) object whole) regions slot → count ≤ room → wholes more regions ≡ counted
+      → IsListed (list_space_in more new now) regions count room counted
   listed_with_chunk regions count room counted took enough is = record {
-    sound = subst IsSoundSpace (sym with_chunk_in) took.sound;
+    sound = subst IsSoundListSpace (sym with_chunk_in) took.sound;
     runs = subst (λ s. AreRuns regions (IsFreeIn s)) (sym with_chunk_in) took.runs;
     room = enough;
     whole = is;

@@ -9,23 +9,23 @@ use Rattle.gpu_alloc_base.specs.FreeRuns.{AreRising, IsBefore, IsFreeRun}
 use Rattle.gpu_alloc_base.specs.RangeOrder.{same_start}
 use Rattle.gpu_alloc_base.specs.declared.region.FreeListRegion.{FreeListRegion}
 use Rattle.gpu_alloc_freelist.specs.FreeListAllocator.{object_of, IsRunOf}
-use Rattle.gpu_alloc_freelist.specs.FreeListSound.{IsSound}
-use Rattle.gpu_alloc_freelist.specs.FreeListState.{Space, Listing, IsFreeIn}
+use Rattle.gpu_alloc_freelist.specs.FreeListSound.{IsSoundListing}
+use Rattle.gpu_alloc_freelist.specs.FreeListState.{ListSpace, Listing, IsFreeIn}
 use Rattle.gpu_alloc_base.proofs.ListedRanges.{told_object, listed, start_apart}
 use Rattle.gpu_alloc_base.proofs.RangeOrder.{starts_apart}
 
 -- a region as a range of its object
-abbrev pub range_of : Space → FreeListRegion → FreeRange
+abbrev pub range_of : ListSpace → FreeListRegion → FreeRange
 range_of s r = record { object = object_of s r.chunk; start = r.start; end = r.end }
 
 -- the chunk of a run is held
-held_of : (s : Space) (r : FreeListRegion) → IsFreeRun (IsFreeIn s) r.chunk r.start r.end → (chunk : Chunk) × (map_of.get s.chunks r.chunk ≡ Some chunk)
+held_of : (s : ListSpace) (r : FreeListRegion) → IsFreeRun (IsFreeIn s) r.chunk r.start r.end → (chunk : Chunk) × (map_of.get s.chunks r.chunk ≡ Some chunk)
 held_of s r run = let first = run.free r.start (omega arith) run.nonempty in (first.held, first.is)
 
-pub is_held : (s : Space) (r : FreeListRegion) → IsFreeRun (IsFreeIn s) r.chunk r.start r.end → IsSome (map_of.get s.chunks r.chunk)
+pub is_held : (s : ListSpace) (r : FreeListRegion) → IsFreeRun (IsFreeIn s) r.chunk r.start r.end → IsSome (map_of.get s.chunks r.chunk)
 is_held s r run = let held = held_of s r run in rw (held.1) refl
 
-module _ (s : Space) (regions : List FreeListRegion) (runs : (r : FreeListRegion) → Contains regions r ↔ IsFreeRun (IsFreeIn s) r.chunk r.start r.end) where
+module _ (s : ListSpace) (regions : List FreeListRegion) (runs : (r : FreeListRegion) → Contains regions r ↔ IsFreeRun (IsFreeIn s) r.chunk r.start r.end) where
   -- a region's range is one of a free run
   is_run : (r : FreeListRegion) → Contains regions r → IsRunOf s (range_of s r)
   is_run r has =
@@ -44,7 +44,7 @@ module _ (s : Space) (regions : List FreeListRegion) (runs : (r : FreeListRegion
   pub all_runs : (r : FreeRange) → Contains (map (range_of s) regions) r ↔ IsRunOf s r
   all_runs = listed (range_of s) regions (IsRunOf s) is_run run_is
 
-module _ (l : Listing) (sound : IsSound l) (regions : List FreeListRegion) (runs : (r : FreeListRegion) → Contains regions r ↔ IsFreeRun (IsFreeIn l.space) r.chunk r.start r.end) (rising : AreRising regions) where
+module _ (l : Listing) (sound : IsSoundListing l) (regions : List FreeListRegion) (runs : (r : FreeListRegion) → Contains regions r ↔ IsFreeRun (IsFreeIn l.space) r.chunk r.start r.end) (rising : AreRising regions) where
   -- one that lies before another is of another chunk, or starts before it
   two_runs : (r t : FreeListRegion) → Contains regions r → Contains regions t → IsBefore r t → same_start (range_of l.space r) (range_of l.space t) ≡ false
   two_runs r t has_r has_t before = starts_apart (range_of l.space r) (range_of l.space t) (λ object start.

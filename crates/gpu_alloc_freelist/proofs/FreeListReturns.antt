@@ -12,9 +12,9 @@ use Rattle.gpu_alloc_freelist.specs.FreeList.{without_slot, without_chunk, IsFir
 use Rattle.gpu_alloc_base.specs.Slots.{region_of, slot_cmp}
 use Rattle.gpu_alloc_freelist.specs.Wholes.{wholes}
 use Rattle.gpu_alloc_freelist.specs.Chunks.{IsWholeChunk}
-use Rattle.gpu_alloc_freelist.specs.FreeListInside.{IsFirstWhole, IsListed, MayBeTaken, space_in}
-use Rattle.gpu_alloc_freelist.specs.FreeListSound.{IsSoundSpace}
-use Rattle.gpu_alloc_freelist.specs.FreeListState.{Space, IsFreeIn, IsLiveSlot}
+use Rattle.gpu_alloc_freelist.specs.FreeListInside.{IsFirstWhole, IsListed, list_space_in, MayBeTaken}
+use Rattle.gpu_alloc_freelist.specs.FreeListSound.{IsSoundListSpace}
+use Rattle.gpu_alloc_freelist.specs.FreeListState.{ListSpace, IsFreeIn, IsLiveSlot}
 use Rattle.gpu_alloc_base.specs.FreeRuns.{AreFree, AreRuns, AreRunsBeside, IsBefore, IsLastRun, Without}
 use Rattle.gpu_alloc_base.specs.declared.free_list_block.Slot.{Slot}
 use Rattle.gpu_alloc_base.specs.declared.region.FreeListRegion.{FreeListRegion}
@@ -28,7 +28,7 @@ use Rattle.gpu_alloc_freelist.proofs.WholeRuns.{wholes_removed, wholes_same}
 
 -- A block comes back.
 
-module _ (s : Space) (sound : IsSoundSpace s) (slot : Slot) (live : IsLiveSlot s slot) where
+module _ (s : ListSpace) (sound : IsSoundListSpace s) (slot : Slot) (live : IsLiveSlot s slot) where
   -- its bytes are free once it is no longer live
   pub slot_is_free : AreFree (IsFreeIn (without_slot s slot)) slot.chunk slot.offset (slot.offset + slot.size)
   slot_is_free at low high =
@@ -77,19 +77,19 @@ module _ (s : Space) (sound : IsSoundSpace s) (slot : Slot) (live : IsLiveSlot s
 
 -- what the stores keep without it
 pub listed_without_slot : (chunks : HeldChunks) (old new : set.FinSet slot_cmp) (latest : ℕ) (regions joined : List FreeListRegion) (count room whole : ℕ) (slot : Slot)
-    → IsSoundSpace (space_in chunks old latest)
-    → AreRuns regions (IsFreeIn (space_in chunks old latest))
-    → IsLiveSlot (space_in chunks old latest) slot
+    → IsSoundListSpace (list_space_in chunks old latest)
+    → AreRuns regions (IsFreeIn (list_space_in chunks old latest))
+    → IsLiveSlot (list_space_in chunks old latest) slot
     → new ≡ set.remove old slot
     → ((F : ℕ → ℕ → Type 0) → AreRunsBeside regions F (region_of slot) → AreRuns joined F)
     → count ≤ room
     → wholes chunks joined ≡ whole
-    → IsListed (space_in chunks new latest) joined count room whole
+    → IsListed (list_space_in chunks new latest) joined count room whole
 listed_without_slot chunks old new latest regions joined count room whole slot sound runs live left join enough counted =
-    let s = space_in chunks old latest in
-    let is : without_slot s slot ≡ space_in chunks new latest = ap (λ l. space_in chunks l latest) (sym left) in
+    let s = list_space_in chunks old latest in
+    let is : without_slot s slot ≡ list_space_in chunks new latest = ap (λ l. list_space_in chunks l latest) (sym left) in
     record {
-      sound = subst IsSoundSpace is (space_without_slot s slot sound);
+      sound = subst IsSoundListSpace is (space_without_slot s slot sound);
       runs = subst (λ x. AreRuns joined (IsFreeIn x)) is (join (IsFreeIn (without_slot s slot)) (runs_beside_slot s sound slot live regions runs));
       room = enough;
       whole = counted;
@@ -138,7 +138,7 @@ module _ (F : ℕ → ℕ → Type 0) (regions : List FreeListRegion) (runs : Ar
 
 -- A chunk goes.
 
-module _ (s : Space) (sound : IsSoundSpace s) (regions : List FreeListRegion) (runs : AreRuns regions (IsFreeIn s)) where
+module _ (s : ListSpace) (sound : IsSoundListSpace s) (regions : List FreeListRegion) (runs : AreRuns regions (IsFreeIn s)) where
   -- a region lies in a held chunk
   pub region_held : (r : FreeListRegion) → Contains regions r → IsSome (map.get s.chunks r.chunk)
   region_held r has = let free = runs.spaced.free r has r.start (omega arith) (runs.spaced.nonempty r has) in rw (free.is) refl
@@ -250,15 +250,15 @@ module _ (s : Space) (sound : IsSoundSpace s) (regions : List FreeListRegion) (r
 
 -- What the stores keep without a chunk that may go: the first region that may be taken, and its chunk.
 pub record AreLess (held less : HeldChunks) (live : set.FinSet slot_cmp) (latest : ℕ) (regions left : List FreeListRegion) : Type 0 where
-  pub sound : IsSoundSpace (space_in less live latest)
-  pub runs : AreRuns left (IsFreeIn (space_in less live latest))
+  pub sound : IsSoundListSpace (list_space_in less live latest)
+  pub runs : AreRuns left (IsFreeIn (list_space_in less live latest))
   pub fewer : wholes less left + 1 ≡ wholes held regions
 
 pub stores_less : (held less : HeldChunks) (live : set.FinSet slot_cmp) (latest : ℕ) (regions left : List FreeListRegion) (keep_last : Bool) (i : ℕ) (r : FreeListRegion)
-    → IsSoundSpace (space_in held live latest) → AreRuns regions (IsFreeIn (space_in held live latest)) → IsFirstWhole held regions keep_last r i
+    → IsSoundListSpace (list_space_in held live latest) → AreRuns regions (IsFreeIn (list_space_in held live latest)) → IsFirstWhole held regions keep_last r i
     → r ≡ get_or regions i r → less ≡ map.remove held r.chunk → left ≡ remove regions i → AreLess held less live latest regions left
 stores_less held less live latest regions left keep_last i r sound runs first is gone fewer = record {
-  sound = subst IsSoundSpace (sym space_less) (space_without_chunk (space_in held live latest) r.chunk sound (whole_is_unused (space_in held live latest) sound regions runs r whole.chunk has whole.is whole.start (sym whole.end)));
+  sound = subst IsSoundListSpace (sym space_less) (space_without_chunk (list_space_in held live latest) r.chunk sound (whole_is_unused (list_space_in held live latest) sound regions runs r whole.chunk has whole.is whole.start (sym whole.end)));
   runs = runs_less;
   fewer = omega (arith, wholes_same less held left elsewhere, ap (wholes held) fewer, wholes_removed held regions i r first.taken.within first.taken.whole);
 }
@@ -269,20 +269,20 @@ stores_less held less live latest regions left keep_last i r sound runs first is
     has : Contains regions r
     has = (i, first.taken.within, sym is)
 
-    space_less : space_in less live latest ≡ without_chunk (space_in held live latest) r.chunk
-    space_less = ap (λ h. space_in h live latest) gone
+    space_less : list_space_in less live latest ≡ without_chunk (list_space_in held live latest) r.chunk
+    space_less = ap (λ h. list_space_in h live latest) gone
 
-    runs_less : AreRuns left (IsFreeIn (space_in less live latest))
+    runs_less : AreRuns left (IsFreeIn (list_space_in less live latest))
     runs_less =
-        let at_all = free_elsewhere (space_in held live latest) sound regions runs r whole.chunk whole.is whole.start (sym whole.end) in
-        let from_all = free_there (space_in held live latest) sound regions runs r whole.chunk whole.is whole.start (sym whole.end) in
-        let without : AreRuns left (Without (IsFreeIn (space_in held live latest)) r) =
-        subst (λ x. AreRuns left (Without (IsFreeIn (space_in held live latest)) x)) (sym is) (subst (λ xs. AreRuns xs (Without (IsFreeIn (space_in held live latest)) (get_or regions i r))) (sym fewer) (run_goes (IsFreeIn (space_in held live latest)) regions i r runs first.taken.within).rest) in
+        let at_all = free_elsewhere (list_space_in held live latest) sound regions runs r whole.chunk whole.is whole.start (sym whole.end) in
+        let from_all = free_there (list_space_in held live latest) sound regions runs r whole.chunk whole.is whole.start (sym whole.end) in
+        let without : AreRuns left (Without (IsFreeIn (list_space_in held live latest)) r) =
+        subst (λ x. AreRuns left (Without (IsFreeIn (list_space_in held live latest)) x)) (sym is) (subst (λ xs. AreRuns xs (Without (IsFreeIn (list_space_in held live latest)) (get_or regions i r))) (sym fewer) (run_goes (IsFreeIn (list_space_in held live latest)) regions i r runs first.taken.within).rest) in
         subst (λ x. AreRuns left (IsFreeIn x)) (sym space_less) (runs_same (record { to = at_all; from = from_all }) left without)
 
     -- the runs that are left lie in other chunks
     elsewhere : (q : FreeListRegion) → Contains left q → map.get less q.chunk ≡ map.get held q.chunk
     elsewhere q in_left =
         let free = runs_less.spaced.free q in_left q.start (omega arith) (runs_less.spaced.nonempty q in_left) in
-        let other = (was_free (space_in held live latest) r.chunk q.chunk q.start (subst (λ x. IsFreeIn x q.chunk q.start) space_less free)).0 in
+        let other = (was_free (list_space_in held live latest) r.chunk q.chunk q.start (subst (λ x. IsFreeIn x q.chunk q.start) space_less free)).0 in
         ap (λ h. map.get h q.chunk) gone ∙ kept_other held r.chunk q.chunk other

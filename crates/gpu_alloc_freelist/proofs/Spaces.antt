@@ -2,9 +2,9 @@
 use Rattle.std.proofs.Common.{◌≡◌, ◌≢◌, ◌⊎◌, inl, inr, ℕ, ◌+◌, ◌^◌, ◌<◌, Some, None, refl, sym, ◌∙◌, ap, subst, arith}
 use Rattle.std.specs.FinMap as map
 use Rattle.gpu_alloc_base.specs.Chunks.{Chunk}
-use Rattle.gpu_alloc_freelist.specs.FreeList.{with_slot, with_chunk, without_slot, without_chunk}
-use Rattle.gpu_alloc_freelist.specs.FreeListSound.{IsSoundSpace, LiesInChunk}
-use Rattle.gpu_alloc_freelist.specs.FreeListState.{Space, IsLiveSlot, IsFreeIn}
+use Rattle.gpu_alloc_freelist.specs.FreeList.{with_slot, with_numbered_chunk, without_slot, without_chunk}
+use Rattle.gpu_alloc_freelist.specs.FreeListSound.{IsSoundListSpace, LiesInChunk}
+use Rattle.gpu_alloc_freelist.specs.FreeListState.{ListSpace, IsLiveSlot, IsFreeIn}
 use Rattle.gpu_alloc_base.specs.FreeRuns.{AreFree}
 use Rattle.gpu_alloc_base.specs.FreeSpace.{IsIn}
 use Rattle.gpu_alloc_base.specs.declared.free_list_block.Slot.{Slot}
@@ -13,7 +13,7 @@ use Rattle.gpu_alloc_base.proofs.Slots.{slot_inserted, slot_removed}
 
 -- A block comes.
 
-module _ (s : Space) (slot : Slot) where
+module _ (s : ListSpace) (slot : Slot) where
   -- a live block is that one, or was live
   pub was_live : (q : Slot) → IsLiveSlot (with_slot s slot) q → (q ≡ slot) ⊎ IsLiveSlot s q
   was_live q live = (slot_inserted s.live slot q).0 live
@@ -31,7 +31,7 @@ module _ (s : Space) (slot : Slot) where
   lies_with q lies = record { chunk = lies.chunk; held = lies.held; object = lies.object; nonempty = lies.nonempty; inside = lies.inside }
 
   -- in bytes that were free: the space stays sound
-  pub space_with_slot : IsSoundSpace s → LiesInChunk s slot → AreFree (IsFreeIn s) slot.chunk slot.offset (slot.offset + slot.size) → IsSoundSpace (with_slot s slot)
+  pub space_with_slot : IsSoundListSpace s → LiesInChunk s slot → AreFree (IsFreeIn s) slot.chunk slot.offset (slot.offset + slot.size) → IsSoundListSpace (with_slot s slot)
   space_with_slot sound lies free = record {
     numbers = sound.numbers;
     sizes = sound.sizes;
@@ -58,22 +58,22 @@ module _ (s : Space) (slot : Slot) where
 -- A chunk comes.
 
 -- no number above the latest is held
-pub none_above : (s : Space) (k : ℕ) → IsSoundSpace s → s.latest < k → map.get s.chunks k ≡ None
+pub none_above : (s : ListSpace) (k : ℕ) → IsSoundListSpace s → s.latest < k → map.get s.chunks k ≡ None
 none_above s k sound above = elim (map.get s.chunks k) as (λ o. map.get s.chunks k ≡ o → map.get s.chunks k ≡ None) [
   | None ↦ λ e. e
   | Some c ↦ λ e. absurd (omega (arith, (sound.numbers k c e).1))
 ] refl
 
 -- so the next one is new
-pub next_is_new : (s : Space) → IsSoundSpace s → map.get s.chunks (s.latest + 1) ≡ None
+pub next_is_new : (s : ListSpace) → IsSoundListSpace s → map.get s.chunks (s.latest + 1) ≡ None
 next_is_new s sound = none_above s (s.latest + 1) sound (omega arith)
 
 -- no live block lies in a chunk with it
-pub none_in_next : (s : Space) → IsSoundSpace s → (q : Slot) → IsLiveSlot s q → q.chunk ≡ s.latest + 1 → ⊥
+pub none_in_next : (s : ListSpace) → IsSoundListSpace s → (q : Slot) → IsLiveSlot s q → q.chunk ≡ s.latest + 1 → ⊥
 none_in_next s sound q live same = let lies = sound.inside q live in omega (arith, (sound.numbers q.chunk lies.chunk lies.held).1, same)
 
 -- the space stays sound
-pub space_with_chunk : (s : Space) (object size : ℕ) → IsSoundSpace s → 0 < size → size < 2 ^ 64 → IsSoundSpace (with_chunk s object size)
+pub space_with_chunk : (s : ListSpace) (object size : ℕ) → IsSoundListSpace s → 0 < size → size < 2 ^ 64 → IsSoundListSpace (with_numbered_chunk s object size)
 space_with_chunk s object size sound some fits =
     let v : Chunk = record { object = object; size = size } in
     record {
@@ -87,7 +87,7 @@ space_with_chunk s object size sound some fits =
 -- A block goes.
 
 -- the space stays sound
-pub space_without_slot : (s : Space) (slot : Slot) → IsSoundSpace s → IsSoundSpace (without_slot s slot)
+pub space_without_slot : (s : ListSpace) (slot : Slot) → IsSoundListSpace s → IsSoundListSpace (without_slot s slot)
 space_without_slot s slot sound = record {
   numbers = sound.numbers;
   sizes = sound.sizes;
@@ -99,7 +99,7 @@ space_without_slot s slot sound = record {
 
 -- A chunk goes.
 
-module _ (s : Space) (n : ℕ) where
+module _ (s : ListSpace) (n : ℕ) where
   -- a byte of another chunk is free as before
   pub still_free : (k at : ℕ) → k ≢ n → IsFreeIn s k at → IsFreeIn (without_chunk s n) k at
   still_free k at other free = record { held = free.held; is = kept_other s.chunks n k other ∙ free.is; inside = free.inside; unused = free.unused }
@@ -111,7 +111,7 @@ module _ (s : Space) (n : ℕ) where
       (h.0, record { held = free.held; is = h.1; inside = free.inside; unused = free.unused })
 
   -- where no live block lies in it, the space stays sound
-  pub space_without_chunk : IsSoundSpace s → ((slot : Slot) → IsLiveSlot s slot → slot.chunk ≢ n) → IsSoundSpace (without_chunk s n)
+  pub space_without_chunk : IsSoundListSpace s → ((slot : Slot) → IsLiveSlot s slot → slot.chunk ≢ n) → IsSoundListSpace (without_chunk s n)
   space_without_chunk sound unused = record {
     numbers = λ k held there. sound.numbers k held (kept_key s.chunks n k held there).1;
     sizes = λ k held there. sound.sizes k held (kept_key s.chunks n k held there).1;

@@ -35,8 +35,8 @@ AreNumbered {T} number rows =
     (i j : ℕ) (d : T) → i < j → j < length rows → number (get_or rows i d) < number (get_or rows j d)
 
 -- the keys by their numbers
-abbrev pub keys_in : List NumberedKey → map_of.FinMap nat_cmp ℕ
-keys_in numbers = by_number (λ n. n.number) (λ n. n.key) numbers
+abbrev pub keys_by_number : List NumberedKey → map_of.FinMap nat_cmp ℕ
+keys_by_number numbers = by_number (λ n. n.number) (λ n. n.key) numbers
 
 -- a row's chunk, by the name of its object
 abbrev pub chunk_of : {M : Type 0} → (M → ℕ) → NumberedChunk M → Chunk
@@ -47,8 +47,8 @@ abbrev pub held_in : {M : Type 0} → (M → ℕ) → Slab (NumberedChunk M) →
 held_in object rows = map_by (λ row. row.number) (chunk_of object) rows
 
 -- there is room for a chunk where there is room for its row and for its number
-abbrev pub chunks_in : {M : Type 0} → (M → ℕ) → Slab (NumberedChunk M) → ℕ → NumberedChunks
-chunks_in object rows numbers_room =
+abbrev pub numbered_chunks_in : {M : Type 0} → (M → ℕ) → Slab (NumberedChunk M) → ℕ → NumberedChunks
+numbered_chunks_in object rows numbers_room =
     record { held = held_in object rows; room = min (rows.capacity - slab_len rows) numbers_room }
 
 -- the row of the number stands under the key

@@ -9,27 +9,27 @@ use Rattle.gpu_alloc_base.specs.Accounts.{HeldChunks}
 use Rattle.gpu_alloc_base.specs.Chunks.{Chunk}
 use Rattle.gpu_alloc_base.specs.declared.region.FreeListRegion.{FreeListRegion}
 use Rattle.gpu_alloc_freelist.specs.Chunks.{NumberedChunks}
-use Rattle.gpu_alloc_freelist.specs.FreeListState.{Space, Store, Listing}
+use Rattle.gpu_alloc_freelist.specs.FreeListState.{ListSpace, ListStore, Listing}
 use Rattle.gpu_alloc_freelist.specs.Live.{LiveBlocks}
 use Rattle.gpu_alloc_freelist.specs.Runs.{Runs}
 use Rattle.gpu_alloc_base.specs.Slots.{slot_cmp}
 
-abbrev pub space_code : Coded Space
-space_code =
+abbrev pub list_space_code : Coded ListSpace
+list_space_code =
     code_by (map.FinMap nat_cmp Chunk × (set.FinSet slot_cmp × ℕ))
     (coded× (map.code coded_ℕ chunk_code) (coded× (set.code slot_code) coded_ℕ))
     (λ s. (s.chunks, (s.live, s.latest)))
     (λ c. record { chunks = c.0; live = c.1.0; latest = c.1.1 }) (λ _. refl)
 
-abbrev pub store_code : Coded Store
-store_code =
-    code_by (Space × ℕ) (coded× space_code coded_ℕ) (λ s. (s.space, s.room)) (λ c. record { space = c.0; room = c.1 })
+abbrev pub list_store_code : Coded ListStore
+list_store_code =
+    code_by (ListSpace × ℕ) (coded× list_space_code coded_ℕ) (λ s. (s.space, s.room)) (λ c. record { space = c.0; room = c.1 })
     (λ _. refl)
 
 abbrev pub listing_code : Coded Listing
 listing_code =
-    code_by (Space × ((ℕ × ℕ) × (ℕ × (ℕ × ℕ))))
-    (coded× space_code (coded× (coded× coded_ℕ coded_ℕ) (coded× coded_ℕ (coded× coded_ℕ coded_ℕ))))
+    code_by (ListSpace × ((ℕ × ℕ) × (ℕ × (ℕ × ℕ))))
+    (coded× list_space_code (coded× (coded× coded_ℕ coded_ℕ) (coded× coded_ℕ (coded× coded_ℕ coded_ℕ))))
     (λ l. (l.space, ((l.next_chunk, l.final_chunk), (l.memory_type, (l.props, l.atom)))))
     (λ c. record {
       space = c.0;

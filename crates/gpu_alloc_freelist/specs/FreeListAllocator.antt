@@ -21,8 +21,8 @@ use Rattle.gpu_alloc_base.specs.FreeSpace.{IsIn}
 use Rattle.gpu_alloc_base.specs.InHand as in_hand
 use Rattle.gpu_alloc_base.specs.InHand.{Bytes}
 use Rattle.gpu_alloc_freelist.specs.FreeList.{HasPlace, IsTail, HasNumber, MayGo, with_slot, without_slot}
-use Rattle.gpu_alloc_freelist.specs.FreeList.{with_chunk, first_tail, no_space}
-use Rattle.gpu_alloc_freelist.specs.FreeListState.{Space, Listing, IsLiveSlot, IsFreeIn}
+use Rattle.gpu_alloc_freelist.specs.FreeList.{with_numbered_chunk, first_tail, no_list_space}
+use Rattle.gpu_alloc_freelist.specs.FreeListState.{ListSpace, Listing, IsLiveSlot, IsFreeIn}
 use Rattle.gpu_alloc_base.specs.FreeRuns.{IsFreeRun}
 use Rattle.gpu_alloc_base.specs.NewChunk.{ChunkQuestion}
 use Rattle.gpu_alloc_base.specs.Sizes.{up, grown_chunk, doubled_chunk}
@@ -64,7 +64,7 @@ in_new_chunk a object size alignment =
     let whole = chunk_size l size in
     record {
       allocator = record l {
-        space = with_slot (with_chunk l.space object whole)
+        space = with_slot (with_numbered_chunk l.space object whole)
             (first_tail l.space object whole size alignment);
         next_chunk = next_size l whole;
       };
@@ -117,7 +117,7 @@ abbrev pub AreRisingNumbers : List ℕ → Type 0
 AreRisingNumbers numbers = (i j d : ℕ) → i < j → j < length numbers → get_or numbers i d < get_or numbers j d
 
 -- These chunks are released, in rising number: all that may be.
-pub record AreGone (s : Space) (keep_last : Bool) (gone : List ℕ) : Type 0 where
+pub record AreGone (s : ListSpace) (keep_last : Bool) (gone : List ℕ) : Type 0 where
   pub rising : AreRisingNumbers gone
   pub all : (number : ℕ) → Contains gone number ↔ MayGo s keep_last number
 
@@ -126,11 +126,11 @@ abbrev pub size_in : Option Chunk → ℕ
 size_in None = 0
 size_in (Some chunk) = chunk.size
 
-abbrev pub object_of : Space → ℕ → ℕ
+abbrev pub object_of : ListSpace → ℕ → ℕ
 object_of s number = object_in (map.get s.chunks number)
 
-abbrev pub size_of : Space → ℕ → ℕ
-size_of s number = size_in (map.get s.chunks number)
+abbrev pub size_of_chunk : ListSpace → ℕ → ℕ
+size_of_chunk s number = size_in (map.get s.chunks number)
 
 abbrev pub without_numbers : map.FinMap nat_cmp Chunk → List ℕ → map.FinMap nat_cmp Chunk
 without_numbers chunks [] = chunks
@@ -143,12 +143,12 @@ LetsGo a gone es new =
     × (new ≡ record {
       allocator = record a.allocator
           { space = record a.allocator.space { chunks = without_numbers a.allocator.space.chunks gone } };
-      heap = record a.heap { used = a.heap.used - sum_by (size_of a.allocator.space) gone };
+      heap = record a.heap { used = a.heap.used - sum_by (size_of_chunk a.allocator.space) gone };
       remaining = a.remaining + length gone;
     })
 
 -- the same for the device's objects
-abbrev pub without_objects_of : Space → (ℕ → Option Object) → List ℕ → ℕ → Option Object
+abbrev pub without_objects_of : ListSpace → (ℕ → Option Object) → List ℕ → ℕ → Option Object
 without_objects_of s objects [] = objects
 without_objects_of s objects (number ∷ numbers) = without_objects_of s (put objects (object_of s number) None) numbers
 
@@ -169,7 +169,7 @@ Cleans a es new = (gone : List ℕ) × (AreGone a.allocator.space false gone × 
 -- nothing is held
 abbrev pub opened : ℕ → ℕ → ℕ → ℕ → ℕ → Listing
 opened starting final memory_type props atom = record {
-  space = no_space;
+  space = no_list_space;
   next_chunk = starting;
   final_chunk = final;
   memory_type = memory_type;
@@ -211,23 +211,23 @@ abbrev pub ObjectsCleaned : Listing → (ℕ → Option Object) → (ℕ → Opt
 ObjectsCleaned l old new = (gone : List ℕ) × (AreGone l.space false gone × (new ≡ without_objects_of l.space old gone))
 
 -- The chunks are released one by one, each the first that may be, until none may be.
-abbrev pub GivesBack : Bool → Account Listing → List ℕ → List Event → Account Listing → (ℕ → Option Object)
+abbrev pub LetsWholeChunksGo : Bool → Account Listing → List ℕ → List Event → Account Listing → (ℕ → Option Object)
     → (ℕ → Option Object) → Type 0
-GivesBack keep_last a gone es new old_objects new_objects =
+LetsWholeChunksGo keep_last a gone es new old_objects new_objects =
     AreGone a.allocator.space keep_last gone
     × (LetsGo a gone es new × (new_objects ≡ without_objects_of a.allocator.space old_objects gone))
 
 -- a call releases them so, with the matching calls of the device
-abbrev pub CallGivesBack : {D : Type 0} → (D → Event → D → Type 0) → (D → ℕ → Option Object) → D → D → Bool
+abbrev pub CallLetsGo : {D : Type 0} → (D → Event → D → Type 0) → (D → ℕ → Option Object) → D → D → Bool
     → Account Listing → Account Listing → Type 0
-CallGivesBack step objects old_device new_device keep_last a new =
+CallLetsGo step objects old_device new_device keep_last a new =
     (gone : List ℕ) × Asked step old_device new_device
-    (λ es. GivesBack keep_last a gone es new (objects old_device) (objects new_device))
+    (λ es. LetsWholeChunksGo keep_last a gone es new (objects old_device) (objects new_device))
 
 -- What is free.
 
 -- the range is a free run of the chunk of its object
-pub record IsRunOf (s : Space) (r : FreeRange) : Type 0 where
+pub record IsRunOf (s : ListSpace) (r : FreeRange) : Type 0 where
   pub number : ℕ
   pub chunk : Chunk
   pub held : map.get s.chunks number ≡ Some chunk

@@ -2,35 +2,35 @@
 use Rattle.std.specs.Prelude.{◌≡◌, ℕ, ◌+◌, ◌/◌, ◌<◌, ◌≤◌, Bool, true, List, length, min, get_or}
 use Rattle.std.specs.FinSet as set
 use Rattle.gpu_alloc_base.specs.Accounts.{HeldChunks}
-use Rattle.gpu_alloc_freelist.specs.FreeListState.{Space, Store, Listing, IsFreeIn}
+use Rattle.gpu_alloc_freelist.specs.FreeListState.{ListSpace, ListStore, Listing, IsFreeIn}
 use Rattle.gpu_alloc_freelist.specs.Chunks.{IsWholeChunk}
 use Rattle.gpu_alloc_base.specs.Slots.{slot_cmp}
-use Rattle.gpu_alloc_freelist.specs.FreeListSound.{IsSoundSpace}
+use Rattle.gpu_alloc_freelist.specs.FreeListSound.{IsSoundListSpace}
 use Rattle.gpu_alloc_base.specs.AlignMasks.{IsAlignMask}
 use Rattle.gpu_alloc_base.specs.FreeRuns.{AreRuns}
 use Rattle.gpu_alloc_freelist.specs.Wholes.{wholes}
 use Rattle.gpu_alloc_base.specs.declared.region.FreeListRegion.{FreeListRegion}
 
-abbrev pub space_in : HeldChunks → set.FinSet slot_cmp → ℕ → Space
-space_in chunks live latest = record { chunks = chunks; live = live; latest = latest }
+abbrev pub list_space_in : HeldChunks → set.FinSet slot_cmp → ℕ → ListSpace
+list_space_in chunks live latest = record { chunks = chunks; live = live; latest = latest }
 
 -- How many more chunks with a block each there is room for, by what three stores can still take: each brings a chunk, a
 -- block and up to two runs.
 abbrev pub room_for : ℕ → ℕ → ℕ → ℕ
 room_for chunks live runs = min chunks (min live (runs / 2))
 
-abbrev pub store_in : Space → ℕ → Store
-store_in space room = record { space = space; room = room }
+abbrev pub list_store_in : ListSpace → ℕ → ListStore
+list_store_in space room = record { space = space; room = room }
 
 -- The regions are the free runs, there is room for one more run for each live block, and `counted` runs are whole
 -- chunks.
-pub record IsListed (s : Space) (regions : List FreeListRegion) (live spare counted : ℕ) : Type 0 where
-  pub sound : IsSoundSpace s
+pub record IsListed (s : ListSpace) (regions : List FreeListRegion) (live spare counted : ℕ) : Type 0 where
+  pub sound : IsSoundListSpace s
   pub runs : AreRuns regions (IsFreeIn s)
   pub room : live ≤ spare
   pub whole : wholes s.chunks regions ≡ counted
 
-abbrev pub listing_in : Space → ℕ → ℕ → ℕ → ℕ → ℕ → Listing
+abbrev pub listing_in : ListSpace → ℕ → ℕ → ℕ → ℕ → ℕ → Listing
 listing_in space next_chunk final_chunk memory_type props atom = record {
   space = space;
   next_chunk = next_chunk;
@@ -41,7 +41,7 @@ listing_in space next_chunk final_chunk memory_type props atom = record {
 }
 
 -- the largest chunk has room for the request: some bytes, no more than its own, at an alignment no less than the atom
-pub record FitsAChunk (l : Listing) (size align_mask : ℕ) : Type 0 where
+pub record FitsAListChunk (l : Listing) (size align_mask : ℕ) : Type 0 where
   pub nonempty : 0 < size
   pub fits : size ≤ l.final_chunk
   pub alignment : IsAlignMask align_mask

@@ -3,11 +3,11 @@ use Rattle.std.specs.Prelude.{◌≡◌, ℕ, ◌+◌, ◌<◌, ◌≤◌, ◌^�
 use Rattle.std.specs.FinMap as map
 use Rattle.gpu_alloc_base.specs.FreeSpace.{IsIn, IsMultipleOf, IsPowerUpTo}
 use Rattle.gpu_alloc_base.specs.Chunks.{Chunk}
-use Rattle.gpu_alloc_freelist.specs.FreeListState.{Space, Listing, IsLiveSlot}
+use Rattle.gpu_alloc_freelist.specs.FreeListState.{ListSpace, Listing, IsLiveSlot}
 use Rattle.gpu_alloc_base.specs.declared.free_list_block.Slot.{Slot}
 
 -- a live block is not empty, and lies in its chunk
-pub record LiesInChunk (s : Space) (slot : Slot) : Type 0 where
+pub record LiesInChunk (s : ListSpace) (slot : Slot) : Type 0 where
   pub chunk : Chunk
   pub held : map.get s.chunks slot.chunk ≡ Some chunk
   pub object : slot.object ≡ chunk.object
@@ -15,7 +15,7 @@ pub record LiesInChunk (s : Space) (slot : Slot) : Type 0 where
   pub inside : slot.offset + slot.size ≤ chunk.size
 
 -- chunks are not empty and have numbers from 1 to the latest, and live blocks are apart
-pub record IsSoundSpace (s : Space) : Type 0 where
+pub record IsSoundListSpace (s : ListSpace) : Type 0 where
   pub numbers : (k : ℕ) (c : Chunk) → map.get s.chunks k ≡ Some c → (0 < k) × (k ≤ s.latest)
   pub sizes : (k : ℕ) (c : Chunk) → map.get s.chunks k ≡ Some c → (0 < c.size) × (c.size < 2 ^ 64)
   pub inside : (slot : Slot) → IsLiveSlot s slot → LiesInChunk s slot
@@ -23,8 +23,8 @@ pub record IsSoundSpace (s : Space) : Type 0 where
       → IsIn y.offset y.size at → x ≡ y
 
 -- chunks have objects of their own and are no larger than the largest, and chunks and blocks have whole atoms
-pub record IsSound (l : Listing) : Type 0 where
-  pub space : IsSoundSpace l.space
+pub record IsSoundListing (l : Listing) : Type 0 where
+  pub space : IsSoundListSpace l.space
   pub one_object : (k n : ℕ) (c d : Chunk) → map.get l.space.chunks k ≡ Some c → map.get l.space.chunks n ≡ Some d
       → c.object ≡ d.object → k ≡ n
   pub chunks : (k : ℕ) (c : Chunk) → map.get l.space.chunks k ≡ Some c → IsMultipleOf l.atom c.size

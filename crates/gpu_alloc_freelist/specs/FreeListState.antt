@@ -9,31 +9,31 @@ use Rattle.gpu_alloc_base.specs.declared.free_list_block.Slot.{Slot}
 use Rattle.gpu_alloc_base.specs.Slots.{slot_cmp}
 
 -- The held chunks by number, the live blocks, and the number of the latest chunk: 0 before the first.
-pub record Space : Type 0 where
+pub record ListSpace : Type 0 where
   pub chunks : map.FinMap nat_cmp Chunk
   pub live : set.FinSet slot_cmp
   pub latest : ℕ
 
 -- A free list: its space, and how many more chunks with a block each there is room for.
-pub record Store : Type 0 where
-  pub space : Space
+pub record ListStore : Type 0 where
+  pub space : ListSpace
   pub room : ℕ
 
 -- A free-list allocator: its space, the next chunk's least size, the largest chunk, the memory type with its property
 -- bits, and the atom, of which chunk and block sizes are multiples.
 pub record Listing : Type 0 where
-  pub space : Space
+  pub space : ListSpace
   pub next_chunk : ℕ
   pub final_chunk : ℕ
   pub memory_type : ℕ
   pub props : ℕ
   pub atom : ℕ
 
-abbrev pub IsLiveSlot : Space → Slot → Type 0
+abbrev pub IsLiveSlot : ListSpace → Slot → Type 0
 IsLiveSlot s slot = IsTrue (set.contains s.live slot)
 
 -- the byte lies in a held chunk, and in no live block
-pub record IsFreeIn (s : Space) (chunk at : ℕ) : Type 0 where
+pub record IsFreeIn (s : ListSpace) (chunk at : ℕ) : Type 0 where
   pub held : Chunk
   pub is : map.get s.chunks chunk ≡ Some held
   pub inside : at < held.size

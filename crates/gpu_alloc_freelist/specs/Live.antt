@@ -16,8 +16,8 @@ pub record LiveBlocks : Type 0 where
 abbrev pub slots_in : Slab Slot → set.FinSet slot_cmp
 slots_in slots = set_by (λ slot. slot) slots
 
-abbrev pub live_in : Slab Slot → LiveBlocks
-live_in slots = record { slots = slots_in slots; count = slab_len slots; room = slots.capacity - slab_len slots }
+abbrev pub live_blocks_in : Slab Slot → LiveBlocks
+live_blocks_in slots = record { slots = slots_in slots; count = slab_len slots; room = slots.capacity - slab_len slots }
 
 -- these are the live blocks, each once, with their keys
 pub record ListsSlots (live : set.FinSet slot_cmp) (listed : List (ℕ × Slot)) : Type 0 where

@@ -11,7 +11,7 @@ ghost use Rattle.gpu_alloc_types.specs.declared.types.FreeRange.{FreeRange as Ra
 ghost use Rattle.gpu_alloc_base.specs.Wanted.{requested, wanted};
 ghost use Rattle.gpu_alloc_freelist.specs.FreeList.{without_slot};
 ghost use Rattle.gpu_alloc_freelist.specs.FreeListAllocator.{account_without, Agrees, CallAllocates, CallAnswers, case_of};
-ghost use Rattle.gpu_alloc_freelist.specs.FreeListAllocator.{CallGivesBack, chunk_size, Cleans, Frees};
+ghost use Rattle.gpu_alloc_freelist.specs.FreeListAllocator.{CallLetsGo, chunk_size, Cleans, Frees};
 ghost use Rattle.gpu_alloc_freelist.specs.FreeListAllocator.{IsGranted, IsRunOf, list_case};
 ghost use Rattle.gpu_alloc_freelist.specs.FreeListAllocator.{ObjectsAfter, ObjectsCleaned, ObjectsFreed, opened};
 ghost use Rattle.gpu_alloc_freelist.specs.FreeListAllocator.{Adds, HoldsNothing, KeepsSettings, Leaves, LeavesNoRest};
@@ -19,9 +19,9 @@ ghost use Rattle.gpu_alloc_freelist.specs.FreeListAllocator.{Removes};
 ghost use Rattle.gpu_alloc_base.specs.Accounts.{account, IsCounted, chunks_and_remaining};
 ghost use Rattle.gpu_alloc_base.specs.Case.{Asks, RefusesFirst, RefusesQuestion};
 ghost use Rattle.gpu_alloc_freelist.specs.Chunks.{ListsChunks};
-ghost use Rattle.gpu_alloc_freelist.specs.FreeListInside.{FitsAChunk};
+ghost use Rattle.gpu_alloc_freelist.specs.FreeListInside.{FitsAListChunk};
 ghost use Rattle.gpu_alloc_freelist.specs.Live.{ListsSlots};
-ghost use Rattle.gpu_alloc_freelist.specs.FreeListSound.{IsSound, IsSoundSpace};
+ghost use Rattle.gpu_alloc_freelist.specs.FreeListSound.{IsSoundListing, IsSoundListSpace};
 ghost use Rattle.gpu_alloc_freelist.specs.FreeListState.{Listing, IsLiveSlot};
 ghost use Rattle.gpu_alloc_base.specs.FreeSpace.{IsMultipleOf};
 ghost use Rattle.gpu_alloc_base.specs.AlignMasks.{IsAlignMask};
@@ -76,12 +76,12 @@ impl<M: MemoryObject, A: Allocator> Model for FreeListAllocator<M, A> {
     ghost use Rattle.std.specs.Prelude.{◌+◌};
     ghost use Rattle.gpu_alloc_types.specs.Flags.{property_bits};
     ghost use Rattle.gpu_alloc_freelist.specs.FreeListInside.{listing_in};
-    ghost use Rattle.gpu_alloc_freelist.specs.FreeListSound.{IsSound};
+    ghost use Rattle.gpu_alloc_freelist.specs.FreeListSound.{IsSoundListing};
 
     ghost view = { λ a. listing_in (a.freelist).space a.chunk_size a.final_chunk_size a.memory_type
         (property_bits a.props) (a.atom_mask + 1) };
 
-    ghost invariant = { λ a. IsSound (listing_in (a.freelist).space a.chunk_size a.final_chunk_size a.memory_type
+    ghost invariant = { λ a. IsSoundListing (listing_in (a.freelist).space a.chunk_size a.final_chunk_size a.memory_type
         (property_bits a.props) (a.atom_mask + 1)) };
 }
 
@@ -113,7 +113,7 @@ impl<M: MemoryObject, A: Allocator + Copy> FreeListAllocator<M, A> {
         ensures opened { result ≡ opened starting_chunk_size final_chunk_size memory_type (property_bits props)
             (atom_mask + 1) }
         ensures empty { HoldsNothing memory_type (property_bits props) result }
-        ensures sound { IsSound result }
+        ensures sound { IsSoundListing result }
     {
         FreeListAllocator {
             freelist: FreeList::new(alloc),
@@ -216,7 +216,7 @@ impl<M: MemoryObject, A: Allocator> FreeListAllocator<M, A> {
         ensures settings { KeepsSettings self.old self.new }
         ensures refused { OnErr result
             ((self.new ≡ self.old) × ((heap.new ≡ heap.old) × (allocations_remains.new ≡ allocations_remains.old))) }
-        ensures sound { IsSound self.new }
+        ensures sound { IsSoundListing self.new }
         ensures counted { IsCounted (self.new).space.chunks heap.new allocations_remains.new }
         ensures total { chunks_and_remaining (self.new).space.chunks allocations_remains.new ≡ chunks_and_remaining
             (self.old).space.chunks allocations_remains.old }
@@ -285,7 +285,7 @@ impl<M: MemoryObject, A: Allocator> FreeListAllocator<M, A> {
             (λ es. Frees (account self.old heap.old allocations_remains.old) block es
             (account self.new heap.new allocations_remains.new)) }
         ensures objects { ObjectsFreed self.old block (D.objects device.old) (D.objects device.new) }
-        ensures gives { CallGivesBack D.step D.objects device.old device.new true
+        ensures gives { CallLetsGo D.step D.objects device.old device.new true
             (account_without (account self.old heap.old allocations_remains.old) block)
             (account self.new heap.new allocations_remains.new) }
         ensures agrees { Agrees self.new (D.properties device.new) (D.objects device.new) }
@@ -293,13 +293,13 @@ impl<M: MemoryObject, A: Allocator> FreeListAllocator<M, A> {
         ensures removed { Removes self.old block self.new }
         ensures ledger { heap.new.used ≤ heap.old.used }
         ensures settings { KeepsSettings self.old self.new }
-        ensures sound { IsSound self.new }
+        ensures sound { IsSoundListing self.new }
         ensures counted { IsCounted (self.new).space.chunks heap.new allocations_remains.new }
         ensures total { chunks_and_remaining (self.new).space.chunks allocations_remains.new ≡ chunks_and_remaining
             (self.old).space.chunks allocations_remains.old }
     {
         insert_uncounted::<M, A, Brand>(&mut self.freelist, block, Blank::new(1));
-        self.give_back(device, true, heap, allocations_remains);
+        self.let_chunks_go(device, true, heap, allocations_remains);
     }
 
     /// Releases each chunk without a live block, the oldest first: `heap` is lowered by its size, and one more object
@@ -325,7 +325,7 @@ impl<M: MemoryObject, A: Allocator> FreeListAllocator<M, A> {
             (λ es. Cleans (account self.old heap.old allocations_remains.old) es
             (account self.new heap.new allocations_remains.new)) }
         ensures objects { ObjectsCleaned self.old (D.objects device.old) (D.objects device.new) }
-        ensures gives { CallGivesBack D.step D.objects device.old device.new false
+        ensures gives { CallLetsGo D.step D.objects device.old device.new false
             (account self.old heap.old allocations_remains.old)
             (account self.new heap.new allocations_remains.new) }
         ensures agrees { Agrees self.new (D.properties device.new) (D.objects device.new) }
@@ -334,12 +334,12 @@ impl<M: MemoryObject, A: Allocator> FreeListAllocator<M, A> {
         ensures rest { LeavesNoRest self.old self.new }
         ensures ledger { heap.new.used ≤ heap.old.used }
         ensures settings { KeepsSettings self.old self.new }
-        ensures sound { IsSound self.new }
+        ensures sound { IsSoundListing self.new }
         ensures counted { IsCounted (self.new).space.chunks heap.new allocations_remains.new }
         ensures total { chunks_and_remaining (self.new).space.chunks allocations_remains.new ≡ chunks_and_remaining
             (self.old).space.chunks allocations_remains.old }
     {
-        self.give_back(device, false, heap, allocations_remains);
+        self.let_chunks_go(device, false, heap, allocations_remains);
     }
 
     /// The held chunks, each once, in no particular order. It is public for `gpu_alloc`.
@@ -413,7 +413,7 @@ impl<M: MemoryObject, A: Allocator> FreeListAllocator<M, A> {
         heap: &mut Heap,
         allocations_remains: &mut u32,
     ) -> Result<FreeListBlock<M>, AllocationError>
-        requires fits { FitsAChunk self.old size align_mask }
+        requires fits { FitsAListChunk self.old size align_mask }
         requires address { IsTrue (has_bit (allocation_bits flags) with_device_address)
             → IsTrue (D.properties device.old).buffer_device_address }
         requires agrees { Agrees self.old (D.properties device.old) (D.objects device.old) }
@@ -423,7 +423,7 @@ impl<M: MemoryObject, A: Allocator> FreeListAllocator<M, A> {
             self.new heap.new allocations_remains.new) }
         ensures objects { ObjectsAfter self.old result self.new (D.objects device.old) (D.objects device.new) }
         ensures properties { D.properties device.new ≡ D.properties device.old }
-        ensures sound { IsSound self.old }
+        ensures sound { IsSoundListing self.old }
     {
         match self.freelist.get_block(align_mask, size) {
             Ok(Some(block)) => return Ok(block),
@@ -492,7 +492,7 @@ impl<M: MemoryObject, A: Allocator> FreeListAllocator<M, A> {
         heap: &mut Heap,
         allocations_remains: &mut u32,
     ) -> Result<FreeListBlock<M>, AllocationError>
-        requires fits { FitsAChunk self.old size align_mask }
+        requires fits { FitsAListChunk self.old size align_mask }
         requires asks { Asks (list_case (account self.old heap.old allocations_remains.old) size (align_mask + 1)
             (allocation_bits flags)) }
         requires address { IsTrue (has_bit (allocation_bits flags) with_device_address)
@@ -545,7 +545,7 @@ impl<M: MemoryObject, A: Allocator> FreeListAllocator<M, A> {
     /// Releases wholly free chunks, except that of the last run if it is to be kept. (Most returns leave no such chunk,
     /// and see that from a count.)
     #[inline(always)]
-    fn give_back<D: ObjectDevice<M>>(
+    fn let_chunks_go<D: ObjectDevice<M>>(
         &mut self,
         device: &mut D,
         keep_last: bool,
@@ -554,12 +554,12 @@ impl<M: MemoryObject, A: Allocator> FreeListAllocator<M, A> {
     )
         requires agrees { Agrees self.old (D.properties device.old) (D.objects device.old) }
         requires counted { IsCounted (self.old).space.chunks heap.old allocations_remains.old }
-        ensures gives { CallGivesBack D.step D.objects device.old device.new keep_last
+        ensures gives { CallLetsGo D.step D.objects device.old device.new keep_last
             (account self.old heap.old allocations_remains.old)
             (account self.new heap.new allocations_remains.new) }
         ensures agrees { Agrees self.new (D.properties device.new) (D.objects device.new) }
         ensures properties { D.properties device.new ≡ D.properties device.old }
-        ensures sound { IsSound self.new }
+        ensures sound { IsSoundListing self.new }
         ensures counted { IsCounted (self.new).space.chunks heap.new allocations_remains.new }
         ensures total { chunks_and_remaining (self.new).space.chunks allocations_remains.new ≡ chunks_and_remaining
             (self.old).space.chunks allocations_remains.old }
@@ -580,7 +580,7 @@ fn insert_uncounted<M: MemoryObject, A: Allocator, L: Ledger>(
     requires begins { Begins blank L.name L.parts }
     requires live { IsLiveSlot (freelist.old).space block }
     ensures back { freelist.new.space ≡ without_slot (freelist.old).space block }
-    ensures sound { IsSoundSpace freelist.new.space }
+    ensures sound { IsSoundListSpace freelist.new.space }
 {
     freelist.insert_block(block, &mut Steps::<L>::new(blank));
 }

@@ -16,8 +16,8 @@ use Rattle.gpu_alloc_pairs.specs.Entry.{Entry}
 use Rattle.gpu_alloc_pairs.specs.Halves.{HalfAt, leaf_of, live_leaves}
 use Rattle.gpu_alloc_pairs.specs.InHand.{IsSplitting, IsTakenMore, IsTakenOut}
 use Rattle.gpu_alloc_pairs.specs.Lengths.{whole_of}
-use Rattle.gpu_alloc_pairs.specs.Space.{Space, IsFreeAt, IsSoundSpace, BeginsChunk, chunks_with, with_chunk, with_leaf}
-use Rattle.gpu_alloc_pairs.specs.Store.{IsStored, space_in}
+use Rattle.gpu_alloc_pairs.specs.Space.{BuddySpace, IsFreeAt, IsSoundBuddySpace, BeginsChunk, chunks_with, with_chunk, with_leaf}
+use Rattle.gpu_alloc_pairs.specs.Store.{buddy_space_in, IsStored}
 use Rattle.gpu_alloc_pairs.specs.Tree.{Pairs, IsHalf, IsReady, IsPlaced, IsTree, pair_at}
 use Rattle.gpu_alloc_pairs.specs.declared.pair.Parent.{Parent}
 use Rattle.gpu_alloc_pairs.specs.declared.pair.Side.TheVariants.{Left}
@@ -58,13 +58,13 @@ live_chunks chunks more lengths same = same_live (live_leaves more lengths) (liv
 
 module _ (chunks : HeldChunks) (old new : List (Slab Entry)) (i : IsStored chunks old) (leaf : Leaf) (n order : ℕ) (vacant : finite.get chunks leaf.chunk ≡ None)
     (unheld : (k : ℕ) (c : Chunk) → finite.get chunks k ≡ Some c → c.object ≡ leaf.object → ⊥) (short : n ≤ 63) (longer : order < n) (start : leaf.offset ≡ 0) (size : leaf.size ≡ 2 ^ order) where
-  abbrev s : Space
-  s = space_in chunks old
+  abbrev s : BuddySpace
+  s = buddy_space_in chunks old
 
   abbrev more : HeldChunks
   more = chunks_with chunks leaf (2 ^ n)
 
-  abbrev mid : Space
+  abbrev mid : BuddySpace
   mid = with_chunk s leaf (2 ^ n)
 
   abbrev whole : Piece
@@ -100,7 +100,7 @@ module _ (chunks : HeldChunks) (old new : List (Slab Entry)) (i : IsStored chunk
   begins = record { of_size = size; start = start; free_key = vacant }
 
   module _ (count : length new ≡ length old)
-      (out : (t : Space) → IsSplitting (pair_at old) t whole None → IsTakenOut (pair_at new) t (whole_of leaf.chunk order) leaf.index Left false)
+      (out : (t : BuddySpace) → IsSplitting (pair_at old) t whole None → IsTakenOut (pair_at new) t (whole_of leaf.chunk order) leaf.index Left false)
       (takes : IsTakenMore (pair_at old) (pair_at new) (whole_of leaf.chunk order) leaf.index Left) where
     abbrev z : Piece
     z = whole_of leaf.chunk order
@@ -111,7 +111,7 @@ module _ (chunks : HeldChunks) (old new : List (Slab Entry)) (i : IsStored chunk
     taken : IsTakenOut (pair_at new) mid z leaf.index Left false
     taken = out mid chunk_in_hand
 
-    pub begun_space : space_in more new ≡ with_leaf mid leaf
+    pub begun_space : buddy_space_in more new ≡ with_leaf mid leaf
     begun_space =
         ap (λ l. record { chunks = more; live = l })
         (live_with more old new z leaf.index Left leaf (leaf_is more z leaf.index Left leaf of refl (sym (told_object (finite.get more leaf.chunk) (record { object = leaf.object; size = 2 ^ n }) (own_inserted chunks leaf.chunk (record { object = leaf.object; size = 2 ^ n }))))) takes
@@ -121,6 +121,6 @@ module _ (chunks : HeldChunks) (old new : List (Slab Entry)) (i : IsStored chunk
     stored_begun = record {
       count = count ∙ i.count;
       tree = taken.tree;
-      canonical = subst (λ (t : Space). IsCanonical (IsReady (pair_at new)) (IsFreeAt t)) (sym begun_space) (granted leaf z of (IsReady (pair_at new)) mid (with_leaf mid leaf) refl refl taken.beside);
-      sound = subst IsSoundSpace (sym begun_space) (sound_with_chunk s leaf (2 ^ n) i.sound (n, (short, refl)) vacant unheld (order, size) (0, start ∙ sym (zero-mul leaf.size)) (omega (arith, start, size, pow-le order n (omega arith))));
+      canonical = subst (λ (t : BuddySpace). IsCanonical (IsReady (pair_at new)) (IsFreeAt t)) (sym begun_space) (granted leaf z of (IsReady (pair_at new)) mid (with_leaf mid leaf) refl refl taken.beside);
+      sound = subst IsSoundBuddySpace (sym begun_space) (sound_with_chunk s leaf (2 ^ n) i.sound (n, (short, refl)) vacant unheld (order, size) (0, start ∙ sym (zero-mul leaf.size)) (omega (arith, start, size, pow-le order n (omega arith))));
     }

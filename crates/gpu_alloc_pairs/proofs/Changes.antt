@@ -2,7 +2,7 @@
 use Rattle.std.proofs.Common.{◌≡◌, ◌≢◌, ℕ, Bool, IfNone, IsSome, Option, Some, None, option_map, refl, sym, ◌∙◌, ap, subst}
 use Rattle.slab.specs.Slab.{Slab, Updates, get}
 use Rattle.gpu_alloc_pairs.specs.Entry.{Entry, entry_of, taken_as, use_of, with_use}
-use Rattle.gpu_alloc_pairs.specs.Length.{Frees, IsInUse, IsReadyHalf, IsUsedAs, Merges, SetsUse}
+use Rattle.gpu_alloc_pairs.specs.Length.{FreesHalf, IsInUse, IsReadyHalf, IsUsedAs, Merges, SetsUse}
 use Rattle.gpu_alloc_pairs.specs.Links.{IsLinked, IsOn, KeepsPairs, SetsPair, free_of, free_side}
 use Rattle.gpu_alloc_pairs.specs.Seen.{seen}
 use Rattle.gpu_alloc_pairs.specs.declared.length.Half.{Half}
@@ -79,7 +79,7 @@ half_is_taken s s1 s2 v key side divided p e at k w = record {
 
 pub half_is_freed : (s s1 s2 : Slab Pair) (v : Slab Entry) (key : ℕ) (side : Side) (p : Pair) (state : State) → seen s ≡ v
     → get s key ≡ Some p → free_side p.state ≡ None → KeepsPairs s s1 → free_side state ≡ Some side
-    → SetsPair s1 s2 key (λ old new. new ≡ record old { state = state }) → Frees v (seen s2) key side
+    → SetsPair s1 s2 key (λ old new. new ≡ record old { state = state }) → FreesHalf v (seen s2) key side
 half_is_freed s s1 s2 v key side p state e at x k free w = record {
   entry = entry_of p;
   at = get_view s v key e ∙ ap (option_map entry_of) at;

@@ -11,7 +11,7 @@ use Rattle.gpu_alloc_base.proofs.Maps.{one_value}
 use Rattle.gpu_alloc_pairs.specs.Entry.{Entry}
 use Rattle.gpu_alloc_pairs.specs.InHand.{IsReturning, IsTakenBeside}
 use Rattle.gpu_alloc_pairs.specs.Lengths.{ComesBack, HasPair, IsFreeAgain, IsWholeAgain, Releases}
-use Rattle.gpu_alloc_pairs.specs.Space.{Space}
+use Rattle.gpu_alloc_pairs.specs.Space.{BuddySpace}
 use Rattle.gpu_alloc_pairs.specs.Tree.{Pairs, IsHalf, pair_at, no_pairs}
 use Rattle.gpu_alloc_pairs.specs.declared.length.Whole.{Whole}
 use Rattle.gpu_alloc_pairs.specs.declared.pair.Parent.{Parent}
@@ -28,20 +28,20 @@ pair_in_range lengths n k e at = elim (cases_lt n (length lengths)) [
 ]
 
 -- what came back has become this half, and the other live blocks are the same
-pub record IsClimbed (P Q : Pairs) (s : Space) (z : Piece) (order key : ℕ) (side : Side) : Type 0 where
+pub record IsClimbed (P Q : Pairs) (s : BuddySpace) (z : Piece) (order key : ℕ) (side : Side) : Type 0 where
   pub now : Piece
   pub of_order : now.order ≡ order
   pub chunk : now.chunk ≡ z.chunk
   pub returning : IsReturning Q s now key side
   pub beside : IsTakenBeside P Q z now
 
-pub climbs_from : (P : Pairs) (s : Space) (z : Piece) (order key : ℕ) (side : Side) → z.order ≡ order → IsReturning P s z key side → IsClimbed P P s z order key side
+pub climbs_from : (P : Pairs) (s : BuddySpace) (z : Piece) (order key : ℕ) (side : Side) → z.order ≡ order → IsReturning P s z key side → IsClimbed P P s z order key side
 climbs_from P s z order key side of_order r = record { now = z; of_order = of_order; chunk = refl; returning = r; beside = record { to = λ p k a h other. (h, other); from = λ p k a h other. (h, other) } }
 
 divided_not_taken : Divided ≡ Taken → ⊥
 divided_not_taken e = cc
 
-module _ (P Q R : Pairs) (s : Space) (z : Piece) (order key : ℕ) (side : Side) (c : IsClimbed P Q s z order key side) where
+module _ (P Q R : Pairs) (s : BuddySpace) (z : Piece) (order key : ℕ) (side : Side) (c : IsClimbed P Q s z order key side) where
   abbrev w : Piece
   w = c.now
 

@@ -21,7 +21,7 @@ use Rattle.gpu_alloc_base.proofs.AlignedPowers.{ends_in, lies_in, left-aligned, 
 use Rattle.gpu_alloc_base.proofs.Leaves.{leaf_total, leaf_test, leaf_removed}
 use Rattle.gpu_alloc_base.proofs.Lists.{contains_head, contains_later, head_is_other, seek}
 use Rattle.gpu_alloc_base.proofs.Maps.{one_value}
-use Rattle.gpu_alloc_pairs.specs.Space.{Space, IsLiveLeaf, IsFreeAt, IsSoundSpace}
+use Rattle.gpu_alloc_pairs.specs.Space.{BuddySpace, IsLiveLeaf, IsFreeAt, IsSoundBuddySpace}
 
 -- Sets of blocks and lists.
 
@@ -143,7 +143,7 @@ shared_byte chunk y n q some_n some_q h = elim (cases_lt y q.offset) [
   | inr le ↦ (y, record { from = omega arith; to = omega arith }, record { from = le; to = h.after })
 ]
 
-module _ (s : Space) (sound : IsSoundSpace s) (chunk k a : ℕ) (piece : IsFreePiece (IsFreeAt s) chunk a (2 ^ k)) where
+module _ (s : BuddySpace) (sound : IsSoundBuddySpace s) (chunk k a : ℕ) (piece : IsFreePiece (IsFreeAt s) chunk a (2 ^ k)) where
   -- the piece lies in its chunk, which is longer
   record Around : Type 0 where
     pub held : Chunk
@@ -270,7 +270,7 @@ pub same_place-from_eq : (p q : Piece) → p.chunk ≡ q.chunk → p.start ≡ q
 same_place-from_eq p q a b = ap (λ t. t && (p.start == q.start)) ((Decides-eqb p.chunk q.chunk).1 a) ∙ (Decides-eqb p.start q.start).1 b
 
 -- there are no more free pieces of one length than live blocks
-pub few_pieces : (s : Space) → IsSoundSpace s → (order : ℕ) (pieces : List Piece) → IsDistinct same_place pieces
+pub few_pieces : (s : BuddySpace) → IsSoundBuddySpace s → (order : ℕ) (pieces : List Piece) → IsDistinct same_place pieces
     → ((p : Piece) → Contains pieces p → (p.order ≡ order) × IsFreePiece (IsFreeAt s) p.chunk p.start (2 ^ p.order)) → length pieces ≤ set.len s.live
 few_pieces s sound order pieces distinct are =
     length-le_by_members same_place (λ p q. IsBesideLeaf p.chunk order p.start q) pieces s.live distinct

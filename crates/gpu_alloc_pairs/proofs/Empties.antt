@@ -12,8 +12,8 @@ use Rattle.gpu_alloc_base.proofs.Leaves.{in_leaves}
 use Rattle.gpu_alloc_base.proofs.Lists.{contains_none}
 use Rattle.gpu_alloc_pairs.specs.Entry.{Entry}
 use Rattle.gpu_alloc_pairs.specs.Halves.{halves_of_length, halves_from, leaf_of}
-use Rattle.gpu_alloc_pairs.specs.Space.{Space, IsLiveLeaf, IsSoundSpace}
-use Rattle.gpu_alloc_pairs.specs.Store.{IsStored, space_in}
+use Rattle.gpu_alloc_pairs.specs.Space.{BuddySpace, IsLiveLeaf, IsSoundBuddySpace}
+use Rattle.gpu_alloc_pairs.specs.Store.{buddy_space_in, IsStored}
 use Rattle.gpu_alloc_pairs.specs.Tree.{IsReady, no_pairs, pair_at}
 use Rattle.gpu_alloc_pairs.specs.declared.pair.Use.{Use}
 use Rattle.gpu_alloc_pairs.specs.declared.pair.Use.TheVariants.{Taken}
@@ -46,14 +46,14 @@ no_chunks = finite.empty
 none_held : (key : ℕ) (chunk : Chunk) → finite.get no_chunks key ≡ Some chunk → ⊥
 none_held key chunk is = let none : finite.get no_chunks key ≡ None = finite.get-empty nat_cmp key in cc
 
-abbrev pub nothing : Space
+abbrev pub nothing : BuddySpace
 nothing = record { chunks = no_chunks; live = set.empty }
 
 none_live : (leaf : Leaf) → IsLiveLeaf nothing leaf → ⊥
 none_live leaf live = contains_none leaf ((in_leaves [] leaf).0 live)
 
 module _ (lengths : List (Slab Entry)) (all : AreEmpty lengths) where
-  pub empty_space : space_in no_chunks lengths ≡ nothing
+  pub empty_space : buddy_space_in no_chunks lengths ≡ nothing
   empty_space = ap (λ hs. record { chunks = no_chunks; live = set.from_list (map (leaf_of no_chunks) hs) }) (no_halves Taken 0 lengths all)
 
   none_ready : {p : _} → IsReady (pair_at lengths) p → ⊥
@@ -75,7 +75,7 @@ module _ (lengths : List (Slab Entry)) (all : AreEmpty lengths) where
       free = λ p r at in_p. absurd (none_ready r);
       covers = λ chunk at f. absurd (none_held chunk f.held f.is);
     };
-    sound = subst IsSoundSpace (sym empty_space) (record {
+    sound = subst IsSoundBuddySpace (sym empty_space) (record {
       one_object = λ k l c d is_c is_d same. absurd (none_held k c is_c);
       powers = λ k c is. absurd (none_held k c is);
       used = λ k c is. absurd (none_held k c is);

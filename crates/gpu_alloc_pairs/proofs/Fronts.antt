@@ -6,7 +6,7 @@ use Rattle.gpu_alloc_base.proofs.ExactPieces.{same_piece}
 use Rattle.gpu_alloc_pairs.specs.Entry.{half_start}
 use Rattle.gpu_alloc_pairs.specs.InHand.{IsTakenOut, IsTakenMore, IsTakenSame}
 use Rattle.gpu_alloc_pairs.specs.Lengths.{TakesHalf}
-use Rattle.gpu_alloc_pairs.specs.Space.{Space, IsFreeAt}
+use Rattle.gpu_alloc_pairs.specs.Space.{BuddySpace, IsFreeAt}
 use Rattle.gpu_alloc_pairs.specs.Tree.{Pairs, IsReady, IsTree}
 use Rattle.gpu_alloc_pairs.specs.declared.length.Half.{Half}
 use Rattle.gpu_alloc_pairs.proofs.Splits.{taken_out, taken_divided, taken_whole}
@@ -20,7 +20,7 @@ module _ (P Q : Pairs) (order : ℕ) (h : Half) (d : Bool) (t : TakesHalf P Q or
   is_half : half_piece h order ≡ piece_at order t.entry h.side
   is_half = same_piece (half_piece h order) (piece_at order t.entry h.side) t.chunk (ap (λ n. half_start (2 ^ order) n h.side) t.offset) refl
 
-  pub half_out : (s : Space) → IsTree P s.chunks → IsCanonical (IsReady P) (IsFreeAt s) → (z : Piece) → z ≡ half_piece h order → IsTakenOut Q s z h.key h.side d
+  pub half_out : (s : BuddySpace) → IsTree P s.chunks → IsCanonical (IsReady P) (IsFreeAt s) → (z : Piece) → z ≡ half_piece h order → IsTakenOut Q s z h.key h.side d
   half_out s tree canonical z is =
       subst (λ x. IsTakenOut Q s x h.key h.side d) (sym (is ∙ is_half)) (taken_out P Q s order h.key h.side t.entry d t.sets t.free tree canonical)
 

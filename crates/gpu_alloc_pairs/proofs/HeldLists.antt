@@ -16,12 +16,12 @@ use Rattle.gpu_alloc_base.proofs.Lists.{contains_head, contains_later}
 use Rattle.gpu_alloc_pairs.specs.Entry.{Entry, use_of}
 use Rattle.gpu_alloc_pairs.specs.Halves.{HalfAt, half_at, half_used, halves_from, leaf_of, live_leaves}
 use Rattle.gpu_alloc_pairs.specs.HeldLists.{AddsLeaves}
-use Rattle.gpu_alloc_pairs.specs.Space.{IsSoundSpace, Space}
+use Rattle.gpu_alloc_pairs.specs.Space.{BuddySpace, IsSoundBuddySpace}
 use Rattle.gpu_alloc_pairs.specs.Store.{IsStored}
 use Rattle.gpu_alloc_pairs.specs.Tree.{IsHalf, pair_at}
 use Rattle.gpu_alloc_pairs.specs.declared.pair.Side.{Side}
 use Rattle.gpu_alloc_pairs.specs.declared.pair.Use.TheVariants.{Taken}
-use Rattle.gpu_alloc_pairs.proofs.GivesBack.{same_order}
+use Rattle.gpu_alloc_pairs.proofs.PutsBack.{same_order}
 use Rattle.gpu_alloc_pairs.proofs.Halves.{halves_apart, halves_are, same_use-from_eq}
 use Rattle.gpu_alloc_pairs.proofs.Trees.{one_half}
 
@@ -50,7 +50,7 @@ module _ {E K : Type 0} (f : E → K) where
 -- Chunks.
 
 -- a chunk has at most 2^63 bytes
-pub short_order : (s : Space) (key order : ℕ) (chunk : HeldChunk) → IsSoundSpace s → finite.get s.chunks key ≡ Some chunk → chunk.size ≡ 2 ^ order → order < 64
+pub short_order : (s : BuddySpace) (key order : ℕ) (chunk : HeldChunk) → IsSoundBuddySpace s → finite.get s.chunks key ≡ Some chunk → chunk.size ≡ 2 ^ order → order < 64
 short_order s key order chunk sound held size =
     let power = sound.powers key chunk held in
     omega (arith, power.1.0, same_order order power.0 (sym size ∙ power.1.1))

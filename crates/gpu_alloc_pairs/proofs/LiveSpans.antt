@@ -9,24 +9,24 @@ use Rattle.gpu_alloc_base.specs.Chunks.{Chunk, object_in}
 use Rattle.gpu_alloc_base.specs.SlabViews.{by_key}
 use Rattle.gpu_alloc_base.specs.declared.buddy_block.Leaf.{Leaf}
 use Rattle.gpu_alloc_base.proofs.SlabViews.{found_by_key}
-use Rattle.gpu_alloc_pairs.specs.Blocks.{AreInChunks, HasSpan, StandsNowhere}
+use Rattle.gpu_alloc_pairs.specs.Blocks.{AreInChunks, BlockStandsNowhere, HasSpan}
 use Rattle.gpu_alloc_pairs.specs.Entry.{Entry, entry_of, half_start}
 use Rattle.gpu_alloc_pairs.specs.Halves.{HalfAt, leaf_of}
 use Rattle.gpu_alloc_pairs.specs.Seen.{seen}
-use Rattle.gpu_alloc_pairs.specs.Space.{IsLiveLeaf, IsLiveSpan, IsNoLiveSpan, IsSoundSpace, Space}
-use Rattle.gpu_alloc_pairs.specs.Store.{IsStored, space_in}
+use Rattle.gpu_alloc_pairs.specs.Space.{BuddySpace, IsLiveLeaf, IsLiveSpan, IsNoLiveSpan, IsSoundBuddySpace}
+use Rattle.gpu_alloc_pairs.specs.Store.{buddy_space_in, IsStored}
 use Rattle.gpu_alloc_pairs.specs.Tree.{IsHalf, no_pairs, pair_at}
 use Rattle.gpu_alloc_pairs.specs.declared.pair.Pair.{Pair}
 use Rattle.gpu_alloc_pairs.specs.declared.pair.Use.TheVariants.{Taken}
 use Rattle.gpu_alloc_pairs.proofs.Changes.{is_seen}
 use Rattle.gpu_alloc_pairs.proofs.Climbs.{pair_in_range}
-use Rattle.gpu_alloc_pairs.proofs.GivesBack.{same_order}
+use Rattle.gpu_alloc_pairs.proofs.PutsBack.{same_order}
 use Rattle.gpu_alloc_pairs.proofs.Halves.{live_leaves_are}
 use Rattle.gpu_alloc_pairs.proofs.Ranges.{all_bounded}
 use Rattle.gpu_alloc_pairs.proofs.Seen.{get_view}
 
 -- Two live blocks of one object that start at one byte are one.
-pub one_leaf : (s : Space) → IsSoundSpace s → (x y : Leaf) → IsLiveLeaf s x → IsLiveLeaf s y → x.object ≡ y.object → x.offset ≡ y.offset → x ≡ y
+pub one_leaf : (s : BuddySpace) → IsSoundBuddySpace s → (x y : Leaf) → IsLiveLeaf s x → IsLiveLeaf s y → x.object ≡ y.object → x.offset ≡ y.offset → x ≡ y
 one_leaf s sound x y live also object offset =
     let a = sound.inside x live in
     let b = sound.inside y also in
@@ -36,7 +36,7 @@ one_leaf s sound x y live also object offset =
     sound.apart x y live also chunk x.offset (record { from = omega arith; to = omega (arith, of_x) }) (record { from = omega (arith, offset); to = omega (arith, offset, of_y) })
 
 -- so what is found of a span is the block that is known to have it
-pub exact_leaf : (s : Space) (object offset size : ℕ) (o : Option Leaf) → IsSoundSpace s → MatchOption o (IsNoLiveSpan s object offset size) (IsLiveSpan s object offset size)
+pub exact_leaf : (s : BuddySpace) (object offset size : ℕ) (o : Option Leaf) → IsSoundBuddySpace s → MatchOption o (IsNoLiveSpan s object offset size) (IsLiveSpan s object offset size)
     → (leaf : Leaf) → IsLiveSpan s object offset size leaf → o ≡ Some leaf
 exact_leaf s object offset size None sound none leaf is = absurd (none leaf is)
 exact_leaf s object offset size (Some x) sound found leaf is =
@@ -44,7 +44,7 @@ exact_leaf s object offset size (Some x) sound found leaf is =
 
 module _ (chunks : HeldChunks) (lengths : List (Slab Entry)) (i : IsStored chunks lengths) where
   -- each block has as many bytes as a half of one of the lengths
-  pub of_no_length : (object offset size : ℕ) → ((n : ℕ) → n < 63 → size ≢ 2 ^ n) → IsNoLiveSpan (space_in chunks lengths) object offset size
+  pub of_no_length : (object offset size : ℕ) → ((n : ℕ) → n < 63 → size ≢ 2 ^ n) → IsNoLiveSpan (buddy_space_in chunks lengths) object offset size
   of_no_length object offset size none leaf is =
       let w = (live_leaves_are chunks lengths leaf).0 is.live in
       let half = w.1.0 in
@@ -58,7 +58,7 @@ module _ (chunks : HeldChunks) (lengths : List (Slab Entry)) (i : IsStored chunk
 
     -- a pair that has the span has its block
     pub under_live : (object offset size key : ℕ) (p : Pair) → size ≡ 2 ^ order → get pairs key ≡ Some p → HasSpan chunks order object offset (entry_of p)
-        → IsLiveSpan (space_in chunks lengths) object offset size (record { object = object; chunk = p.chunk; offset = offset; size = size; index = key })
+        → IsLiveSpan (buddy_space_in chunks lengths) object offset size (record { object = object; chunk = p.chunk; offset = offset; size = size; index = key })
     under_live object offset size key p sized at has =
         let side = has.0.0 in
         let h : HalfAt = record { piece = record { chunk = p.chunk; start = half_start (2 ^ order) p.offset side; order = order }; key = key; side = side } in
@@ -68,7 +68,7 @@ module _ (chunks : HeldChunks) (lengths : List (Slab Entry)) (i : IsStored chunk
         record { live = (live_leaves_are chunks lengths leaf).1 (h, (half, same)); of_object = refl; starts = refl; of_size = refl }
 
     -- where no pair has it, no block does
-    pub nowhere_live : (object offset size : ℕ) → size ≡ 2 ^ order → StandsNowhere chunks pairs order object offset → IsNoLiveSpan (space_in chunks lengths) object offset size
+    pub nowhere_live : (object offset size : ℕ) → size ≡ 2 ^ order → BlockStandsNowhere chunks pairs order object offset → IsNoLiveSpan (buddy_space_in chunks lengths) object offset size
     nowhere_live object offset size sized none leaf is =
         let w = (live_leaves_are chunks lengths leaf).0 is.live in
         let h = w.0 in

@@ -10,7 +10,7 @@ use Rattle.gpu_alloc_base.proofs.AlignedPowers.{doubled, pow-le}
 use Rattle.gpu_alloc_pairs.specs.Entry.{Entry}
 use Rattle.gpu_alloc_pairs.specs.Halves.{free_pieces}
 use Rattle.gpu_alloc_pairs.specs.Length.{AreBounded}
-use Rattle.gpu_alloc_pairs.specs.Store.{IsStored, space_in}
+use Rattle.gpu_alloc_pairs.specs.Store.{buddy_space_in, IsStored}
 use Rattle.gpu_alloc_pairs.specs.Tree.{no_pairs}
 use Rattle.gpu_alloc_pairs.proofs.Halves.{free_pieces_are}
 use Rattle.gpu_alloc_pairs.proofs.Space.{PieceLies, bounded_piece, free_lies}
@@ -32,12 +32,12 @@ module _ (chunks : HeldChunks) (lengths : List (Slab Entry)) (i : IsStored chunk
   in_pieces pieces k d is lt = subst (λ ps. Contains ps (get_or pieces k d)) is (Contains-get_or pieces k d lt)
 
   module _ (p : Piece) (has : Contains (free_pieces lengths) p) where
-    lies : PieceLies (space_in chunks lengths) p
-    lies = free_lies (space_in chunks lengths) p (λ at j. i.canonical.free p ((free_pieces_are lengths p).0 has) at j)
+    lies : PieceLies (buddy_space_in chunks lengths) p
+    lies = free_lies (buddy_space_in chunks lengths) p (λ at j. i.canonical.free p ((free_pieces_are lengths p).0 has) at j)
 
     pub piece_held : IsSome (finite.get chunks p.chunk)
     piece_held = held_some (finite.get chunks p.chunk) lies.held lies.is
 
     pub piece_bounded : (p.order ≤ 63) × (p.start + 2 ^ p.order ≤ 2 ^ 63)
-    piece_bounded = bounded_piece (space_in chunks lengths) p
+    piece_bounded = bounded_piece (buddy_space_in chunks lengths) p
         (λ key held is. let power = i.sound.powers key held is in omega (arith, power.1.1, pow-le power.0 63 power.1.0)) lies

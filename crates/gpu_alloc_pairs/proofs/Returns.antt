@@ -3,13 +3,13 @@ use Rattle.std.proofs.Common.{◌≡◌, ℕ, zero, suc, ◌+◌, ◌-◌, ◌^�
 use Rattle.std.specs.FinMap as finite
 use Rattle.gpu_alloc_base.specs.Chunks.{Chunk}
 use Rattle.gpu_alloc_base.specs.FreeSpace.{IsMultipleOf}
-use Rattle.gpu_alloc_base.specs.Pieces.{InPiece, IsCanonical, Without, IsBeside, IsWith, AreHalves}
+use Rattle.gpu_alloc_base.specs.Pieces.{InPiece, IsCanonical, Without, IsCanonicalBeside, IsWith, AreHalves}
 use Rattle.gpu_alloc_base.specs.declared.piece.Piece.{Piece}
 use Rattle.gpu_alloc_base.proofs.AlignedPowers.{order-le}
 use Rattle.gpu_alloc_base.proofs.Maps.{one_value}
 use Rattle.gpu_alloc_pairs.specs.Entry.{Entry, use_of, other_side, half_start}
 use Rattle.gpu_alloc_pairs.specs.InHand.{SetsHalf, AddsPair, IsReturning}
-use Rattle.gpu_alloc_pairs.specs.Space.{Space, IsFreeAt}
+use Rattle.gpu_alloc_pairs.specs.Space.{BuddySpace, IsFreeAt}
 use Rattle.gpu_alloc_pairs.specs.Tree.{Pairs, IsHalf, IsReady, IsRoot, Divides, IsPlaced, IsUndivided, IsTree}
 use Rattle.gpu_alloc_pairs.specs.declared.pair.Parent.{Parent}
 use Rattle.gpu_alloc_pairs.specs.declared.pair.Side.{Side}
@@ -21,7 +21,7 @@ use Rattle.gpu_alloc_pairs.proofs.Splits.{free_not_taken}
 use Rattle.gpu_alloc_pairs.proofs.Trees.{piece_at, piece_is, pair_halves, one_entry, one_half, one_use, one_piece, undivided, no_entry, no_left_half, no_right_half, side_or_other}
 use Rattle.gpu_alloc_pairs.proofs.TreeSteps.{half_set, half_kept, half_less, ready_more, tree_after_set, half_cases, half_stays, pair_kept, pair_cases, ready_with, not_ready_before, tree_without}
 
-module _ (P : Pairs) (s : Space) (z : Piece) (key : ℕ) (side : Side) (r : IsReturning P s z key side) (e : Entry) (at : P z.order key ≡ Some e) where
+module _ (P : Pairs) (s : BuddySpace) (z : Piece) (key : ℕ) (side : Side) (r : IsReturning P s z key side) (e : Entry) (at : P z.order key ≡ Some e) where
   same_entry : r.half.entry ≡ e
   same_entry = one_entry (P z.order key) r.half.entry e r.half.pair at
 
@@ -100,7 +100,7 @@ module _ (P : Pairs) (s : Space) (z : Piece) (key : ℕ) (side : Side) (r : IsRe
     whole = record { chunk = e.chunk; start = e.offset; order = z.order + 1 }
 
     -- the two pieces, by the side in hand
-    pub merged_beside : IsBeside (IsReady Q) (IsFreeAt s) whole
+    pub merged_beside : IsCanonicalBeside (IsReady Q) (IsFreeAt s) whole
     merged_beside = by_side side refl
       where
         aligned : IsMultipleOf (2 ^ (z.order + 1)) e.offset
@@ -118,7 +118,7 @@ module _ (P : Pairs) (s : Space) (z : Piece) (key : ℕ) (side : Side) (r : IsRe
             let ready : IsReady P (piece_at z.order e a) = record { key = key; side = a; half = record { entry = e; pair = at; chunk = refl; start = refl; used = ap (use_of e) is ∙ other } } in
             (r.beside.canonical.free (piece_at z.order e a) ready b i).0
 
-        by_side : (a : Side) → a ≡ side → IsBeside (IsReady Q) (IsFreeAt s) whole
+        by_side : (a : Side) → a ≡ side → IsCanonicalBeside (IsReady Q) (IsFreeAt s) whole
         by_side Left is = record {
           canonical = join_right (piece_at z.order e Left) (piece_at z.order e Right) halves (IsReady P) (IsReady Q) (IsFreeAt s)
               (ready_with Q P z.order key e goes Right (ap (λ b. use_of e (other_side b)) is ∙ other) (λ f. in_hand_used (ap (use_of e) (sym is) ∙ f)))

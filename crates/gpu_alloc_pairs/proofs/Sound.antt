@@ -7,12 +7,12 @@ use Rattle.gpu_alloc_base.specs.FreeSpace.{IsIn, IsMultipleOf, IsPowerUpTo}
 use Rattle.gpu_alloc_base.specs.declared.buddy_block.Leaf.{Leaf}
 use Rattle.gpu_alloc_base.proofs.Leaves.{leaf_removed, now_live, still_live, was_live}
 use Rattle.gpu_alloc_base.proofs.Maps.{inserted_cases, inserted_kept, own_inserted, kept_key, kept_other}
-use Rattle.gpu_alloc_pairs.specs.Space.{Space, IsFreeAt, IsLiveLeaf, IsSoundSpace, IsUnusedChunk, IsUsedChunk, LiesInChunk, with_leaf, with_chunk, without_leaf, without_chunk}
+use Rattle.gpu_alloc_pairs.specs.Space.{BuddySpace, IsFreeAt, IsLiveLeaf, IsSoundBuddySpace, IsUnusedChunk, IsUsedChunk, LiesInChunk, with_leaf, with_chunk, without_leaf, without_leaf_and_chunk}
 
 -- A block more.
 
 -- two live blocks that share a byte are one
-apart_with : (s : Space) (leaf : Leaf) → ((x y : Leaf) → IsLiveLeaf s x → IsLiveLeaf s y → x.chunk ≡ y.chunk → (at : ℕ) → IsIn x.offset x.size at → IsIn y.offset y.size at → x ≡ y)
+apart_with : (s : BuddySpace) (leaf : Leaf) → ((x y : Leaf) → IsLiveLeaf s x → IsLiveLeaf s y → x.chunk ≡ y.chunk → (at : ℕ) → IsIn x.offset x.size at → IsIn y.offset y.size at → x ≡ y)
     → ((q : Leaf) → IsLiveLeaf s q → q.chunk ≡ leaf.chunk → (at : ℕ) → IsIn q.offset q.size at → IsIn leaf.offset leaf.size at → ⊥)
     → (x y : Leaf) → IsLiveLeaf (with_leaf s leaf) x → IsLiveLeaf (with_leaf s leaf) y → x.chunk ≡ y.chunk → (at : ℕ) → IsIn x.offset x.size at → IsIn y.offset y.size at → x ≡ y
 apart_with s leaf apart free x y x_live y_live same at in_x in_y = elim (was_live s.live leaf x x_live) [
@@ -26,11 +26,11 @@ apart_with s leaf apart free x y x_live y_live same at in_x in_y = elim (was_liv
   ]
 ]
 
-lies_with : (s : Space) (leaf q : Leaf) → LiesInChunk s q → LiesInChunk (with_leaf s leaf) q
+lies_with : (s : BuddySpace) (leaf q : Leaf) → LiesInChunk s q → LiesInChunk (with_leaf s leaf) q
 lies_with s leaf q l = record { chunk = l.chunk; held = l.held; object = l.object; power = l.power; aligned = l.aligned; inside = l.inside }
 
 -- in a chunk that is held
-pub sound_with_leaf : (s : Space) (leaf : Leaf) → IsSoundSpace s → LiesInChunk s leaf → ((at : ℕ) → IsIn leaf.offset leaf.size at → IsFreeAt s leaf.chunk at) → IsSoundSpace (with_leaf s leaf)
+pub sound_with_leaf : (s : BuddySpace) (leaf : Leaf) → IsSoundBuddySpace s → LiesInChunk s leaf → ((at : ℕ) → IsIn leaf.offset leaf.size at → IsFreeAt s leaf.chunk at) → IsSoundBuddySpace (with_leaf s leaf)
 sound_with_leaf s leaf sound lies free = record {
   one_object = sound.one_object;
   powers = sound.powers;
@@ -42,20 +42,20 @@ sound_with_leaf s leaf sound lies free = record {
 -- A chunk more.
 
 -- no live block names a key that has no chunk
-pub no_leaf_at : (s : Space) (key : ℕ) → IsSoundSpace s → map.get s.chunks key ≡ None → (q : Leaf) → IsLiveLeaf s q → q.chunk ≡ key → ⊥
+pub no_leaf_at : (s : BuddySpace) (key : ℕ) → IsSoundBuddySpace s → map.get s.chunks key ≡ None → (q : Leaf) → IsLiveLeaf s q → q.chunk ≡ key → ⊥
 no_leaf_at s key sound none q live same =
     let l = sound.inside q live in
     let there : map.get s.chunks key ≡ Some l.chunk = subst (λ k. map.get s.chunks k ≡ Some l.chunk) same l.held in
     cc
 
 -- with the first block of a new chunk
-pub sound_with_chunk : (s : Space) (leaf : Leaf) (size : ℕ) → IsSoundSpace s → IsPowerUpTo 63 size → map.get s.chunks leaf.chunk ≡ None
+pub sound_with_chunk : (s : BuddySpace) (leaf : Leaf) (size : ℕ) → IsSoundBuddySpace s → IsPowerUpTo 63 size → map.get s.chunks leaf.chunk ≡ None
     → ((k : ℕ) (c : Chunk) → map.get s.chunks k ≡ Some c → c.object ≡ leaf.object → ⊥)
-    → (power : (k : ℕ) × (leaf.size ≡ 2 ^ k)) → IsMultipleOf leaf.size leaf.offset → leaf.offset + leaf.size ≤ size → IsSoundSpace (with_leaf (with_chunk s leaf size) leaf)
+    → (power : (k : ℕ) × (leaf.size ≡ 2 ^ k)) → IsMultipleOf leaf.size leaf.offset → leaf.offset + leaf.size ≤ size → IsSoundBuddySpace (with_leaf (with_chunk s leaf size) leaf)
 sound_with_chunk s leaf size sound power none other of_power aligned inside =
     let m = s.chunks in
     let v : Chunk = record { object = leaf.object; size = size } in
-    let mid : Space = with_chunk s leaf size in
+    let mid : BuddySpace = with_chunk s leaf size in
     record {
       one_object = λ k l c d is_c is_d same. elim (inserted_cases m leaf.chunk v k c is_c) [
         | inl new_c ↦ elim (inserted_cases m leaf.chunk v l d is_d) [
@@ -82,7 +82,7 @@ sound_with_chunk s leaf size sound power none other of_power aligned inside =
 
 -- A block less, and a chunk less.
 
-module _ (s : Space) (leaf : Leaf) (sound : IsSoundSpace s) where
+module _ (s : BuddySpace) (leaf : Leaf) (sound : IsSoundBuddySpace s) where
   -- what is live still was live, and is another block
   pub was_another : (q : Leaf) → IsLiveLeaf (without_leaf s leaf) q → (q ≡ leaf → ⊥) × IsLiveLeaf s q
   was_another q t = (leaf_removed s.live leaf q).0 t
@@ -93,7 +93,7 @@ module _ (s : Space) (leaf : Leaf) (sound : IsSoundSpace s) where
       let u = sound.used k c at in
       (u.0, ((leaf_removed s.live leaf u.0).1 ((λ same. other (sym u.1.1 ∙ ap (λ (l : Leaf). l.chunk) same)), u.1.0), u.1.1))
 
-  pub sound_left : IsUsedChunk (without_leaf s leaf) leaf.chunk → IsSoundSpace (without_leaf s leaf)
+  pub sound_left : IsUsedChunk (without_leaf s leaf) leaf.chunk → IsSoundBuddySpace (without_leaf s leaf)
   sound_left used = record {
     one_object = sound.one_object;
     powers = sound.powers;
@@ -105,7 +105,7 @@ module _ (s : Space) (leaf : Leaf) (sound : IsSoundSpace s) where
     apart = λ x y t u. sound.apart x y (was_another x t).1 (was_another y u).1;
   }
 
-  pub sound_without : IsUnusedChunk (without_leaf s leaf) leaf.chunk → IsSoundSpace (without_chunk s leaf)
+  pub sound_without : IsUnusedChunk (without_leaf s leaf) leaf.chunk → IsSoundBuddySpace (without_leaf_and_chunk s leaf)
   sound_without unused = record {
     one_object = λ k l c d k_is l_is. sound.one_object k l c d (kept_key s.chunks leaf.chunk k c k_is).1 (kept_key s.chunks leaf.chunk l d l_is).1;
     powers = λ k c at. sound.powers k c (kept_key s.chunks leaf.chunk k c at).1;

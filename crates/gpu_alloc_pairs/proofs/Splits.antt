@@ -13,8 +13,8 @@ use Rattle.gpu_alloc_base.proofs.Maps.{one_value}
 use Rattle.gpu_alloc_pairs.specs.Entry.{Entry, use_of, taken_as, half_start}
 use Rattle.gpu_alloc_pairs.specs.InHand.{SetsHalf, AddsPair, IsHandAt, IsSplitting, IsTakenOut, IsTakenSame, IsTakenMore}
 use Rattle.gpu_alloc_pairs.specs.Lengths.{dividing}
-use Rattle.gpu_alloc_pairs.specs.Space.{Space, IsFreeAt}
-use Rattle.gpu_alloc_pairs.specs.Tree.{Pairs, IsHalf, IsReady, IsPlaced, IsUndivided, LiesIn, IsTree}
+use Rattle.gpu_alloc_pairs.specs.Space.{BuddySpace, IsFreeAt}
+use Rattle.gpu_alloc_pairs.specs.Tree.{Pairs, IsHalf, IsReady, IsPlaced, IsUndivided, PairLiesIn, IsTree}
 use Rattle.gpu_alloc_pairs.specs.declared.pair.Parent.{Parent}
 use Rattle.gpu_alloc_pairs.specs.declared.pair.Side.{Side}
 use Rattle.gpu_alloc_pairs.specs.declared.pair.Side.TheVariants.{Left, Right}
@@ -38,7 +38,7 @@ not_free false e = cc
 free_not_divided : (u : Use) → u ≡ Free → u ≡ Divided → ⊥
 free_not_divided u a b = cc
 
-module _ (P Q : Pairs) (s : Space) (order key : ℕ) (side : Side) (e : Entry) (d : Bool) (sets : SetsHalf P Q order key side e (taken_as d)) (free : use_of e side ≡ Free) where
+module _ (P Q : Pairs) (s : BuddySpace) (order key : ℕ) (side : Side) (e : Entry) (d : Bool) (sets : SetsHalf P Q order key side e (taken_as d)) (free : use_of e side ≡ Free) where
   pub taken_out : IsTree P s.chunks → IsCanonical (IsReady P) (IsFreeAt s) → IsTakenOut Q s (piece_at order e side) key side d
   taken_out t c =
       let whole : IsUndivided P order key side = undivided P s.chunks t order key e side sets.was (free_not_divided (use_of e side) free) in
@@ -64,7 +64,7 @@ module _ (P Q : Pairs) (s : Space) (order key : ℕ) (side : Side) (e : Entry) (
 abbrev pub left_half : Piece → ℕ → Piece
 left_half z order = record { chunk = z.chunk; start = z.start; order = order }
 
-module _ (P Q : Pairs) (s : Space) (z : Piece) (o : Option Parent) (order key : ℕ) (d : Bool) (one_more : z.order ≡ order + 1) (adds : AddsPair P Q order key (dividing z o d)) where
+module _ (P Q : Pairs) (s : BuddySpace) (z : Piece) (o : Option Parent) (order key : ℕ) (d : Bool) (one_more : z.order ≡ order + 1) (adds : AddsPair P Q order key (dividing z o d)) where
   abbrev e : Entry
   e = dividing z o d
 
@@ -85,7 +85,7 @@ module _ (P Q : Pairs) (s : Space) (z : Piece) (o : Option Parent) (order key : 
     aligned : IsMultipleOf (2 ^ (order + 1)) z.start
     aligned = (i.beside.aligned.0, i.beside.aligned.1 ∙ ap (λ n. i.beside.aligned.0 * n) length)
 
-    inside : LiesIn s.chunks order e
+    inside : PairLiesIn s.chunks order e
     inside = let l = free_lies s z (λ at j. i.beside.inside at j) in record { chunk = l.held; held = l.is; inside = omega (arith, l.inside, length) }
 
     -- no other pair of the length lies there
@@ -139,7 +139,7 @@ module _ (P Q : Pairs) (s : Space) (z : Piece) (o : Option Parent) (order key : 
     }
 
 -- what is taken out to be divided is split next
-pub splits_next : (Q : Pairs) (s : Space) (z : Piece) (key : ℕ) (side : Side) → IsTakenOut Q s z key side true → IsSplitting Q s z (Some (record { key = key; side = side }))
+pub splits_next : (Q : Pairs) (s : BuddySpace) (z : Piece) (key : ℕ) (side : Side) → IsTakenOut Q s z key side true → IsSplitting Q s z (Some (record { key = key; side = side }))
 splits_next Q s z key side out = record { tree = out.tree; hand = record { half = out.half; whole = out.whole }; beside = out.beside }
 
 -- Which halves are live blocks.

@@ -20,8 +20,8 @@ use Rattle.gpu_alloc_pairs.specs.Entry.{Entry, half_start}
 use Rattle.gpu_alloc_pairs.specs.Halves.{HalfAt, leaf_of, live_leaves, free_pieces}
 use Rattle.gpu_alloc_pairs.specs.InHand.{IsTakenMore}
 use Rattle.gpu_alloc_pairs.specs.Lengths.{FindsNoneUpTo, HasRoomsFor, HasSameSlots, IsFound, IsFrontTaken, piece_of}
-use Rattle.gpu_alloc_pairs.specs.Space.{Space, IsFreeAt, IsSoundSpace, HasPlace, IsFront, LiesInChunk, with_leaf}
-use Rattle.gpu_alloc_pairs.specs.Store.{IsShortest, IsStored, KeepsStore, rooms_in, space_in, store_in}
+use Rattle.gpu_alloc_pairs.specs.Space.{BuddySpace, IsFreeAt, IsSoundBuddySpace, HasPlace, IsFront, LiesInChunk, with_leaf}
+use Rattle.gpu_alloc_pairs.specs.Store.{buddy_space_in, buddy_store_in, IsShortest, IsStored, KeepsStore, rooms_in}
 use Rattle.gpu_alloc_pairs.specs.Tree.{Pairs, IsReady, IsTree, pair_at, no_pairs}
 use Rattle.gpu_alloc_pairs.specs.declared.lengths.Found.{Found}
 use Rattle.gpu_alloc_pairs.specs.declared.lengths.Front.{Front}
@@ -40,7 +40,7 @@ module _ (chunks : HeldChunks) (old new : List (Slab Entry)) (same : HasSameSlot
   pub same_free : free_pieces new ≡ free_pieces old
   same_free = ap (λ hs. map (λ (h : HalfAt). h.piece) hs) (same_halves old new Free 0 same)
 
-  pub same_space : space_in chunks new ≡ space_in chunks old
+  pub same_space : buddy_space_in chunks new ≡ buddy_space_in chunks old
   same_space = ap (λ hs. record { chunks = chunks; live = set.from_list (map (leaf_of chunks) hs) }) (same_halves old new Taken 0 same)
 
   pub same_pairing : pair_at new ≡ pair_at old
@@ -53,13 +53,13 @@ module _ (chunks : HeldChunks) (old new : List (Slab Entry)) (same : HasSameSlot
   stored_same i = record {
     count = same_count ∙ i.count;
     tree = subst (λ (P : Pairs). IsTree P chunks) (sym same_pairing) i.tree;
-    canonical = subst (λ (s : Space). IsCanonical (IsReady (pair_at new)) (IsFreeAt s)) (sym same_space) (subst (λ (P : Pairs). IsCanonical (IsReady P) (IsFreeAt (space_in chunks old))) (sym same_pairing) i.canonical);
-    sound = subst IsSoundSpace (sym same_space) i.sound;
+    canonical = subst (λ (s : BuddySpace). IsCanonical (IsReady (pair_at new)) (IsFreeAt s)) (sym same_space) (subst (λ (P : Pairs). IsCanonical (IsReady P) (IsFreeAt (buddy_space_in chunks old))) (sym same_pairing) i.canonical);
+    sound = subst IsSoundBuddySpace (sym same_space) i.sound;
   }
 
-pub keeps_same : (chunks now : HeldChunks) (room left : ℕ) (old new : List (Slab Entry)) → now ≡ chunks → HasSameSlots old new → KeepsStore (store_in chunks room old) (store_in now left new)
+pub keeps_same : (chunks now : HeldChunks) (room left : ℕ) (old new : List (Slab Entry)) → now ≡ chunks → HasSameSlots old new → KeepsStore (buddy_store_in chunks room old) (buddy_store_in now left new)
 keeps_same chunks now room left old new is same = record {
-  space = ap (λ m. space_in m new) is ∙ same_space chunks old new same;
+  space = ap (λ m. buddy_space_in m new) is ∙ same_space chunks old new same;
   free = same_free chunks old new same;
 }
 
@@ -80,8 +80,8 @@ module _ (chunks : HeldChunks) (lengths : List (Slab Entry)) (i : IsStored chunk
   abbrev P : Pairs
   P = pair_at lengths
 
-  abbrev s : Space
-  s = space_in chunks lengths
+  abbrev s : BuddySpace
+  s = buddy_space_in chunks lengths
 
   -- a free half is of one of the lengths
   ready_in_range : (p : Piece) → IsReady P p → p.order < 63
@@ -189,22 +189,22 @@ live_with chunks old new z key side leaf is more = live_more (live_leaves chunks
 -- A block is taken.
 
 module _ (chunks : HeldChunks) (old new : List (Slab Entry)) (i : IsStored chunks old) (order : ℕ) (front : Front) (leaf : Leaf) (c : Chunk)
-    (taken : IsFrontTaken (pair_at old) (pair_at new) (space_in chunks old) order front) (count : length new ≡ length old)
+    (taken : IsFrontTaken (pair_at old) (pair_at new) (buddy_space_in chunks old) order front) (count : length new ≡ length old)
     (of : IsLeafOf leaf (piece_of front order)) (index : leaf.index ≡ front.key) (held : finite.get chunks front.chunk ≡ Some c) (object : leaf.object ≡ c.object) where
   abbrev z : Piece
   z = piece_of front order
 
-  pub taken_live : space_in chunks new ≡ with_leaf (space_in chunks old) leaf
+  pub taken_live : buddy_space_in chunks new ≡ with_leaf (buddy_space_in chunks old) leaf
   taken_live =
       ap (λ l. record { chunks = chunks; live = l })
       (live_with chunks old new z front.key taken.side leaf (leaf_is chunks z front.key taken.side leaf of index (object ∙ sym (told_object (finite.get chunks front.chunk) c held))) taken.more)
 
-  free_there : (at : ℕ) → IsIn leaf.offset leaf.size at → IsFreeAt (space_in chunks old) leaf.chunk at
-  free_there at j = subst (λ k. IsFreeAt (space_in chunks old) k at) (sym of.chunk) (taken.out.beside.inside at (record { from = omega (arith, j.from, of.offset); to = omega (arith, j.to, of.offset, of.size) }))
+  free_there : (at : ℕ) → IsIn leaf.offset leaf.size at → IsFreeAt (buddy_space_in chunks old) leaf.chunk at
+  free_there at j = subst (λ k. IsFreeAt (buddy_space_in chunks old) k at) (sym of.chunk) (taken.out.beside.inside at (record { from = omega (arith, j.from, of.offset); to = omega (arith, j.to, of.offset, of.size) }))
 
-  lies : LiesInChunk (space_in chunks old) leaf
+  lies : LiesInChunk (buddy_space_in chunks old) leaf
   lies =
-      let l = free_lies (space_in chunks old) z (λ at j. taken.out.beside.inside at j) in
+      let l = free_lies (buddy_space_in chunks old) z (λ at j. taken.out.beside.inside at j) in
       let same : l.held ≡ c = one_value _ l.held c l.is held in
       let aligned = taken.out.beside.aligned in
       record {
@@ -220,6 +220,6 @@ module _ (chunks : HeldChunks) (old new : List (Slab Entry)) (i : IsStored chunk
   stored_taken = record {
     count = count ∙ i.count;
     tree = taken.out.tree;
-    canonical = subst (λ (s : Space). IsCanonical (IsReady (pair_at new)) (IsFreeAt s)) (sym taken_live) (granted leaf z of (IsReady (pair_at new)) (space_in chunks old) (with_leaf (space_in chunks old) leaf) refl refl taken.out.beside);
-    sound = subst IsSoundSpace (sym taken_live) (sound_with_leaf (space_in chunks old) leaf i.sound lies free_there);
+    canonical = subst (λ (s : BuddySpace). IsCanonical (IsReady (pair_at new)) (IsFreeAt s)) (sym taken_live) (granted leaf z of (IsReady (pair_at new)) (buddy_space_in chunks old) (with_leaf (buddy_space_in chunks old) leaf) refl refl taken.out.beside);
+    sound = subst IsSoundBuddySpace (sym taken_live) (sound_with_leaf (buddy_space_in chunks old) leaf i.sound lies free_there);
   }

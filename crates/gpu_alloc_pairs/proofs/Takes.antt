@@ -10,8 +10,8 @@ use Rattle.gpu_alloc_base.specs.declared.buddy_block.Leaf.{Leaf}
 use Rattle.gpu_alloc_base.proofs.AlignedPowers.{pow-from_shorter, pow-le}
 use Rattle.gpu_alloc_pairs.specs.Entry.{Entry, half_start}
 use Rattle.gpu_alloc_pairs.specs.Lengths.{FindsNoneUpTo, HasSameSlots, IsFound, IsFreeHalf, IsFrontTaken, LooksUpTo, piece_of}
-use Rattle.gpu_alloc_pairs.specs.Space.{Space, HasPlace, IsFreeAt, IsFront, with_leaf}
-use Rattle.gpu_alloc_pairs.specs.Store.{CountsFront, CountsSearch, IsShortest, IsStored, space_in}
+use Rattle.gpu_alloc_pairs.specs.Space.{BuddySpace, HasPlace, IsFreeAt, IsFront, with_leaf}
+use Rattle.gpu_alloc_pairs.specs.Store.{buddy_space_in, CountsFront, CountsSearch, IsShortest, IsStored}
 use Rattle.gpu_alloc_pairs.specs.Tree.{Pairs, IsReady, IsTree, pair_at}
 use Rattle.gpu_alloc_pairs.specs.declared.lengths.Found.{Found}
 use Rattle.gpu_alloc_pairs.specs.declared.lengths.Front.{Front}
@@ -22,13 +22,13 @@ use Rattle.gpu_alloc_pairs.proofs.Stored.{found_is_piece, found_is_shortest, no_
 
 -- how many lengths are looked at until then
 pub counts_search : (chunks : HeldChunks) (lengths : List (Slab Entry)) (order : ℕ) (found : Option Found) (looks now : ℕ) → IsStored chunks lengths → order ≤ 62 → IfNone found (FindsNoneUpTo (pair_at lengths) order 63) → IfSome found (IsFound (pair_at lengths) order)
-    → LooksUpTo order found looks now → CountsSearch (space_in chunks lengths) (2 ^ order) looks now
+    → LooksUpTo order found looks now → CountsSearch (buddy_space_in chunks lengths) (2 ^ order) looks now
 counts_search chunks lengths order (Some f) looks now i short none some looked =
     let long : 2 ^ order * 2 ^ (f.order - order) ≡ 2 ^ f.order = omega (arith, pow-from_shorter order f.order some.from) in
     record {
       doublings = f.order - order;
       few = omega (arith, some.to);
-      last = inl (subst (IsShortest (space_in chunks lengths) (2 ^ order)) (sym long) (found_is_shortest chunks lengths i order f some));
+      last = inl (subst (IsShortest (buddy_space_in chunks lengths) (2 ^ order)) (sym long) (found_is_shortest chunks lengths i order f some));
       looked = omega (arith, looked, some.from);
     }
 counts_search chunks lengths order None looks now i short none some looked =
@@ -46,7 +46,7 @@ module _ (chunks : HeldChunks) (old mid : List (Slab Entry)) (i : IsStored chunk
   found_mid : IsFound (pair_at mid) order f
   found_mid = subst (λ (P : Pairs). IsFound P order f) (sym (same_pairing chunks old mid same)) found
 
-  pub place_old : HasPlace (space_in chunks old) (2 ^ order)
+  pub place_old : HasPlace (buddy_space_in chunks old) (2 ^ order)
   place_old = found_place chunks old i order f found
 
   pub mid_range : f.order < length mid
@@ -70,34 +70,34 @@ module _ (chunks : HeldChunks) (old mid : List (Slab Entry)) (i : IsStored chunk
       by_side Right le = omega (arith, le)
 
   module _ (new : List (Slab Entry)) (front : Front) (leaf : Leaf) (c : Chunk) (chunk_is : front.chunk ≡ (f.half).chunk) (offset_is : front.offset ≡ half_start (2 ^ f.order) (f.half).offset (f.half).side)
-      (taken : (s : Space) → IsTree (pair_at mid) s.chunks → IsCanonical (IsReady (pair_at mid)) (IsFreeAt s) → IsFrontTaken (pair_at mid) (pair_at new) s order front)
+      (taken : (s : BuddySpace) → IsTree (pair_at mid) s.chunks → IsCanonical (IsReady (pair_at mid)) (IsFreeAt s) → IsFrontTaken (pair_at mid) (pair_at new) s order front)
       (count : length new ≡ length mid) (leaf_is : leaf ≡ front_leaf leaf.object front order) (held : finite.get chunks (f.half).chunk ≡ Some c) (object : leaf.object ≡ c.object) where
     of : IsLeafOf leaf (piece_of front order)
     of = record { chunk = ap (λ (l : Leaf). l.chunk) leaf_is; offset = ap (λ (l : Leaf). l.offset) leaf_is; size = ap (λ (l : Leaf). l.size) leaf_is }
 
-    out : IsFrontTaken (pair_at mid) (pair_at new) (space_in chunks mid) order front
-    out = taken (space_in chunks mid) stored_mid.tree stored_mid.canonical
+    out : IsFrontTaken (pair_at mid) (pair_at new) (buddy_space_in chunks mid) order front
+    out = taken (buddy_space_in chunks mid) stored_mid.tree stored_mid.canonical
 
     pub stored_new : IsStored chunks new
     stored_new = stored_taken chunks mid new stored_mid order front leaf c out count of (ap (λ (l : Leaf). l.index) leaf_is) (ap (finite.get chunks) chunk_is ∙ held) object
 
-    pub takes_front : IsFront (space_in chunks old) (2 ^ order) leaf × (space_in chunks new ≡ with_leaf (space_in chunks old) leaf)
+    pub takes_front : IsFront (buddy_space_in chunks old) (2 ^ order) leaf × (buddy_space_in chunks new ≡ with_leaf (buddy_space_in chunks old) leaf)
     takes_front = (
       front_found chunks old i order f found leaf c (of.chunk ∙ chunk_is) (of.offset ∙ offset_is) of.size held object,
       taken_live chunks mid new stored_mid order front leaf c out count of (ap (λ (l : Leaf). l.index) leaf_is) (ap (finite.get chunks) chunk_is ∙ held) object
           ∙ ap (λ s. with_leaf s leaf) (same_space chunks old mid same),
     )
 
-    pub counts_front : (looks now splits after : ℕ) → now + order ≡ looks + f.order + 1 → after + order ≡ splits + f.order → CountsFront (space_in chunks old) leaf looks now splits after
+    pub counts_front : (looks now splits after : ℕ) → now + order ≡ looks + f.order + 1 → after + order ≡ splits + f.order → CountsFront (buddy_space_in chunks old) leaf looks now splits after
     counts_front looks now splits after looked split =
         let long : leaf.size * 2 ^ (f.order - order) ≡ 2 ^ f.order =
         ap (λ n. n * 2 ^ (f.order - order)) of.size ∙ omega (arith, pow-from_shorter order f.order found.from) in
         record {
           doublings = f.order - order;
           few = omega (arith, found.to, found.from);
-          piece = subst (λ n. IsFreePiece (IsFreeAt (space_in chunks old)) leaf.chunk leaf.offset n) (sym long)
-              (subst (λ a. IsFreePiece (IsFreeAt (space_in chunks old)) leaf.chunk a (2 ^ f.order)) (sym (of.offset ∙ offset_is))
-              (subst (λ k. IsFreePiece (IsFreeAt (space_in chunks old)) k (half_start (2 ^ f.order) (f.half).offset (f.half).side) (2 ^ f.order)) (sym (of.chunk ∙ chunk_is)) (found_is_piece chunks old i order f found)));
+          piece = subst (λ n. IsFreePiece (IsFreeAt (buddy_space_in chunks old)) leaf.chunk leaf.offset n) (sym long)
+              (subst (λ a. IsFreePiece (IsFreeAt (buddy_space_in chunks old)) leaf.chunk a (2 ^ f.order)) (sym (of.offset ∙ offset_is))
+              (subst (λ k. IsFreePiece (IsFreeAt (buddy_space_in chunks old)) k (half_start (2 ^ f.order) (f.half).offset (f.half).side) (2 ^ f.order)) (sym (of.chunk ∙ chunk_is)) (found_is_piece chunks old i order f found)));
           looked = omega (arith, looked, found.from);
           split = omega (arith, split, found.from);
         }

@@ -8,7 +8,7 @@ use Rattle.gpu_alloc_base.specs.Pieces.{IsWith}
 use Rattle.gpu_alloc_base.specs.declared.piece.Piece.{Piece}
 use Rattle.gpu_alloc_pairs.specs.Entry.{Entry, use_of, with_use, other_side, half_start}
 use Rattle.gpu_alloc_pairs.specs.InHand.{SetsHalf, AddsPair}
-use Rattle.gpu_alloc_pairs.specs.Tree.{Pairs, IsHalf, IsReady, Divides, IsPlaced, IsUndivided, LiesIn, IsTree}
+use Rattle.gpu_alloc_pairs.specs.Tree.{Pairs, IsHalf, IsReady, Divides, IsPlaced, IsUndivided, PairLiesIn, IsTree}
 use Rattle.gpu_alloc_pairs.specs.declared.pair.Parent.{Parent}
 use Rattle.gpu_alloc_pairs.specs.declared.pair.Side.{Side}
 use Rattle.gpu_alloc_pairs.specs.declared.pair.Side.TheVariants.{Left, Right}
@@ -255,7 +255,7 @@ module _ (P Q : Pairs) (order key : ℕ) (e : Entry) (s : AddsPair P Q order key
   divides_kept n f (Some p) chunks d = record { above = d.above; pair = pair_kept (n + 1) p.key d.above d.pair; divided = d.divided; chunk = d.chunk; offset = d.offset }
 
   -- a pair comes that is placed, where none is
-  pub tree_with : (chunks : HeldChunks) → IsTree P chunks → IsPlaced P chunks order e e.parent → IsMultipleOf (2 ^ (order + 1)) e.offset → LiesIn chunks order e
+  pub tree_with : (chunks : HeldChunks) → IsTree P chunks → IsPlaced P chunks order e e.parent → IsMultipleOf (2 ^ (order + 1)) e.offset → PairLiesIn chunks order e
       → ((k : ℕ) (f : Entry) → P order k ≡ Some f → f.chunk ≡ e.chunk → f.offset ≡ e.offset → ⊥) → IsTree Q chunks
   tree_with chunks t place aligned inside alone = record {
     placed = λ n k f at. elim (pair_cases n k f at) [
@@ -267,7 +267,7 @@ module _ (P Q : Pairs) (order key : ℕ) (e : Entry) (s : AddsPair P Q order key
       | inr was ↦ t.aligned n k f was
     ];
     inside = λ n k f at. elim (pair_cases n k f at) [
-      | inl here ↦ subst (λ m. LiesIn chunks m f) (sym here.0) (subst (λ (x : Entry). LiesIn chunks order x) (sym here.1.1) inside)
+      | inl here ↦ subst (λ m. PairLiesIn chunks m f) (sym here.0) (subst (λ (x : Entry). PairLiesIn chunks order x) (sym here.1.1) inside)
       | inr was ↦ t.inside n k f was
     ];
     one_place = λ n k l f g at_f at_g chunk offset. elim (pair_cases n k f at_f) [

@@ -13,13 +13,13 @@ use Rattle.gpu_alloc_pairs.specs.declared.pair.Use.TheVariants.{Taken}
 use Rattle.gpu_alloc_pairs.specs.declared.pairs.Chunk.{Chunk}
 
 -- this half is a live block and starts there
-pub record IsBlock (order : ℕ) (e : Entry) (start : ℕ) (side : Side) : Type 0 where
+pub record IsBlockHalf (order : ℕ) (e : Entry) (start : ℕ) (side : Side) : Type 0 where
   pub taken : use_of e side ≡ Taken
   pub starts : half_start (2 ^ order) e.offset side ≡ start
 
 -- one of the pair's two halves is
 abbrev pub HasBlock : ℕ → Entry → ℕ → Type 0
-HasBlock order e start = (side : Side) × IsBlock order e start side
+HasBlock order e start = (side : Side) × IsBlockHalf order e start side
 
 -- the chunks of a slab by key
 abbrev pub chunks_in : {M : Type 0} → (M → ℕ) → Slab (Chunk M) → HeldChunks
@@ -30,13 +30,13 @@ abbrev pub HasSpan : HeldChunks → ℕ → ℕ → ℕ → Entry → Type 0
 HasSpan chunks order object start e = HasBlock order e start × (object_in (finite.get chunks e.chunk) ≡ object)
 
 -- the block of this span stands under the key
-abbrev pub StandsUnder : HeldChunks → Slab Pair → ℕ → ℕ → ℕ → ℕ → Type 0
-StandsUnder chunks pairs order object start key =
+abbrev pub BlockStandsUnder : HeldChunks → Slab Pair → ℕ → ℕ → ℕ → ℕ → Type 0
+BlockStandsUnder chunks pairs order object start key =
     (p : Pair) × (get pairs key ≡ Some p) × HasSpan chunks order object start (entry_of p)
 
 -- it stands under no key
-abbrev pub StandsNowhere : HeldChunks → Slab Pair → ℕ → ℕ → ℕ → Type 0
-StandsNowhere chunks pairs order object start = (key : ℕ) → StandsUnder chunks pairs order object start key → ⊥
+abbrev pub BlockStandsNowhere : HeldChunks → Slab Pair → ℕ → ℕ → ℕ → Type 0
+BlockStandsNowhere chunks pairs order object start = (key : ℕ) → BlockStandsUnder chunks pairs order object start key → ⊥
 
 -- the pair's chunk is held, and its right half starts below 2^64
 pub record IsInChunk {C : Type 0} (chunks : Slab C) (order : ℕ) (p : Pair) : Type 0 where

@@ -8,8 +8,8 @@ use Rattle.gpu_alloc_base.specs.Accounts.{HeldChunks}
 use Rattle.gpu_alloc_base.specs.Codes.{chunk_code, leaf_code}
 use Rattle.gpu_alloc_base.specs.Leaves.{leaf_cmp}
 use Rattle.gpu_alloc_base.specs.declared.piece.Piece.{Piece}
-use Rattle.gpu_alloc_pairs.specs.Space.{Space}
-use Rattle.gpu_alloc_pairs.specs.Store.{Store}
+use Rattle.gpu_alloc_pairs.specs.Space.{BuddySpace}
+use Rattle.gpu_alloc_pairs.specs.Store.{BuddyStore}
 use Rattle.gpu_alloc_pairs.specs.Entry.{Entry}
 use Rattle.gpu_alloc_pairs.specs.declared.pair.Parent.{Parent}
 use Rattle.gpu_alloc_pairs.specs.declared.pair.Side.{Side}
@@ -64,8 +64,8 @@ entry_code =
     (λ p. record { chunk = p.0; offset = p.1.0; parent = p.1.1.0; left = p.1.1.1.0; right = p.1.1.1.1 })
     (λ _. refl)
 
-abbrev pub space_code : Coded Space
-space_code =
+abbrev pub buddy_space_code : Coded BuddySpace
+buddy_space_code =
     code_by (HeldChunks × set.FinSet leaf_cmp) (coded× (map.code coded_ℕ chunk_code) (set.code leaf_code))
     (λ s. (s.chunks, s.live)) (λ c. record { chunks = c.0; live = c.1 }) (λ _. refl)
 
@@ -74,10 +74,10 @@ piece_code =
     code_by (ℕ × (ℕ × ℕ)) (coded× coded_ℕ (coded× coded_ℕ coded_ℕ)) (λ p. (p.chunk, (p.start, p.order)))
     (λ c. record { chunk = c.0; start = c.1.0; order = c.1.1 }) (λ _. refl)
 
-abbrev pub store_code : Coded Store
-store_code =
-    code_by (Space × (List Piece × (List ℕ × ℕ)))
-    (coded× space_code (coded× (coded_list piece_code) (coded× (coded_list coded_ℕ) coded_ℕ)))
+abbrev pub buddy_store_code : Coded BuddyStore
+buddy_store_code =
+    code_by (BuddySpace × (List Piece × (List ℕ × ℕ)))
+    (coded× buddy_space_code (coded× (coded_list piece_code) (coded× (coded_list coded_ℕ) coded_ℕ)))
     (λ s. (s.space, (s.free, (s.rooms, s.chunk_room))))
     (λ c. record { space = c.0; free = c.1.0; rooms = c.1.1.0; chunk_room = c.1.1.1 })
     (λ _. refl)

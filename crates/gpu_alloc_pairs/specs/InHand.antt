@@ -3,10 +3,10 @@ use Rattle.std.specs.Prelude.{◌≡◌, ◌≢◌, ◌⊎◌, ℕ, ◌^◌, Boo
 use Rattle.std.specs.FinMap as map
 use Rattle.gpu_alloc_base.specs.Accounts.{HeldChunks}
 use Rattle.gpu_alloc_base.specs.Chunks.{Chunk}
-use Rattle.gpu_alloc_base.specs.Pieces.{IsBeside}
+use Rattle.gpu_alloc_base.specs.Pieces.{IsCanonicalBeside}
 use Rattle.gpu_alloc_base.specs.declared.piece.Piece.{Piece}
 use Rattle.gpu_alloc_pairs.specs.Entry.{Entry, with_use, taken_as}
-use Rattle.gpu_alloc_pairs.specs.Space.{Space, IsFreeAt}
+use Rattle.gpu_alloc_pairs.specs.Space.{BuddySpace, IsFreeAt}
 use Rattle.gpu_alloc_pairs.specs.Tree.{Pairs, IsHalf, IsReady, IsUndivided, IsTree}
 use Rattle.gpu_alloc_pairs.specs.declared.pair.Parent.{Parent}
 use Rattle.gpu_alloc_pairs.specs.declared.pair.Side.{Side}
@@ -30,7 +30,7 @@ pub record AddsPair (P Q : Pairs) (order key : ℕ) (e : Entry) : Type 0 where
 -- What is in hand.
 
 -- a chunk that no pair divides yet
-pub record IsWholeChunk (P : Pairs) (chunks : HeldChunks) (z : Piece) : Type 0 where
+pub record IsUndividedChunk (P : Pairs) (chunks : HeldChunks) (z : Piece) : Type 0 where
   pub chunk : Chunk
   pub held : map.get chunks z.chunk ≡ Some chunk
   pub size : chunk.size ≡ 2 ^ z.order
@@ -43,30 +43,30 @@ pub record IsToDivide (P : Pairs) (z : Piece) (p : Parent) : Type 0 where
   pub whole : IsUndivided P z.order p.key p.side
 
 abbrev pub IsHandAt : Pairs → HeldChunks → Piece → Option Parent → Type 0
-IsHandAt P chunks z None = IsWholeChunk P chunks z
+IsHandAt P chunks z None = IsUndividedChunk P chunks z
 IsHandAt P chunks z (Some p) = IsToDivide P z p
 
 -- it is split next
-pub record IsSplitting (P : Pairs) (s : Space) (z : Piece) (o : Option Parent) : Type 0 where
+pub record IsSplitting (P : Pairs) (s : BuddySpace) (z : Piece) (o : Option Parent) : Type 0 where
   pub tree : IsTree P s.chunks
   pub hand : IsHandAt P s.chunks z o
-  pub beside : IsBeside (IsReady P) (IsFreeAt s) z
+  pub beside : IsCanonicalBeside (IsReady P) (IsFreeAt s) z
 
 -- the half is in hand, to be divided or as a block, and no longer free
-pub record IsTakenOut (Q : Pairs) (s : Space) (z : Piece) (key : ℕ) (side : Side) (d : Bool) : Type 0 where
+pub record IsTakenOut (Q : Pairs) (s : BuddySpace) (z : Piece) (key : ℕ) (side : Side) (d : Bool) : Type 0 where
   pub tree : IsTree Q s.chunks
   pub half : IsHalf Q z key side (taken_as d)
   pub whole : IsUndivided Q z.order key side
-  pub beside : IsBeside (IsReady Q) (IsFreeAt s) z
+  pub beside : IsCanonicalBeside (IsReady Q) (IsFreeAt s) z
 
 -- the half is in hand and is being released: it is not free, and no pair divides it
-pub record IsReturning (P : Pairs) (s : Space) (z : Piece) (key : ℕ) (side : Side) : Type 0 where
+pub record IsReturning (P : Pairs) (s : BuddySpace) (z : Piece) (key : ℕ) (side : Side) : Type 0 where
   pub tree : IsTree P s.chunks
   pub now : Use
   pub half : IsHalf P z key side now
   pub used : now ≡ Free → ⊥
   pub whole : IsUndivided P z.order key side
-  pub beside : IsBeside (IsReady P) (IsFreeAt s) z
+  pub beside : IsCanonicalBeside (IsReady P) (IsFreeAt s) z
 
 -- Which halves are live blocks.
 

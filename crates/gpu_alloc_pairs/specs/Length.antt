@@ -35,7 +35,7 @@ pub record SetsUse (old new : Slab Entry) (key : ℕ) (side : Side) (now : Use) 
   pub updates : Updates old new key (Some (with_use entry side now))
 
 -- a half becomes free, and its pair stays, since the other half is not free
-pub record Frees (old new : Slab Entry) (key : ℕ) (side : Side) : Type 0 where
+pub record FreesHalf (old new : Slab Entry) (key : ℕ) (side : Side) : Type 0 where
   pub entry : Entry
   pub at : get old key ≡ Some entry
   pub other : use_of entry (other_side side) ≢ Free

@@ -3,11 +3,11 @@ use Rattle.std.specs.Prelude.{◌≡◌, ◌≢◌, ℕ, ◌+◌, ◌-◌, ◌^�
 use Rattle.std.specs.FinMap as finite
 use Rattle.slab.specs.Slab.{Slab, HasRoomFor}
 use Rattle.gpu_alloc_base.specs.Chunks.{Chunk}
-use Rattle.gpu_alloc_base.specs.Pieces.{IsBeside, IsCanonical}
+use Rattle.gpu_alloc_base.specs.Pieces.{IsCanonical, IsCanonicalBeside}
 use Rattle.gpu_alloc_base.specs.declared.piece.Piece.{Piece}
 use Rattle.gpu_alloc_pairs.specs.Entry.{Entry, use_of, other_side, taken_as}
-use Rattle.gpu_alloc_pairs.specs.InHand.{AddsPair, IsReturning, IsTakenLess, IsTakenMore, IsTakenOut, IsWholeChunk, SetsHalf}
-use Rattle.gpu_alloc_pairs.specs.Space.{IsFreeAt, Space}
+use Rattle.gpu_alloc_pairs.specs.InHand.{AddsPair, IsReturning, IsTakenLess, IsTakenMore, IsTakenOut, IsUndividedChunk, SetsHalf}
+use Rattle.gpu_alloc_pairs.specs.Space.{BuddySpace, IsFreeAt}
 use Rattle.gpu_alloc_pairs.specs.Tree.{IsReady, IsTree, Pairs, no_pairs}
 use Rattle.gpu_alloc_pairs.specs.declared.length.Half.{Half}
 use Rattle.gpu_alloc_pairs.specs.declared.length.Whole.{Whole}
@@ -101,7 +101,7 @@ abbrev pub piece_of : Front → ℕ → Piece
 piece_of front order = record { chunk = front.chunk; start = front.offset; order = order }
 
 -- the block was taken out of the free halves, and is live
-pub record IsFrontTaken (P Q : Pairs) (s : Space) (order : ℕ) (front : Front) : Type 0 where
+pub record IsFrontTaken (P Q : Pairs) (s : BuddySpace) (order : ℕ) (front : Front) : Type 0 where
   pub side : Side
   pub out : IsTakenOut Q s (piece_of front order) front.key side false
   pub more : IsTakenMore P Q (piece_of front order) front.key side
@@ -109,36 +109,36 @@ pub record IsFrontTaken (P Q : Pairs) (s : Space) (order : ℕ) (front : Front) 
 -- A half may be released, whatever other blocks are live.
 
 pub record ComesBack (P : Pairs) (order key : ℕ) (side : Side) : Type 0 where
-  pub space : Space
+  pub space : BuddySpace
   pub piece : Piece
   pub of_order : piece.order ≡ order
   pub returning : IsReturning P space piece key side
 
 -- it is then free, and the other live blocks are the same
-pub record IsFreeAgain (P Q : Pairs) (s : Space) (z : Piece) : Type 0 where
+pub record IsFreeAgain (P Q : Pairs) (s : BuddySpace) (z : Piece) : Type 0 where
   pub tree : IsTree Q s.chunks
   pub canonical : IsCanonical (IsReady Q) (IsFreeAt s)
   pub less : IsTakenLess P Q z
 
 abbrev pub StaysFree : Pairs → Pairs → ℕ → ℕ → Side → Type 0
-StaysFree P Q order key side = (s : Space) (z : Piece) → z.order ≡ order → IsReturning P s z key side → IsFreeAgain P Q s z
+StaysFree P Q order key side = (s : BuddySpace) (z : Piece) → z.order ≡ order → IsReturning P s z key side → IsFreeAgain P Q s z
 
 -- or its whole chunk is in hand, and the other live blocks are the same
-pub record IsWholeAgain (P Q : Pairs) (s : Space) (z : Piece) (chunk : ℕ) : Type 0 where
+pub record IsWholeAgain (P Q : Pairs) (s : BuddySpace) (z : Piece) (chunk : ℕ) : Type 0 where
   pub tree : IsTree Q s.chunks
   pub whole : Piece
   pub named : whole.chunk ≡ chunk
   pub of_piece : whole.chunk ≡ z.chunk
-  pub alone : IsWholeChunk Q s.chunks whole
-  pub beside : IsBeside (IsReady Q) (IsFreeAt s) whole
+  pub alone : IsUndividedChunk Q s.chunks whole
+  pub beside : IsCanonicalBeside (IsReady Q) (IsFreeAt s) whole
   pub less : IsTakenLess P Q z
 
 abbrev pub GoesWhole : Pairs → Pairs → ℕ → ℕ → Side → ℕ → Type 0
 GoesWhole P Q order key side chunk =
-    (s : Space) (z : Piece) → z.order ≡ order → IsReturning P s z key side → IsWholeAgain P Q s z chunk
+    (s : BuddySpace) (z : Piece) → z.order ≡ order → IsReturning P s z key side → IsWholeAgain P Q s z chunk
 
 -- at most as many halves are released as there are doublings from the half to its chunk
 abbrev pub FewReleases : Pairs → ℕ → ℕ → Side → ℕ → ℕ → Type 0
 FewReleases P order key side old new =
-    (s : Space) (z : Piece) → z.order ≡ order → IsReturning P s z key side → (chunk : Chunk)
+    (s : BuddySpace) (z : Piece) → z.order ≡ order → IsReturning P s z key side → (chunk : Chunk)
     → finite.get s.chunks z.chunk ≡ Some chunk → 2 ^ (order + (new - old)) ≤ chunk.size

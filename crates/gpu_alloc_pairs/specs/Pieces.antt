@@ -14,5 +14,5 @@ piece_or_none None = []
 piece_or_none (Some p) = p ∷ []
 
 -- the piece is the pair's free half, or the pair has no free half
-abbrev pub IsFreePieceOf : ℕ → Entry → Option Piece → Type 0
-IsFreePieceOf order e piece = (key : ℕ) → pieces_of_pair order (key, e) ≡ piece_or_none piece
+abbrev pub IsFreeHalfOf : ℕ → Entry → Option Piece → Type 0
+IsFreeHalfOf order e piece = (key : ℕ) → pieces_of_pair order (key, e) ≡ piece_or_none piece

@@ -63,7 +63,7 @@ IsUndivided pairs order key side =
     → e.parent ≢ Some (record { key = key; side = side })
 
 -- the pair lies in its chunk
-pub record LiesIn (chunks : HeldChunks) (order : ℕ) (e : Entry) : Type 0 where
+pub record PairLiesIn (chunks : HeldChunks) (order : ℕ) (e : Entry) : Type 0 where
   pub chunk : Chunk
   pub held : map.get chunks e.chunk ≡ Some chunk
   pub inside : e.offset + 2 ^ (order + 1) ≤ chunk.size
@@ -72,6 +72,6 @@ pub record LiesIn (chunks : HeldChunks) (order : ℕ) (e : Entry) : Type 0 where
 pub record IsTree (pairs : Pairs) (chunks : HeldChunks) : Type 0 where
   pub placed : (order key : ℕ) (e : Entry) → pairs order key ≡ Some e → IsPlaced pairs chunks order e e.parent
   pub aligned : (order key : ℕ) (e : Entry) → pairs order key ≡ Some e → IsMultipleOf (2 ^ (order + 1)) e.offset
-  pub inside : (order key : ℕ) (e : Entry) → pairs order key ≡ Some e → LiesIn chunks order e
+  pub inside : (order key : ℕ) (e : Entry) → pairs order key ≡ Some e → PairLiesIn chunks order e
   pub one_place : (order k l : ℕ) (e f : Entry) → pairs order k ≡ Some e → pairs order l ≡ Some f → e.chunk ≡ f.chunk
       → e.offset ≡ f.offset → k ≡ l

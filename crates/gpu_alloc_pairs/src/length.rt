@@ -4,7 +4,7 @@ ghost use Rattle.std.specs.Prelude.{◌≡◌, ◌≤◌, ◌+◌, ◌++◌, [],
 ghost use Rattle.slab.specs.Slab.{ContainsKey, HasRoomFor, Updates, get, slab_len};
 ghost use Rattle.gpu_alloc_pairs.specs.Entry.{entry_of, taken_as, with_use};
 ghost use Rattle.gpu_alloc_pairs.specs.Halves.{halves_of_length};
-ghost use Rattle.gpu_alloc_pairs.specs.Length.{AreBounded, Frees, IsInUse, IsReadyHalf, IsUsedAs, Merges, SetsUse};
+ghost use Rattle.gpu_alloc_pairs.specs.Length.{AreBounded, FreesHalf, IsInUse, IsReadyHalf, IsUsedAs, Merges, SetsUse};
 ghost use Rattle.gpu_alloc_pairs.specs.Links.{SetsPair, free_of};
 ghost use Rattle.gpu_alloc_pairs.specs.Seen.{seen};
 ghost use Rattle.gpu_alloc_pairs.specs.declared.pair.Side.{Side as SideOf};
@@ -165,7 +165,7 @@ impl<A: Allocator> Length<A> {
     /// returned.
     pub fn release(&mut self, key: usize, side: Side) -> Option<Whole>
         requires used { IsInUse self.old key side }
-        ensures freed { IfNone result (Frees self.old self.new key side) }
+        ensures freed { IfNone result (FreesHalf self.old self.new key side) }
         ensures merged { IfSome result (λ w. Merges self.old self.new key side w) }
         ensures capacity { (self.new).capacity ≡ (self.old).capacity }
         ensures len { MatchOption result (slab_len self.new ≡ slab_len self.old)

@@ -11,7 +11,7 @@ ghost use Rattle.gpu_alloc_pairs.specs.Lengths.{ComesBack, FewReleases, FindsNon
 ghost use Rattle.gpu_alloc_pairs.specs.Lengths.{HasRoomsFor, HasSameSlots, IsFound, IsFreeHalf, IsFrontTaken, KeepsShorter};
 ghost use Rattle.gpu_alloc_pairs.specs.Lengths.{LooksUpTo, Releases, StaysFree, TakesHalf, dividing, front_of, hand_of};
 ghost use Rattle.gpu_alloc_pairs.specs.Lengths.{whole_of};
-ghost use Rattle.gpu_alloc_pairs.specs.Space.{IsFreeAt, Space};
+ghost use Rattle.gpu_alloc_pairs.specs.Space.{BuddySpace, IsFreeAt};
 ghost use Rattle.gpu_alloc_pairs.specs.Tree.{IsReady, IsTree, no_pairs, pair_at};
 ghost use Rattle.gpu_alloc_pairs.specs.declared.pair.Side.{Side as SideOf};
 
@@ -150,7 +150,7 @@ fn split_down<A: Allocator, K: Ledger>(
     requires longer { order < hand.order }
     requires in_range { hand.order ≤ length lengths.old.items }
     requires rooms { HasRoomsFor lengths.old.items order hand.order }
-    ensures out { (s : Space) → IsSplitting (pair_at lengths.old.items) s (hand_of hand) (Some hand.parent)
+    ensures out { (s : BuddySpace) → IsSplitting (pair_at lengths.old.items) s (hand_of hand) (Some hand.parent)
         → IsTakenOut (pair_at lengths.new.items) s (front_of hand order) result SideOf.Left false }
     ensures more { IsTakenMore (pair_at lengths.old.items) (pair_at lengths.new.items) (front_of hand order) result
         SideOf.Left }
@@ -201,7 +201,7 @@ pub fn take_front<A: Allocator, K: Ledger>(
     requires rooms { HasRoomsFor lengths.old.items order found.order }
     ensures chunk { result.chunk ≡ (found.half).chunk }
     ensures offset { result.offset ≡ half_start (2 ^ found.order) (found.half).offset (found.half).side }
-    ensures taken { (s : Space) → IsTree (pair_at lengths.old.items) s.chunks
+    ensures taken { (s : BuddySpace) → IsTree (pair_at lengths.old.items) s.chunks
         → IsCanonical (IsReady (pair_at lengths.old.items)) (IsFreeAt s)
         → IsFrontTaken (pair_at lengths.old.items) (pair_at lengths.new.items) s order result }
     ensures count { length lengths.new.items ≡ length lengths.old.items }
@@ -272,7 +272,7 @@ pub fn begin<A: Allocator, K: Ledger>(
     requires longer { order < chunk_order }
     requires in_range { chunk_order ≤ length lengths.old.items }
     requires rooms { HasRoomsFor lengths.old.items order chunk_order }
-    ensures out { (s : Space) → IsSplitting (pair_at lengths.old.items) s (whole_of chunk chunk_order) None
+    ensures out { (s : BuddySpace) → IsSplitting (pair_at lengths.old.items) s (whole_of chunk chunk_order) None
         → IsTakenOut (pair_at lengths.new.items) s (whole_of chunk order) result SideOf.Left false }
     ensures more { IsTakenMore (pair_at lengths.old.items) (pair_at lengths.new.items) (whole_of chunk order) result
         SideOf.Left }

@@ -1,10 +1,10 @@
 //! A pair of halves, as it is stored.
 
 ghost use Rattle.std.specs.Prelude.{◌≡◌, ◌≤◌, ◌<◌, ◌+◌, ◌^◌, ◌↔◌, ℕ, IsTrue, Some};
-ghost use Rattle.gpu_alloc_pairs.specs.Blocks.{HasBlock, IsBlock};
+ghost use Rattle.gpu_alloc_pairs.specs.Blocks.{HasBlock, IsBlockHalf};
 ghost use Rattle.gpu_alloc_pairs.specs.Entry.{entry_of, half_start, taken_as, use_of, with_use};
 ghost use Rattle.gpu_alloc_pairs.specs.Links.{free_side};
-ghost use Rattle.gpu_alloc_pairs.specs.Pieces.{IsFreePieceOf};
+ghost use Rattle.gpu_alloc_pairs.specs.Pieces.{IsFreeHalfOf};
 
 use gpu_alloc_base::Piece;
 
@@ -112,7 +112,7 @@ impl Pair {
     pub fn free_piece(&self, order: u32) -> Option<Piece>
         requires short { order ≤ 62 }
         requires bounded { (self.now).offset + 2 ^ order < 2 ^ 64 }
-        ensures { IsFreePieceOf order (entry_of self.now) result }
+        ensures { IsFreeHalfOf order (entry_of self.now) result }
     {
         let State::Ready { side, .. } = self.state else {
             return None;
@@ -139,7 +139,7 @@ impl Pair {
     fn is_block(&self, side: Side, order: u32, start: u64) -> bool
         requires short { order ≤ 62 }
         requires bounded { (self.now).offset + 2 ^ order < 2 ^ 64 }
-        ensures { IsTrue result ↔ IsBlock order (entry_of self.now) start side }
+        ensures { IsTrue result ↔ IsBlockHalf order (entry_of self.now) start side }
     {
         match self.use_of(side) {
             Use::Taken => self.start_of(side, order) == start,

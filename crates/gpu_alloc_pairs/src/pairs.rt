@@ -7,16 +7,16 @@ ghost use Rattle.std.specs.FinSet as set;
 ghost use Rattle.gpu_alloc_base.specs.Chunks.{Chunk as HeldChunk};
 ghost use Rattle.gpu_alloc_base.specs.FreeSpace.{IsPowerOfTwo};
 ghost use Rattle.gpu_alloc_base.specs.declared.buddy_block.Leaf.{Leaf as LiveLeaf};
-ghost use Rattle.gpu_alloc_pairs.specs.Blocks.{AreInChunks, HasSpan, IsInChunk, StandsNowhere, StandsUnder, chunks_in};
+ghost use Rattle.gpu_alloc_pairs.specs.Blocks.{AreInChunks, BlockStandsNowhere, BlockStandsUnder, HasSpan, IsInChunk, chunks_in};
 ghost use Rattle.gpu_alloc_pairs.specs.Entry.{entry_of};
 ghost use Rattle.gpu_alloc_pairs.specs.Halves.{half_used, halves_of_length, leaf_of};
 ghost use Rattle.gpu_alloc_pairs.specs.HeldLists.{AddsLeaves, ListsChunks};
 ghost use Rattle.gpu_alloc_pairs.specs.Seen.{seen};
 ghost use Rattle.gpu_alloc_pairs.specs.Space.{BeginsChunk, HasPlace, IsLiveLeaf, IsLiveSpan, IsNoLiveSpan};
-ghost use Rattle.gpu_alloc_pairs.specs.Space.{IsSoundSpace, IsUnusedChunk, with_chunk, with_leaf, without_chunk};
+ghost use Rattle.gpu_alloc_pairs.specs.Space.{IsSoundBuddySpace, IsUnusedChunk, with_chunk, with_leaf, without_leaf_and_chunk};
 ghost use Rattle.gpu_alloc_pairs.specs.Space.{without_leaf};
-ghost use Rattle.gpu_alloc_pairs.specs.Store.{AreFew, CountsLooks, CountsSearch, CountsTaking, HasRooms, IsExact, IsUnheld};
-ghost use Rattle.gpu_alloc_pairs.specs.Store.{HasSide, KeepsStore, StartsHalf, TakesPlace, range_of};
+ghost use Rattle.gpu_alloc_pairs.specs.Store.{AreFew, CountsLooks, CountsSearch, CountsTaking, HasPairRooms, IsExact, IsUnheld};
+ghost use Rattle.gpu_alloc_pairs.specs.Store.{HasSide, KeepsStore, StartsHalf, TakesFront, piece_range};
 ghost use Rattle.gpu_alloc_pairs.specs.declared.pair.Use.{Use as UseOf};
 
 use crate::length::Length;
@@ -69,19 +69,19 @@ pub struct Pairs<M: MemoryObject, A: Allocator = Global> {
 }
 
 impl<M: MemoryObject, A: Allocator> Model for Pairs<M, A> {
-    ghost use Rattle.gpu_alloc_pairs.specs.Codes.{store_code};
-    ghost use Rattle.gpu_alloc_pairs.specs.Store.{Store};
+    ghost use Rattle.gpu_alloc_pairs.specs.Codes.{buddy_store_code};
+    ghost use Rattle.gpu_alloc_pairs.specs.Store.{BuddyStore};
 
-    ghost Value = { Store };
+    ghost Value = { BuddyStore };
 
-    ghost coded = { store_code };
+    ghost coded = { buddy_store_code };
 
     ghost use Rattle.std.specs.Prelude.{◌-◌, ◌^◌};
     ghost use Rattle.slab.specs.Slab.{slab_len};
     ghost use Rattle.gpu_alloc_base.specs.SlabViews.{by_key};
-    ghost use Rattle.gpu_alloc_pairs.specs.Store.{IsStored, store_in};
+    ghost use Rattle.gpu_alloc_pairs.specs.Store.{buddy_store_in, IsStored};
 
-    ghost view = { λ p. store_in (by_key (λ c. record { object = M.object c.memory; size = 2 ^ c.order }) p.chunks)
+    ghost view = { λ p. buddy_store_in (by_key (λ c. record { object = M.object c.memory; size = 2 ^ c.order }) p.chunks)
         (p.chunks.capacity - slab_len p.chunks) p.lengths.items };
 
     ghost invariant = { λ p. IsStored
@@ -107,7 +107,7 @@ impl<M: MemoryObject, A: Allocator + Copy> Pairs<M, A> {
     ///
     /// The only error is want of host memory.
     pub fn ranges(&self) -> Result<Vec<FreeRange, A>, AllocError>
-        ensures { IfOk result (λ ranges. ranges.items ≡ map_list (range_of (self.now).space) (self.now).free) }
+        ensures { IfOk result (λ ranges. ranges.items ≡ map_list (piece_range (self.now).space) (self.now).free) }
     {
         let pieces = lengths::free_pieces(&self.lengths)?;
         let mut ranges = Vec::with_capacity(*self.lengths.allocator(), pieces.len())?;
@@ -123,7 +123,7 @@ impl<M: MemoryObject, A: Allocator> Pairs<M, A> {
     /// bytes. Nothing but the room changes, even after an error.
     pub fn reserve(&mut self, order: u32, chunk_order: u32) -> Result<(), AllocError>
         requires { chunk_order ≤ 63 }
-        ensures room { OnOk result (HasRooms self.new order chunk_order) }
+        ensures room { OnOk result (HasPairRooms self.new order chunk_order) }
         ensures kept { KeepsStore self.old self.new }
     {
         self.chunks.reserve(1)?;
@@ -151,7 +151,7 @@ impl<M: MemoryObject, A: Allocator> Pairs<M, A> {
         splits: &mut Steps<K>,
     ) -> Result<Option<BuddyBlock<M>>, AllocError>
         requires { order ≤ 62 }
-        ensures takes { TakesPlace (self.old).space (2 ^ order) result (self.new).space }
+        ensures takes { TakesFront (self.old).space (2 ^ order) result (self.new).space }
         ensures counted { CountsTaking (self.old).space (2 ^ order) result looks.old looks.new splits.old splits.new }
     {
         let Some(found) = lengths::find(self.lengths.as_slice(), order, looks) else {
@@ -174,7 +174,7 @@ impl<M: MemoryObject, A: Allocator> Pairs<M, A> {
     ) -> Leaf
         requires longer { order < chunk_order }
         requires short { chunk_order ≤ 63 }
-        requires room { HasRooms self.old order chunk_order }
+        requires room { HasPairRooms self.old order chunk_order }
         requires new_object { IsUnheld (self.old).space (M.object memory) }
         ensures object { result.object ≡ M.object memory }
         ensures begins { BeginsChunk (self.old).space (2 ^ order) result }
@@ -198,14 +198,14 @@ impl<M: MemoryObject, A: Allocator> Pairs<M, A> {
     /// Returns a live block. Free halves join. Where no other block of its chunk is live, the chunk is removed, and its
     /// handle is returned with its size in bytes.
     #[inline(always)]
-    pub fn give_back<K: Ledger>(&mut self, leaf: Leaf, releases: &mut Steps<K>) -> Option<(M, u64)>
+    pub fn put_back<K: Ledger>(&mut self, leaf: Leaf, releases: &mut Steps<K>) -> Option<(M, u64)>
         requires live { IsLiveLeaf (self.old).space leaf }
         ensures stays { IfNone result ((IsUnusedChunk (without_leaf (self.old).space leaf) leaf.chunk → ⊥)
             × ((self.new).space ≡ without_leaf (self.old).space leaf)) }
         ensures goes { IfSome result (λ gone. IsUnusedChunk (without_leaf (self.old).space leaf) leaf.chunk
             × ((map.get ((self.old).space).chunks leaf.chunk
             ≡ Some (record { object = M.object gone.0; size = gone.1 }))
-            × ((self.new).space ≡ without_chunk (self.old).space leaf))) }
+            × ((self.new).space ≡ without_leaf_and_chunk (self.old).space leaf))) }
         ensures some { releases.old < releases.new }
         ensures few { (chunk : HeldChunk) → map.get ((self.old).space).chunks leaf.chunk ≡ Some chunk
             → leaf.size * 2 ^ (releases.new - releases.old) ≤ chunk.size }
@@ -270,7 +270,7 @@ impl<M: MemoryObject, A: Allocator> Pairs<M, A> {
 
     /// A lemma about every store: does nothing at run time.
     pub fn keeps_exact(&self)
-        ensures sound { IsSoundSpace (self.now).space }
+        ensures sound { IsSoundBuddySpace (self.now).space }
         ensures exact { IsExact self.now }
         ensures few { AreFew self.now }
     {
@@ -281,7 +281,7 @@ impl<M: MemoryObject, A: Allocator> Pairs<M, A> {
     fn range_of(&self, piece: Piece) -> FreeRange
         requires held { IsSome (map.get ((self.now).space).chunks piece.chunk) }
         requires bounded { (piece.order ≤ 63) × (piece.start + 2 ^ piece.order ≤ 2 ^ 63) }
-        ensures { result ≡ range_of (self.now).space piece }
+        ensures { result ≡ piece_range (self.now).space piece }
     {
         FreeRange {
             object: self.chunks[piece.chunk].memory.object(),
@@ -357,8 +357,8 @@ fn key_of<M: MemoryObject, A: Allocator>(
 ) -> Option<usize>
     requires short { order ≤ 62 }
     requires placed { AreInChunks chunks.now order pairs.now }
-    ensures { MatchOption result (StandsNowhere (chunks_in M.object chunks.now) pairs.now order object offset)
-        (StandsUnder (chunks_in M.object chunks.now) pairs.now order object offset) }
+    ensures { MatchOption result (BlockStandsNowhere (chunks_in M.object chunks.now) pairs.now order object offset)
+        (BlockStandsUnder (chunks_in M.object chunks.now) pairs.now order object offset) }
 {
     match pairs.get(key) {
         Some(pair) if is_of(chunks, pair, order, object, offset) => Some(key),
@@ -378,8 +378,8 @@ fn search<M: MemoryObject, A: Allocator>(
 ) -> Option<usize>
     requires short { order ≤ 62 }
     requires placed { AreInChunks chunks.now order pairs.now }
-    ensures { MatchOption result (StandsNowhere (chunks_in M.object chunks.now) pairs.now order object offset)
-        (StandsUnder (chunks_in M.object chunks.now) pairs.now order object offset) }
+    ensures { MatchOption result (BlockStandsNowhere (chunks_in M.object chunks.now) pairs.now order object offset)
+        (BlockStandsUnder (chunks_in M.object chunks.now) pairs.now order object offset) }
 {
     for (key, pair) in pairs.iter() {
         if is_of(chunks, pair, order, object, offset) {

@@ -54,7 +54,7 @@ pub record IsWellFormed (p : Properties) (o : Object) : Type 0 where
 -- Which calls are accepted.
 
 -- a valid allocation: some bytes of a known type, with the address flag only where the device has the feature
-pub record IsAskable (p : Properties) (size memory_type flags : ℕ) : Type 0 where
+pub record IsAllocatable (p : Properties) (size memory_type flags : ℕ) : Type 0 where
   pub nonempty : 0 < size
   pub known : memory_type < length p.memory_types
   pub address : IsTrue (has_bit flags with_device_address) → IsTrue p.buffer_device_address

@@ -4,7 +4,7 @@ ghost use Rattle.std.specs.Prelude.{◌≡◌, ℕ, Option, IfOk, IfSome, length
 ghost use Rattle.std.specs.Result.{result_map_both};
 ghost use Rattle.gpu_alloc_types.specs.Flags.{allocation_bits};
 ghost use Rattle.gpu_alloc_types.specs.Properties.{Properties};
-ghost use Rattle.gpu_alloc_types.specs.Device.{Object, Event, Row, IsWellFormed, IsAskable, IsHeld, HeldWith};
+ghost use Rattle.gpu_alloc_types.specs.Device.{Object, Event, Row, IsWellFormed, IsAllocatable, IsHeld, HeldWith};
 ghost use Rattle.gpu_alloc_types.specs.Device.{IsMappable, IsMapped, IsInMapped, AreFlushable, range_of};
 ghost use Rattle.gpu_alloc_types.specs.Device.Event.{Allocated, Deallocated, Mapped, Unmapped, Flushed, Invalidated};
 ghost use Rattle.gpu_alloc_types.specs.Device.Event.{BytesPut, BytesGot};
@@ -53,7 +53,7 @@ pub trait MemoryDevice<M: MemoryObject> {
         memory_type: u32,
         flags: AllocationFlags,
     ) -> Result<M, OutOfMemory>
-        requires { IsAskable (properties self.old) size memory_type (allocation_bits flags) }
+        requires { IsAllocatable (properties self.old) size memory_type (allocation_bits flags) }
         ensures { step self.old
             (Allocated size memory_type (allocation_bits flags) (result_map_both M.object (λ e. e) result)) self.new };
 
@@ -154,7 +154,7 @@ pub trait ObjectDevice<M: MemoryObject> {
         memory_type: u32,
         flags: AllocationFlags,
     ) -> Result<M, OutOfMemory>
-        requires { IsAskable (properties self.old) size memory_type (allocation_bits flags) }
+        requires { IsAllocatable (properties self.old) size memory_type (allocation_bits flags) }
         ensures { step self.old
             (Allocated size memory_type (allocation_bits flags) (result_map_both M.object (λ e. e) result)) self.new };
 

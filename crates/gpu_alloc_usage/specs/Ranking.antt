@@ -95,8 +95,8 @@ candidates types usage mask = filter (is_allowed mask) (ranking (implied usage) 
 -- The ranking, by its members and its order.
 
 -- there is a type with index t, and it may serve a usage
-abbrev pub Serves : ℕ → List MemoryType → ℕ → Type 0
-Serves usage types t = (t < length types) × (compatible usage (props_of types t) ≡ true)
+abbrev pub ServesUsage : ℕ → List MemoryType → ℕ → Type 0
+ServesUsage usage types t = (t < length types) × (compatible usage (props_of types t) ≡ true)
 
 -- s comes before t: its key is lower, or the keys are equal and s is lower
 abbrev pub Before : (ℕ → ℕ) → ℕ → ℕ → Type 0
@@ -108,12 +108,12 @@ IsRising k xs = (a b : ℕ) → a < b → b < length xs → Before k (slice_inde
 
 -- exactly the types that may serve a usage, the lowest key first, and among equals the lowest index first
 pub record IsRanking (usage : ℕ) (types : List MemoryType) (ranked : List ℕ) : Type 0 where
-  pub exactly : (t : ℕ) → Contains ranked t ↔ Serves usage types t
+  pub exactly : (t : ℕ) → Contains ranked t ↔ ServesUsage usage types t
   pub rising : IsRising (key_of usage types) ranked
 
 -- exactly those of them whose bit is set in a mask, in the same order
 pub record IsRankingWithin (usage : ℕ) (types : List MemoryType) (mask : ℕ) (ranked : List ℕ) : Type 0 where
-  pub exactly : (t : ℕ) → Contains ranked t ↔ Serves usage types t × (bit_at mask t ≡ 1)
+  pub exactly : (t : ℕ) → Contains ranked t ↔ ServesUsage usage types t × (bit_at mask t ≡ 1)
   pub rising : IsRising (key_of usage types) ranked
 
 -- The table of all usages.

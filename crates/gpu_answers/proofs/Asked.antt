@@ -2,8 +2,8 @@
 use Rattle.std.proofs.Common.{◌≡◌, ◌⊎◌, inl, inr, ℕ, ◌+◌, ◌<◌, ◌≤◌, List, [], ◌∷◌, length, Option, Some, None, Ok, Err, refl, sym, ◌∙◌, ap, arith}
 use Rattle.gpu_alloc_types.specs.Device.{Chain, Event}
 use Rattle.gpu_alloc_types.specs.Device.Event.{Allocated, Deallocated, Mapped, Unmapped, Flushed, Invalidated, BytesPut, BytesGot}
-use Rattle.gpu_answers.specs.Asking.{Asks, IsTold, RunState}
-use Rattle.gpu_answers.specs.Device.{Answers, IsStep}
+use Rattle.gpu_answers.specs.Asking.{AsksInRun, IsNextAnswer, RunState}
+use Rattle.gpu_answers.specs.Device.{AnswersInRun, IsStep}
 use Rattle.gpu_answers.specs.DeviceState.{DeviceState}
 use Rattle.gpu_answers.specs.declared.question.Answer.{Answer}
 use Rattle.gpu_answers.specs.declared.question.Answered.{Answered}
@@ -33,21 +33,21 @@ abbrev Uses : ℕ → RunState → RunState → Type 0
 Uses n old new = ((new.stop ≡ None) × (length old.left ≤ n + length new.left)) ⊎ ((length old.left < n) ⊎ (new.stop ≡ Some Strayed))
 
 told_uses : (stop : Option Stop) (left : List Answered) (old : RunState) (question : Question) (told : Option Answer) (new : RunState)
-    → stop ≡ old.stop → left ≡ old.left → IsTold stop left old question told new → stop ≡ None → Uses 1 old new
+    → stop ≡ old.stop → left ≡ old.left → IsNextAnswer stop left old question told new → stop ≡ None → Uses 1 old new
 told_uses (Some s) left old question told new same_stop same_left is none = absurd (cc)
 told_uses None [] old question told new same_stop same_left is none = inr (inl (let empty = ap length same_left in omega (arith, empty)))
 told_uses None (next ∷ rest) old question told new same_stop same_left (inl used) none =
     inl (ap (λ (r : RunState). r.stop) used.2 ∙ sym same_stop, let one = ap length same_left in let left = ap (λ (r : RunState). length r.left) used.2 in omega (arith, one, left))
 told_uses None (next ∷ rest) old question told new same_stop same_left (inr other) none = inr (inr (ap (λ (r : RunState). r.stop) other.2))
 
-ask_uses : (old : RunState) (question : Question) (told : Option Answer) (new : RunState) → Asks old question told new → old.stop ≡ None → Uses 1 old new
+ask_uses : (old : RunState) (question : Question) (told : Option Answer) (new : RunState) → AsksInRun old question told new → old.stop ≡ None → Uses 1 old new
 ask_uses old question told new asks none = told_uses old.stop old.left old question told new refl refl asks none
 
 same_uses : (n : ℕ) (old new : RunState) → new ≡ old → old.stop ≡ None → Uses n old new
 same_uses n old new same none =
     inl (ap (λ (r : RunState). r.stop) same ∙ none, let left = ap (λ (r : RunState). length r.left) same in omega (arith, left))
 
-step_uses : (old : RunState) (e : Event) (new : RunState) → Answers old e new → old.stop ≡ None → Uses (asked_by e) old new
+step_uses : (old : RunState) (e : Event) (new : RunState) → AnswersInRun old e new → old.stop ≡ None → Uses (asked_by e) old new
 step_uses old (Allocated size t flags (Ok name)) new a none = elim (ask_uses old _ _ a.0 a.1 none) [
   | inl on ↦ inl (ap (λ (r : RunState). r.stop) a.2 ∙ on.0, let left = ap (λ (r : RunState). length r.left) a.2 in let used = on.1 in omega (arith, left, used))
   | inr (inl spent) ↦ inr (inl spent)
@@ -69,16 +69,16 @@ step_uses old (BytesGot name offset bytes) new a none = same_uses 0 old new a no
 -- what stopped a run stays
 
 told_stays : (stop : Option Stop) (left : List Answered) (old : RunState) (question : Question) (told : Option Answer) (new : RunState)
-    → IsTold stop left old question told new → (why : Stop) → stop ≡ Some why → new ≡ old
+    → IsNextAnswer stop left old question told new → (why : Stop) → stop ≡ Some why → new ≡ old
 told_stays (Some s) left old question told new is why same = is.1
 told_stays None left old question told new is why same = absurd (cc)
 
-ask_stays : (old : RunState) (question : Question) (told : Option Answer) (new : RunState) → Asks old question told new → (why : Stop)
+ask_stays : (old : RunState) (question : Question) (told : Option Answer) (new : RunState) → AsksInRun old question told new → (why : Stop)
     → old.stop ≡ Some why → new.stop ≡ Some why
 ask_stays old question told new asks why stopped =
     ap (λ (r : RunState). r.stop) (told_stays old.stop old.left old question told new asks why stopped) ∙ stopped
 
-step_stays : (old : RunState) (e : Event) (new : RunState) → Answers old e new → (why : Stop) → old.stop ≡ Some why → new.stop ≡ Some why
+step_stays : (old : RunState) (e : Event) (new : RunState) → AnswersInRun old e new → (why : Stop) → old.stop ≡ Some why → new.stop ≡ Some why
 step_stays old (Allocated size t flags (Ok name)) new a why stopped = ap (λ (r : RunState). r.stop) a.2 ∙ ask_stays old _ _ a.0 a.1 why stopped
 step_stays old (Allocated size t flags (Err e)) new (inl no_room) why stopped = ap (λ (r : RunState). r.stop) no_room.1 ∙ stopped
 step_stays old (Allocated size t flags (Err e)) new (inr refused) why stopped = ask_stays old _ refused.0 new refused.2 why stopped

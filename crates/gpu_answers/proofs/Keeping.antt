@@ -14,7 +14,7 @@ use Rattle.std.specs.Ordering.{nat_cmp, eq_by_cmp}
 use Rattle.indexmap.proofs.MapLemmas.{distinct-take}
 use Rattle.gpu_alloc_base.proofs.Lists.{all_contained, distinct_push, head_is_other}
 use Rattle.gpu_alloc_base.proofs.Names.{is_there, one_or_two, get_put-other, get_removed, get_removed-other, len_put, len_removed}
-use Rattle.gpu_answers.specs.Held.{HeldState, AreKept, ChangesAt, IsUsed, room_in}
+use Rattle.gpu_answers.specs.Held.{HeldState, AreNamesKept, ChangesHeldObject, IsUsed, room_for_objects}
 use Rattle.gpu_answers.specs.declared.objects.HeldObject.{HeldObject}
 
 other_name : (a b : ℕ) → a ≢ b → nat_eq a b ≡ false
@@ -43,7 +43,7 @@ last_is_other xs name once =
 distinct_first : (count : ℕ) (xs : List ℕ) → IsDistinct nat_eq xs → IsDistinct nat_eq (take count xs)
 distinct_first count xs once = distinct-take nat_eq_equiv count xs once
 
-pub kept-none : (places : ℕ) → AreKept 0 [] 0 places map.empty
+pub kept-none : (places : ℕ) → AreNamesKept 0 [] 0 places map.empty
 unfolding IsDistinct
 kept-none places = record {
   named = λ name above. map.get-empty nat_cmp name;
@@ -58,12 +58,12 @@ len_changed : (objects : FinMap nat_cmp HeldObject) (name : ℕ) (o there : Held
 len_changed objects name o there is =
     map.len-insert nat_cmp_total objects name o ∙ ap (λ found. cond (is_some found) (map.len objects) (map.len objects + 1)) is
 
-module _ (last : ℕ) (gone : List ℕ) (taken places : ℕ) (objects : FinMap nat_cmp HeldObject) (kept : AreKept last gone taken places objects) where
+module _ (last : ℕ) (gone : List ℕ) (taken places : ℕ) (objects : FinMap nat_cmp HeldObject) (kept : AreNamesKept last gone taken places objects) where
   -- the next name is free
   pub next_free : map.get objects (last + 1) ≡ None
   next_free = kept.named (last + 1) (omega arith)
 
-  pub kept-held : (o : HeldObject) → taken + map.len objects < places → AreKept (last + 1) gone taken places (map.insert objects (last + 1) o)
+  pub kept-held : (o : HeldObject) → taken + map.len objects < places → AreNamesKept (last + 1) gone taken places (map.insert objects (last + 1) o)
   kept-held o fits = record {
     used = All-weaker (IsUsed last objects) (IsUsed (last + 1) (map.insert objects (last + 1) o))
         (λ q old. let below = old.0 in (omega (arith, below), get_put-other objects (last + 1) o q (omega (arith, below)) ∙ old.1)) gone kept.used;
@@ -79,8 +79,8 @@ module _ (last : ℕ) (gone : List ℕ) (taken places : ℕ) (objects : FinMap n
   held_is_named : (name : ℕ) (there : HeldObject) → map.get objects name ≡ Some there → name ≤ last
   held_is_named name there is = elim (less_or_not last name) [ inl above ↦ absurd (let none = kept.named name above in cc) | inr below ↦ below ]
 
-  pub kept-given_back : (name : ℕ) (there : HeldObject) → map.get objects name ≡ Some there → AreKept last (gone ++ name ∷ []) (taken + 1) places (map.remove objects name)
-  kept-given_back name there is = record {
+  pub kept-let_go : (name : ℕ) (there : HeldObject) → map.get objects name ≡ Some there → AreNamesKept last (gone ++ name ∷ []) (taken + 1) places (map.remove objects name)
+  kept-let_go name there is = record {
     used = All-push (IsUsed last (map.remove objects name)) gone name
         (All-weaker (IsUsed last objects) (IsUsed last (map.remove objects name)) (λ q old. (old.0, get_removed-other objects name q (held_is_other name q there is old) ∙ old.1)) gone kept.used)
         (held_is_named name there is, get_removed objects name);
@@ -93,8 +93,8 @@ module _ (last : ℕ) (gone : List ℕ) (taken places : ℕ) (objects : FinMap n
     names_fit = let less = len_removed objects name there is in let fits = kept.names_fit in omega (arith, fits, less);
   }
 
-  pub kept-changed : (f : HeldObject → HeldObject) (name : ℕ) (new : FinMap nat_cmp HeldObject) → ChangesAt f objects name new → AreKept last gone taken places new
-  kept-changed f name new c = subst (AreKept last gone taken places) (sym c.2) (record {
+  pub kept-changed : (f : HeldObject → HeldObject) (name : ℕ) (new : FinMap nat_cmp HeldObject) → ChangesHeldObject f objects name new → AreNamesKept last gone taken places new
+  kept-changed f name new c = subst (AreNamesKept last gone taken places) (sym c.2) (record {
     used = All-weaker (IsUsed last objects) (IsUsed last (map.insert objects name (f c.0)))
         (λ q old. (old.0, get_put-other objects name (f c.0) q (held_is_other name q c.0 c.1 old) ∙ old.1)) gone kept.used;
     once = kept.once;
@@ -106,7 +106,7 @@ module _ (last : ℕ) (gone : List ℕ) (taken places : ℕ) (objects : FinMap n
   })
 
   -- the first names alone stay
-  pub kept-first : (count left : ℕ) → left ≤ taken → AreKept last (take count gone) left places objects
+  pub kept-first : (count left : ℕ) → left ≤ taken → AreNamesKept last (take count gone) left places objects
   kept-first count left less = record {
     named = kept.named;
     used = All-take (IsUsed last objects) count gone kept.used;
@@ -124,13 +124,13 @@ taken_is_spent last objects old new (Some name) used once is = (
 )
 
 -- where one more object fits in, so does its name
-pub room_is : (entries last taken places : ℕ) (objects : FinMap nat_cmp HeldObject) → 0 < room_in entries last taken places objects
+pub room_is : (entries last taken places : ℕ) (objects : FinMap nat_cmp HeldObject) → 0 < room_for_objects entries last taken places objects
     → taken + map.len objects < places
 room_is entries last taken places objects room = omega (arith, room)
 
 -- room for an entry, for all names and for one more, and a name
 pub room_for_one : (entries last taken places : ℕ) (objects : FinMap nat_cmp HeldObject) (count : ℕ) → 0 < entries → last < 2 ^ 64 → (last ≡ 2 ^ 64 - 1 → ⊥)
-    → map.len objects < count → taken + count ≤ places → 0 < room_in entries last taken places objects
+    → map.len objects < count → taken + count ≤ places → 0 < room_for_objects entries last taken places objects
 room_for_one entries last taken places objects count entry fits name few names = omega (arith, entry, fits, name, few, names)
 
 -- an object that is held of equal states
@@ -139,7 +139,7 @@ held_in s t name same held = let there = is_there _ held in (there.0, ap (λ (u 
 
 -- an object that is taken off and comes back changed
 pub changed_by : (f : HeldObject → HeldObject) (old taken new : FinMap nat_cmp HeldObject) (name : ℕ) (o : HeldObject) → map.get old name ≡ Some o
-    → taken ≡ map.remove old name → new ≡ map.insert taken name (f o) → ChangesAt f old name new
+    → taken ≡ map.remove old name → new ≡ map.insert taken name (f o) → ChangesHeldObject f old name new
 changed_by f old taken new name o there off on = (o, there, on ∙ ap (λ m. map.insert m name (f o)) off ∙ put_back)
   where
     put_back : map.insert (map.remove old name) name (f o) ≡ map.insert old name (f o)
@@ -150,5 +150,5 @@ changed_by f old taken new name o there off on = (o, there, on ∙ ap (λ m. map
         found q true e = refl
         found q false e = map.get-remove nat_cmp_total old name q ∙ ap (λ b. cond b None (map.get old q)) e
 
-pub changed_in : (f : HeldObject → HeldObject) (s t : HeldState) (name : ℕ) (new : FinMap nat_cmp HeldObject) → s ≡ t → ChangesAt f s.objects name new → ChangesAt f t.objects name new
-changed_in f s t name new same c = subst (λ (u : HeldState). ChangesAt f u.objects name new) same c
+pub changed_in : (f : HeldObject → HeldObject) (s t : HeldState) (name : ℕ) (new : FinMap nat_cmp HeldObject) → s ≡ t → ChangesHeldObject f s.objects name new → ChangesHeldObject f t.objects name new
+changed_in f s t name new same c = subst (λ (u : HeldState). ChangesHeldObject f u.objects name new) same c

@@ -10,7 +10,7 @@ use Rattle.gpu_alloc_types.specs.Device.{Chain, Changes, Event, InTurn, Object, 
 use Rattle.gpu_alloc_types.specs.Device.Event.{Allocated, Deallocated, Mapped, Unmapped, Flushed, Invalidated, BytesPut, BytesGot}
 use Rattle.gpu_alloc_types.specs.Objects.{put-other, put-same}
 use Rattle.gpu_alloc_types.specs.Properties.{Properties}
-use Rattle.gpu_answers.specs.Device.{IsStep, objects_of, shown}
+use Rattle.gpu_answers.specs.Device.{IsStep, objects_of, shown_object}
 use Rattle.gpu_answers.specs.DeviceState.{DeviceState}
 use Rattle.gpu_answers.specs.Held.{HeldState, IsPast, KeepsNames}
 use Rattle.gpu_answers.specs.declared.objects.HeldObject.{HeldObject}
@@ -40,7 +40,7 @@ removed_none old name q none = elim (one_or_two q name) [
   | inr other ↦ put-other old name None q other ∙ none
 ]
 
-unshown : (p : Properties) (found : Option HeldObject) → option_map (shown p) found ≡ None → found ≡ None
+unshown : (p : Properties) (found : Option HeldObject) → option_map (shown_object p) found ≡ None → found ≡ None
 unshown p None none = refl
 unshown p (Some o) none = absurd (cc)
 
@@ -75,7 +75,7 @@ same_names : (old new : DeviceState) → new.held.last_name ≡ old.held.last_na
     → ((q : ℕ) → objects_of old q ≡ None → objects_of new q ≡ None) → KeepsNames old.held new.held
 same_names old new last gone free =
     names_kept old.held new.held (omega (arith, last))
-    (λ name below none. unshown new.properties (map.get new.held.objects name) (free name (ap (option_map (shown old.properties)) none)))
+    (λ name below none. unshown new.properties (map.get new.held.objects name) (free name (ap (option_map (shown_object old.properties)) none)))
     (λ name past has. subst (λ xs. Contains xs name) gone has)
 
 pub step_keeps_names : (old : DeviceState) (e : Event) (new : DeviceState) → IsStep old e new → KeepsNames old.held new.held
@@ -84,13 +84,13 @@ step_keeps_names old (Allocated size t flags (Ok name)) new s =
     (λ q below none. unshown new.properties (map.get new.held.objects q)
     (ap (λ (f : ℕ → Option Object). f q) s.row.1.2
     ∙ put-other (objects_of old) name (Some s.row.1.0) q (λ same. let is = s.names.0 in omega (arith, is, same, below))
-    ∙ ap (option_map (shown old.properties)) none))
+    ∙ ap (option_map (shown_object old.properties)) none))
     (λ q past has. subst (λ xs. Contains xs q) s.names.2 has)
 step_keeps_names old (Allocated size t flags (Err e)) new s = same_names old new s.names.0 s.names.1 (unchanged_none _ _ s.row)
 step_keeps_names old (Deallocated name) new s =
     names_kept old.held new.held (let last = s.names.0 in omega (arith, last))
     (λ q below none. unshown new.properties (map.get new.held.objects q)
-    (ap (λ (f : ℕ → Option Object). f q) s.row ∙ removed_none (objects_of old) name q (ap (option_map (shown old.properties)) none)))
+    (ap (λ (f : ℕ → Option Object). f q) s.row ∙ removed_none (objects_of old) name q (ap (option_map (shown_object old.properties)) none)))
     (λ q past has. elim (Contains-push_cases old.held.gone name q (subst (λ xs. Contains xs q) s.names.1 has)) [
       | inl there ↦ there
       | inr same ↦ absurd (let none = past.1 in let held = is_there _ s.names.2 in let there = subst (λ n. map.get old.held.objects n ≡ Some held.0) same held.1 in cc)

@@ -12,8 +12,8 @@ use Rattle.gpu_alloc_types.specs.Properties.{Properties}
 use Rattle.gpu_alloc_types.specs.Device.{Object, Range, Row, Changes, InTurn, HeldWith, IsMappable, AreFlushable, IsFlushable, IsFlushed, IsInvalidated, IsMappedOver, IsUnmapped, put}
 use Rattle.gpu_alloc_types.specs.Device.Event.{Allocated, Deallocated}
 use Rattle.gpu_alloc_types.specs.declared.types.OutOfMemory.{OutOfMemory}
-use Rattle.gpu_answers.specs.Device.{all_shown, shown, within}
-use Rattle.gpu_answers.specs.Held.{ChangesAt, mapped_as, new_object}
+use Rattle.gpu_answers.specs.Device.{all_shown, shown_object, within}
+use Rattle.gpu_answers.specs.Held.{ChangesHeldObject, held_mapped_as, new_held_object}
 use Rattle.gpu_answers.specs.declared.objects.HeldObject.{HeldObject}
 
 -- where host and device see the same bytes, a flush or an invalidate changes nothing
@@ -41,7 +41,7 @@ within_is size r le = ap (λ b. cond b (Some r) None) fits
     fits = grind (arith, nat_tests)
 
 -- what is shown is there
-pub shown_is_there : (p : Properties) (found : Option HeldObject) → IsSome (option_map (shown p) found) → IsSome found
+pub shown_is_there : (p : Properties) (found : Option HeldObject) → IsSome (option_map (shown_object p) found) → IsSome found
 shown_is_there p None is = is
 shown_is_there p (Some o) is = refl
 
@@ -50,53 +50,53 @@ pushed f true x y = refl
 pushed f false x y = refl
 
 module _ (p : Properties) where
-  same_bytes : (found : Option HeldObject) (o : Object) → option_map (shown p) found ≡ Some o → o.host_bytes ≡ o.device_bytes
+  same_bytes : (found : Option HeldObject) (o : Object) → option_map (shown_object p) found ≡ Some o → o.host_bytes ≡ o.device_bytes
   same_bytes None o is = absurd (cc)
-  same_bytes (Some h) o is = let same : shown p h ≡ o = cc in subst (λ (o : Object). o.host_bytes ≡ o.device_bytes) same refl
+  same_bytes (Some h) o is = let same : shown_object p h ≡ o = cc in subst (λ (o : Object). o.host_bytes ≡ o.device_bytes) same refl
 
   module _ (objects : FinMap nat_cmp HeldObject) where
-    shown-insert : (name : ℕ) (o : HeldObject) → all_shown p (map.insert objects name o) ≡ put (all_shown p objects) name (Some (shown p o))
+    shown-insert : (name : ℕ) (o : HeldObject) → all_shown p (map.insert objects name o) ≡ put (all_shown p objects) name (Some (shown_object p o))
     unfolding put
     shown-insert name o = fun_ext (λ q.
-        ap (option_map (shown p)) (map.get-insert nat_cmp_total objects name o q ∙ ap (λ b. cond b (Some o) (map.get objects q)) (name_test q name))
-        ∙ pushed (shown p) _ (Some o) (map.get objects q))
+        ap (option_map (shown_object p)) (map.get-insert nat_cmp_total objects name o q ∙ ap (λ b. cond b (Some o) (map.get objects q)) (name_test q name))
+        ∙ pushed (shown_object p) _ (Some o) (map.get objects q))
 
     shown-remove : (name : ℕ) → all_shown p (map.remove objects name) ≡ put (all_shown p objects) name None
     unfolding put
     shown-remove name = fun_ext (λ q.
-        ap (option_map (shown p)) (map.get-remove nat_cmp_total objects name q ∙ ap (λ b. cond b None (map.get objects q)) (name_test q name))
-        ∙ pushed (shown p) _ None (map.get objects q))
+        ap (option_map (shown_object p)) (map.get-remove nat_cmp_total objects name q ∙ ap (λ b. cond b None (map.get objects q)) (name_test q name))
+        ∙ pushed (shown_object p) _ None (map.get objects q))
 
-    pub made_row : (size t flags name : ℕ) (new : FinMap nat_cmp HeldObject) → map.get objects name ≡ None → new ≡ map.insert objects name (new_object size t)
+    pub made_row : (size t flags name : ℕ) (new : FinMap nat_cmp HeldObject) → map.get objects name ≡ None → new ≡ map.insert objects name (new_held_object size t)
         → Row p (all_shown p objects) (Allocated size t flags (Ok name)) (all_shown p new)
     made_row size t flags name new free is = (
-      ap (option_map (shown p)) free,
-      (shown p (new_object size t), record { of_type = refl; of_size = refl; unmapped = refl }, ap (all_shown p) is ∙ shown-insert name (new_object size t)),
+      ap (option_map (shown_object p)) free,
+      (shown_object p (new_held_object size t), record { of_type = refl; of_size = refl; unmapped = refl }, ap (all_shown p) is ∙ shown-insert name (new_held_object size t)),
     )
 
-    pub given_back_row : (name : ℕ) (new : FinMap nat_cmp HeldObject) → new ≡ map.remove objects name → Row p (all_shown p objects) (Deallocated name) (all_shown p new)
-    given_back_row name new is = ap (all_shown p) is ∙ shown-remove name
+    pub let_go_row : (name : ℕ) (new : FinMap nat_cmp HeldObject) → new ≡ map.remove objects name → Row p (all_shown p objects) (Deallocated name) (all_shown p new)
+    let_go_row name new is = ap (all_shown p) is ∙ shown-remove name
 
     pub mapped_row : (r : Range) (new : FinMap nat_cmp HeldObject) → HeldWith (all_shown p objects) r.object (IsMappable p r.offset r.size)
-        → ChangesAt (mapped_as (Some (r.offset, r.size))) objects r.object new → Changes (IsMappedOver r) (all_shown p objects) r.object (all_shown p new)
+        → ChangesHeldObject (held_mapped_as (Some (r.offset, r.size))) objects r.object new → Changes (IsMappedOver r) (all_shown p objects) r.object (all_shown p new)
     mapped_row r new held c =
-        let there = ap (option_map (shown p)) c.1 in
-        let same : held.0 ≡ shown p c.0 = let is = held.1 in cc in
+        let there = ap (option_map (shown_object p)) c.1 in
+        let same : held.0 ≡ shown_object p c.0 = let is = held.1 in cc in
         let fits : r.offset + r.size ≤ c.0.size = subst (λ (o : Object). r.offset + r.size ≤ o.size) same held.2.inside in (
-          shown p c.0,
+          shown_object p c.0,
           there,
           (
-            shown p (mapped_as (Some (r.offset, r.size)) c.0),
-            ap (λ m. record (shown p c.0) { mapped = m }) (within_is c.0.size (r.offset, r.size) fits),
-            ap (all_shown p) c.2 ∙ shown-insert r.object (mapped_as (Some (r.offset, r.size)) c.0),
+            shown_object p (held_mapped_as (Some (r.offset, r.size)) c.0),
+            ap (λ m. record (shown_object p c.0) { mapped = m }) (within_is c.0.size (r.offset, r.size) fits),
+            ap (all_shown p) c.2 ∙ shown-insert r.object (held_mapped_as (Some (r.offset, r.size)) c.0),
           ),
         )
 
-    pub unmapped_row : (name : ℕ) (new : FinMap nat_cmp HeldObject) → ChangesAt (mapped_as None) objects name new → Changes IsUnmapped (all_shown p objects) name (all_shown p new)
+    pub unmapped_row : (name : ℕ) (new : FinMap nat_cmp HeldObject) → ChangesHeldObject (held_mapped_as None) objects name new → Changes IsUnmapped (all_shown p objects) name (all_shown p new)
     unmapped_row name new c = (
-      shown p c.0,
-      ap (option_map (shown p)) c.1,
-      (shown p (mapped_as None c.0), refl, ap (all_shown p) c.2 ∙ shown-insert name (mapped_as None c.0)),
+      shown_object p c.0,
+      ap (option_map (shown_object p)) c.1,
+      (shown_object p (held_mapped_as None c.0), refl, ap (all_shown p) c.2 ∙ shown-insert name (held_mapped_as None c.0)),
     )
 
     module _ (rs : List Range) (held : AreFlushable p (all_shown p objects) rs) where

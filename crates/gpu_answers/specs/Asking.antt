@@ -25,16 +25,16 @@ abbrev pub begun : List Answered → RunState
 begun answers = record { left = answers; stop = None; made = None }
 
 -- The next answer counts if it is to this question. Otherwise neither this question nor any after it has an answer.
-abbrev pub IsTold : Option Stop → List Answered → RunState → Question → Option Answer → RunState → Type 0
-IsTold (Some stop) left old question told new = (told ≡ None) × (new ≡ old)
-IsTold None [] old question told new = (told ≡ None) × (new ≡ record old { stop = Some (Open question) })
-IsTold None (next ∷ rest) old question told new =
+abbrev pub IsNextAnswer : Option Stop → List Answered → RunState → Question → Option Answer → RunState → Type 0
+IsNextAnswer (Some stop) left old question told new = (told ≡ None) × (new ≡ old)
+IsNextAnswer None [] old question told new = (told ≡ None) × (new ≡ record old { stop = Some (Open question) })
+IsNextAnswer None (next ∷ rest) old question told new =
     ((next.question ≡ question) × (told ≡ Some next.answer) × (new ≡ record old { left = rest }))
     ⊎ ((next.question ≢ question) × (told ≡ None) × (new ≡ record old { stop = Some Strayed }))
 
 -- the question is asked in a run, and has this answer or none
-abbrev pub Asks : RunState → Question → Option Answer → RunState → Type 0
-Asks old question told new = IsTold old.stop old.left old question told new
+abbrev pub AsksInRun : RunState → Question → Option Answer → RunState → Type 0
+AsksInRun old question told new = IsNextAnswer old.stop old.left old question told new
 
 -- the question that is open, if that is why the run has no more answers
 abbrev pub open_in : Option Stop → Option Question

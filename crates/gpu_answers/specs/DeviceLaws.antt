@@ -7,7 +7,7 @@ use Rattle.std.proofs.lemmas.Bool.Decides.{nat_tests}
 use Rattle.std.proofs.lemmas.List.{length-replicate}
 use Rattle.gpu_alloc_types.specs.Properties.{Properties, is_host_visible}
 use Rattle.gpu_alloc_types.specs.Device.{Event, Row, IsWellFormed}
-use Rattle.gpu_answers.specs.Device.{IsStep, objects_of, shown, within}
+use Rattle.gpu_answers.specs.Device.{IsStep, objects_of, shown_object, within}
 use Rattle.gpu_answers.specs.DeviceState.{DeviceState}
 use Rattle.gpu_answers.specs.declared.objects.HeldObject.{HeldObject}
 
@@ -23,9 +23,9 @@ length-zeros : (seen : Bool) (size : ℕ) → length {A = ℕ} (cond seen (repli
 length-zeros true size = length-replicate size 0
 length-zeros false size = refl
 
-ends_within : (size : ℕ) (range : Option (ℕ × ℕ)) → IfSome (within size range) (λ r. r.0 + r.1 ≤ size)
-ends_within size None = tt
-ends_within size (Some r) = by (nat_le (r.0 + r.1) size) refl
+within_ends : (size : ℕ) (range : Option (ℕ × ℕ)) → IfSome (within size range) (λ r. r.0 + r.1 ≤ size)
+within_ends size None = tt
+within_ends size (Some r) = by (nat_le (r.0 + r.1) size) refl
   where
     at_most : nat_le (r.0 + r.1) size ≡ true → r.0 + r.1 ≤ size
     at_most e = grind (arith, nat_tests)
@@ -34,13 +34,13 @@ ends_within size (Some r) = by (nat_le (r.0 + r.1) size) refl
     by true e = at_most e
     by false e = tt
 
-shown_well_formed : (p : Properties) (found : Option HeldObject) → IfSome (option_map (shown p) found) (IsWellFormed p)
+shown_well_formed : (p : Properties) (found : Option HeldObject) → IfSome (option_map (shown_object p) found) (IsWellFormed p)
 shown_well_formed p None = tt
 shown_well_formed p (Some o) = record {
   host = length-zeros (is_host_visible p o.memory_type) o.size;
   device = length-zeros (is_host_visible p o.memory_type) o.size;
   coherent = λ is. refl;
-  range = ends_within o.size o.mapped;
+  range = within_ends o.size o.mapped;
 }
 
 pub objects_are_well_formed : (s : DeviceState) (name : ℕ) → IfSome (objects_of s name) (IsWellFormed s.properties)

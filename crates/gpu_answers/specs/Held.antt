@@ -24,16 +24,16 @@ held_code =
     (λ c. record { objects = c.0.0; last_name = c.0.1; gone = c.1.0; room = c.1.1 }) (λ _. refl)
 
 -- an object that was just made
-abbrev pub new_object : (size memory_type : ℕ) → HeldObject
-new_object size t = record { memory_type = t; size = size; mapped = None }
+abbrev pub new_held_object : (size memory_type : ℕ) → HeldObject
+new_held_object size t = record { memory_type = t; size = size; mapped = None }
 
 -- the object, with that range mapped or none
-abbrev pub mapped_as : Option (ℕ × ℕ) → HeldObject → HeldObject
-mapped_as range o = record o { mapped = range }
+abbrev pub held_mapped_as : Option (ℕ × ℕ) → HeldObject → HeldObject
+held_mapped_as range o = record o { mapped = range }
 
 -- the object of that name changes so, and no other
-abbrev pub ChangesAt : (HeldObject → HeldObject) → FinMap nat_cmp HeldObject → ℕ → FinMap nat_cmp HeldObject → Type 0
-ChangesAt change old name new =
+abbrev pub ChangesHeldObject : (HeldObject → HeldObject) → FinMap nat_cmp HeldObject → ℕ → FinMap nat_cmp HeldObject → Type 0
+ChangesHeldObject change old name new =
     (o : HeldObject) × (map.get old name ≡ Some o) × (new ≡ map.insert old name (change o))
 
 -- no object has a name above the latest
@@ -46,7 +46,7 @@ IsUsed last objects name = (name ≤ last) × (map.get objects name ≡ None)
 
 -- What always holds: no name is above the latest, and the released names are no object's, each there once. Of the
 -- places for such names some are taken, and one is left for each held object.
-pub record AreKept (last : ℕ) (gone : List ℕ) (taken places : ℕ) (objects : FinMap nat_cmp HeldObject) : Type 0 where
+pub record AreNamesKept (last : ℕ) (gone : List ℕ) (taken places : ℕ) (objects : FinMap nat_cmp HeldObject) : Type 0 where
   pub named : AreNamedUpTo last objects
   pub used : All (IsUsed last objects) gone
   pub once : IsDistinct nat_eq gone
@@ -54,8 +54,8 @@ pub record AreKept (last : ℕ) (gone : List ℕ) (taken places : ℕ) (objects 
 
 -- How many more objects fit in: for each an entry, a place for its name once it is released, and a name. Names end at
 -- the greatest number.
-abbrev pub room_in : (entries last taken places : ℕ) → FinMap nat_cmp HeldObject → ℕ
-room_in entries last taken places objects =
+abbrev pub room_for_objects : (entries last taken places : ℕ) → FinMap nat_cmp HeldObject → ℕ
+room_for_objects entries last taken places objects =
     min entries (min (places - (taken + map.len objects)) (2 ^ 64 - 1 - last))
 
 -- Names as callers see them.

@@ -23,12 +23,12 @@ objects_code =
 abbrev pub name_in : ObjectRow → ℕ
 name_in row = row.name
 
-abbrev pub object_in : ObjectRow → HeldObject
-object_in row = row.object
+abbrev pub row_object : ObjectRow → HeldObject
+row_object row = row.object
 
 -- the objects that rows stand for
 abbrev pub objects_in : Slab ObjectRow → ObjectsState
-objects_in rows = record { objects = map_by name_in object_in rows; room = rows.capacity - slab_len rows }
+objects_in rows = record { objects = map_by name_in row_object rows; room = rows.capacity - slab_len rows }
 
 -- the name's row is at the place
 abbrev pub IsUnder : Slab ObjectRow → ℕ → ℕ → Type 0

@@ -3,7 +3,7 @@
 ghost use Rattle.std.specs.Prelude.{◌≡◌, ◌↔◌, [], ◌∷◌, ◌++◌, take, None, Some, IfOk, IfSome, IsTrue, OnOk, OnErr};
 ghost use Rattle.gpu_alloc_types.specs.Properties.{properties_of};
 ghost use Rattle.gpu_answers.specs.Asking.{begun, open_in};
-ghost use Rattle.gpu_answers.specs.Device.{IsFresh};
+ghost use Rattle.gpu_answers.specs.Device.{IsFreshDevice};
 ghost use Rattle.gpu_answers.specs.Held.{AreNamed, IsSpent};
 ghost use Rattle.gpu_answers.specs.declared.run.Stop.TheVariants.{Strayed};
 
@@ -52,7 +52,7 @@ impl AnsweredDevice {
     ///
     /// It takes memory for a copy of `props`, and fails only for want of it.
     pub fn new(alloc: Global, props: DeviceProperties<'_>) -> Result<AnsweredDevice, AllocError>
-        ensures { IfOk result (λ device. IsFresh (properties_of props.entry) device) }
+        ensures { IfOk result (λ device. IsFreshDevice (properties_of props.entry) device) }
     {
         Ok(AnsweredDevice {
             properties: OwnedProperties::new(alloc, props)?,
@@ -179,7 +179,7 @@ impl ObjectDevice<ObjectName> for AnsweredDevice {
     }
 
     fn deallocate_memory(&mut self, memory: &ObjectName) {
-        self.held.give_back(memory);
+        self.held.let_go(memory);
     }
 
     fn map_memory(

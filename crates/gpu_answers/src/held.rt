@@ -2,7 +2,7 @@
 
 ghost use Rattle.std.specs.Prelude.{◌≡◌, ◌+◌, ◌<◌, [], ◌∷◌, ◌++◌, take, None, Some, IsSome, OnOk, IfSome};
 ghost use Rattle.std.specs.FinMap as map;
-ghost use Rattle.gpu_answers.specs.Held.{new_object, mapped_as, AreNamed, ChangesAt, IsSpent};
+ghost use Rattle.gpu_answers.specs.Held.{new_held_object, held_mapped_as, AreNamed, ChangesHeldObject, IsSpent};
 
 use crate::ObjectName;
 use crate::objects::{HeldObject, Objects};
@@ -31,17 +31,17 @@ impl Model for HeldObjects {
     ghost coded = { held_code };
 
     ghost use Rattle.std.specs.Prelude.{vec_len, vec_capacity};
-    ghost use Rattle.gpu_answers.specs.Held.{AreKept, room_in};
+    ghost use Rattle.gpu_answers.specs.Held.{AreNamesKept, room_for_objects};
 
     ghost view = { λ held. record {
       objects = held.objects.objects;
       last_name = held.last_name;
       gone = held.gone.items;
-      room = room_in held.objects.room held.last_name (vec_len held.gone) (vec_capacity held.gone)
+      room = room_for_objects held.objects.room held.last_name (vec_len held.gone) (vec_capacity held.gone)
           (held.objects.objects);
     } };
 
-    ghost invariant = { λ held. AreKept held.last_name held.gone.items (vec_len held.gone) (vec_capacity held.gone)
+    ghost invariant = { λ held. AreNamesKept held.last_name held.gone.items (vec_len held.gone) (vec_capacity held.gone)
         (held.objects.objects) };
 }
 
@@ -85,7 +85,7 @@ impl HeldObjects {
         requires { 0 < self.old.room }
         ensures name { result ≡ self.old.last_name + 1 }
         ensures free { map.get self.old.objects result ≡ None }
-        ensures objects { self.new.objects ≡ map.insert self.old.objects result (new_object size memory_type) }
+        ensures objects { self.new.objects ≡ map.insert self.old.objects result (new_held_object size memory_type) }
         ensures last_name { self.new.last_name ≡ result }
         ensures gone { self.new.gone ≡ self.old.gone }
     {
@@ -101,7 +101,7 @@ impl HeldObjects {
     }
 
     /// Releases a held object. Its name is added after the other released ones.
-    pub(crate) fn give_back(&mut self, memory: &ObjectName)
+    pub(crate) fn let_go(&mut self, memory: &ObjectName)
         requires { IsSome (map.get self.old.objects memory.now) }
         ensures objects { self.new.objects ≡ map.remove self.old.objects memory.now }
         ensures last_name { self.new.last_name ≡ self.old.last_name }
@@ -115,7 +115,7 @@ impl HeldObjects {
     /// Sets the mapped range of a held object, or none.
     pub(crate) fn set_mapped(&mut self, memory: &ObjectName, range: Option<(u64, u64)>)
         requires { IsSome (map.get self.old.objects memory.now) }
-        ensures objects { ChangesAt (mapped_as range) self.old.objects memory.now self.new.objects }
+        ensures objects { ChangesHeldObject (held_mapped_as range) self.old.objects memory.now self.new.objects }
         ensures last_name { self.new.last_name ≡ self.old.last_name }
         ensures gone { self.new.gone ≡ self.old.gone }
     {

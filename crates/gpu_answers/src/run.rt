@@ -1,7 +1,7 @@
 //! A run of calls with the answers given for it.
 
 ghost use Rattle.std.specs.Prelude.{◌≡◌, ◌↔◌, [], Some, IsTrue, OnOk, OnErr};
-ghost use Rattle.gpu_answers.specs.Asking.{begun, map_question, open_in, Asks};
+ghost use Rattle.gpu_answers.specs.Asking.{begun, map_question, open_in, AsksInRun};
 ghost use Rattle.gpu_answers.specs.declared.run.Stop.TheVariants.{Strayed};
 
 use crate::{Answer, Answered, Question};
@@ -73,7 +73,7 @@ impl Run {
 
     /// The next answer, if it is one to this question.
     pub(crate) fn ask(&mut self, question: Question) -> Option<Answer>
-        ensures { Asks self.old question result self.new }
+        ensures { AsksInRun self.old question result self.new }
     {
         if self.stop.is_some() {
             return None;
@@ -97,7 +97,7 @@ impl Run {
 
     /// The next answer, if it is one to the question to map that range of the object of that name.
     pub(crate) fn ask_to_map(&mut self, object: u64, offset: u64, size: u64) -> Option<Answer>
-        ensures { Asks self.old (map_question self.old.made object offset size) result self.new }
+        ensures { AsksInRun self.old (map_question self.old.made object offset size) result self.new }
     {
         let question = match self.made {
             Some(made) if made == object => Question::MapMade { offset, size },

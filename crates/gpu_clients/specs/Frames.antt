@@ -36,5 +36,5 @@ module _ {D : Type 0} where
     beside q name = outside q.allocator (objects q.device) name
 
     -- what calls keep of these blocks and of what else the device has
-    abbrev pub Leaves : (old new : QueueState D) → List Block → Type 0
-    Leaves old new blocks = LeavesList old.allocator (objects old.device) new.allocator (objects new.device) blocks
+    abbrev pub LeavesQueued : (old new : QueueState D) → List Block → Type 0
+    LeavesQueued old new blocks = LeavesList old.allocator (objects old.device) new.allocator (objects new.device) blocks

@@ -73,7 +73,7 @@ module _ {D : Type 0} where
       → IsInPages m.granularity size b → SharesNoPage m.granularity size b c
 
   -- its allocator and all its handles are unchanged
-  pub record IsAsBefore (old new : ManagerState D) : Type 0 where
+  pub record IsManagerAsBefore (old new : ManagerState D) : Type 0 where
     pub allocator : new.allocator ≡ old.allocator
     pub blocks : new.blocks ≡ old.blocks
     pub generations : new.generations ≡ old.generations

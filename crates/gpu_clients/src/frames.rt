@@ -6,7 +6,7 @@ ghost use Rattle.gpu_alloc_types.specs.Properties.{IsUsable, properties_of};
 ghost use Rattle.gpu_alloc.specs.Owned.{AreOwned};
 ghost use Rattle.gpu_alloc.specs.Request.{IsAskable};
 ghost use Rattle.gpu_alloc.specs.Served.{ServesFirst};
-ghost use Rattle.gpu_clients.specs.Frames.{beside, Leaves};
+ghost use Rattle.gpu_clients.specs.Frames.{beside, LeavesQueued};
 
 mod queue;
 
@@ -72,7 +72,7 @@ impl<M: MemoryObject, D: ObjectDevice<M>, A: Allocator + Copy> FramePlanner<M, D
             (ServesFirst requests.now (length requests.now) self.old.hand.blocks self.new.hand.blocks) }
         ensures refused { OnErr result (self.new.counts ≡ self.old.counts) }
         ensures as_before { OnErr result (self.new.hand.blocks ≡ self.old.hand.blocks) }
-        ensures leaves { Leaves D.objects self.old.hand self.new.hand self.old.hand.blocks }
+        ensures leaves { LeavesQueued D.objects self.old.hand self.new.hand self.old.hand.blocks }
     {
         self.hand.keeps_blocks();
         if self.counts.reserve(1).is_err() {
@@ -89,11 +89,11 @@ impl<M: MemoryObject, D: ObjectDevice<M>, A: Allocator + Copy> FramePlanner<M, D
         ensures retired { IsTrue result → (count : ℕ) × (self.old.counts ≡ count ∷ self.new.counts)
             × (self.new.hand.blocks ≡ drop count self.old.hand.blocks) }
         ensures none { (IsTrue result → ⊥) → (self.old.counts ≡ []) × (self.new ≡ self.old) }
-        ensures leaves { Leaves D.objects self.old.hand self.new.hand self.new.hand.blocks }
+        ensures leaves { LeavesQueued D.objects self.old.hand self.new.hand self.new.hand.blocks }
     {
         match self.counts.pop_front() {
             Some(count) => {
-                self.hand.give_back_first(count);
+                self.hand.dealloc_first(count);
                 true
             }
             None => false,

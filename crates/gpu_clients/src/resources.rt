@@ -10,8 +10,8 @@ ghost use Rattle.gpu_alloc.specs.Allocation.{IsGranted, IsInPages};
 ghost use Rattle.gpu_alloc.specs.Kept.{AreKept};
 ghost use Rattle.gpu_alloc.specs.Request.{IsAskable, IsGranularity};
 ghost use Rattle.gpu_clients.specs.Resources.{block_at, FindsBlock, WasGiven, HasEnded, StayEnded, OthersStay};
-ghost use Rattle.gpu_clients.specs.Resources.{IsAsBefore, KeepsPagesApart, beside, IsSameBeside, KeepsBytes};
-ghost use Rattle.gpu_clients.specs.Staging.{Keeps};
+ghost use Rattle.gpu_clients.specs.Resources.{IsManagerAsBefore, KeepsPagesApart, beside, IsSameBeside, KeepsBytes};
+ghost use Rattle.gpu_clients.specs.Staging.{KeepsBuffers};
 
 use crate::closing::close;
 use gpu_alloc::laws::{agrees_at_first, bytes_stay, pages_are_not_shared};
@@ -147,7 +147,7 @@ impl<M: MemoryObject, D: ObjectDevice<M>, A: Allocator + Copy> ResourceManager<M
             FindsBlock self.new handle (IsGranted self.old.allocator request self.new.allocator)) }
         ensures others { IfOk result (OthersStay self.old self.new) }
         ensures count { IfOk result (λ handle. map.len self.new.blocks ≡ map.len self.old.blocks + 1) }
-        ensures refused { OnErr result (IsAsBefore self.old self.new) }
+        ensures refused { OnErr result (IsManagerAsBefore self.old self.new) }
         ensures bytes { KeepsBytes D.objects self.old self.new }
         ensures ended { StayEnded self.old self.new }
         ensures properties { (self.new.allocator).properties ≡ (self.old.allocator).properties }
@@ -182,7 +182,7 @@ impl<M: MemoryObject, D: ObjectDevice<M>, A: Allocator + Copy> ResourceManager<M
             FindsBlock self.new handle (IsInPages self.new.granularity request.size)) }
         ensures others { IfOk result (OthersStay self.old self.new) }
         ensures count { IfOk result (λ handle. map.len self.new.blocks ≡ map.len self.old.blocks + 1) }
-        ensures refused { OnErr result (IsAsBefore self.old self.new) }
+        ensures refused { OnErr result (IsManagerAsBefore self.old self.new) }
         ensures bytes { KeepsBytes D.objects self.old self.new }
         ensures ended { StayEnded self.old self.new }
         ensures properties { (self.new.allocator).properties ≡ (self.old.allocator).properties }
@@ -301,7 +301,7 @@ impl<M: MemoryObject, D: MemoryDevice<M>, A: Allocator + Copy> ResourceManager<M
         requires { FindsBlock self.old handle (λ b. length bytes.now ≤ b.size) }
         ensures stored { OnOk result (FindsBlock self.old handle (λ b. Stores b 0 bytes.now (D.objects self.new.device))) }
         ensures blocks { self.new.blocks ≡ self.old.blocks }
-        ensures keeps { Keeps D.properties D.objects self.old self.new (λ other. other ≢ handle) }
+        ensures keeps { KeepsBuffers D.properties D.objects self.old self.new (λ other. other ≢ handle) }
     {
         match self.blocks.get_mut(handle.key) {
             Some(block) => block.write_bytes(&mut self.device, 0, bytes),
@@ -322,7 +322,7 @@ impl<M: MemoryObject, D: MemoryDevice<M>, A: Allocator + Copy> ResourceManager<M
         ensures refused { OnErr result (bytes.new ≡ bytes.old) }
         ensures blocks { self.new.blocks ≡ self.old.blocks }
         ensures unmoved { (c : Block) → HasSameDeviceBytes c (D.objects self.old.device) (D.objects self.new.device) }
-        ensures keeps { Keeps D.properties D.objects self.old self.new (λ other. other ≢ handle) }
+        ensures keeps { KeepsBuffers D.properties D.objects self.old self.new (λ other. other ≢ handle) }
     {
         match self.blocks.get_mut(handle.key) {
             Some(block) => block.read_bytes(&mut self.device, offset, bytes),

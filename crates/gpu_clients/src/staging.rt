@@ -6,7 +6,7 @@ ghost use Rattle.std.specs.Int.{bit_at};
 ghost use Rattle.gpu_alloc_types.specs.Properties.{IsUsable, properties_of};
 ghost use Rattle.gpu_alloc_block.specs.Contents.{HasSameDeviceBytes, Stores};
 ghost use Rattle.gpu_alloc_block.specs.State.{Block};
-ghost use Rattle.gpu_clients.specs.Staging.{AreApart, Keeps, OfBuffer, SameBuffers, SetsBuffer, beside, buffer_at};
+ghost use Rattle.gpu_clients.specs.Staging.{AreBuffersApart, KeepsBuffers, OfBuffer, SameBuffers, SetsBuffer, beside, buffer_at};
 
 use crate::resources::{Handle, ResourceManager};
 use gpu_alloc::laws::{bytes_stay, candidates_serve_the_request};
@@ -105,7 +105,7 @@ impl<M: MemoryObject, D: MemoryDevice<M>, A: Allocator + Copy> StagingPool<M, D,
         ensures placed { IfOk result (λ key. OfBuffer self.new key
             (λ b. (b.offset % (align_mask + 1) ≡ 0) × (bit_at memory_types b.memory_type ≡ 1))) }
         ensures refused { OnErr result (SameBuffers self.old self.new) }
-        ensures keeps { Keeps D.properties D.objects self.old self.new (λ _. ⊤) }
+        ensures keeps { KeepsBuffers D.properties D.objects self.old self.new (λ _. ⊤) }
     {
         bytes_stay();
         let request = Request {
@@ -134,7 +134,7 @@ impl<M: MemoryObject, D: MemoryDevice<M>, A: Allocator + Copy> StagingPool<M, D,
         ensures unknown { buffer_at self.old key ≡ None → result ≡ Err StagingError.UnknownKey }
         ensures buffers { SameBuffers self.old self.new }
         ensures unmoved { (c : Block) → HasSameDeviceBytes c (D.objects self.old.device) (D.objects self.new.device) }
-        ensures keeps { Keeps D.properties D.objects self.old self.new (λ other. other ≢ key) }
+        ensures keeps { KeepsBuffers D.properties D.objects self.old self.new (λ other. other ≢ key) }
     {
         bytes_stay();
         self.has_range(key, offset, bytes.len() as u64)?;
@@ -149,7 +149,7 @@ impl<M: MemoryObject, D: MemoryDevice<M>, A: Allocator + Copy> StagingPool<M, D,
         ensures known { result ≡ is_some (buffer_at self.old key) }
         ensures gone { SetsBuffer self.old self.new key None }
         ensures fewer { IsTrue result → map.len self.new.blocks + 1 ≡ map.len self.old.blocks }
-        ensures keeps { Keeps D.properties D.objects self.old self.new (λ _. ⊤) }
+        ensures keeps { KeepsBuffers D.properties D.objects self.old self.new (λ _. ⊤) }
     {
         self.buffers.destroy(Handle { key })
     }
@@ -157,7 +157,7 @@ impl<M: MemoryObject, D: MemoryDevice<M>, A: Allocator + Copy> StagingPool<M, D,
     /// The buffer under a key, for the program to bind and copy. No two buffers share a byte.
     pub fn buffer(&self, key: u64) -> Option<&MemoryBlock<M>>
         ensures value { option_copied result ≡ buffer_at self.now key }
-        ensures apart { AreApart self.now }
+        ensures apart { AreBuffersApart self.now }
     {
         self.buffers.keeps_blocks();
         self.buffers.block(Handle { key })
@@ -205,7 +205,7 @@ impl<M: MemoryObject, D: MemoryDevice<M>, A: Allocator + Copy> StagingPool<M, D,
         ensures placed { IfOk result (λ key. OfBuffer self.new key
             (λ b. (b.offset % (request.align_mask + 1) ≡ 0) × (bit_at request.memory_types b.memory_type ≡ 1))) }
         ensures refused { OnErr result (SameBuffers self.old self.new) }
-        ensures keeps { Keeps D.properties D.objects self.old self.new (λ _. ⊤) }
+        ensures keeps { KeepsBuffers D.properties D.objects self.old self.new (λ _. ⊤) }
     {
         bytes_stay();
         candidates_serve_the_request();
@@ -224,7 +224,7 @@ impl<M: MemoryObject, D: MemoryDevice<M>, A: Allocator + Copy> StagingPool<M, D,
         ensures stored { OnOk result (OfBuffer self.new handle (λ b. Stores b 0 bytes.now (D.objects self.new.device))) }
         ensures buffers { OnOk result (SameBuffers self.old self.new) }
         ensures gone { OnErr result (SetsBuffer self.old self.new handle None) }
-        ensures keeps { Keeps D.properties D.objects self.old self.new (λ other. other ≢ handle) }
+        ensures keeps { KeepsBuffers D.properties D.objects self.old self.new (λ other. other ≢ handle) }
     {
         bytes_stay();
         let answer = self.buffers.write(handle, bytes);

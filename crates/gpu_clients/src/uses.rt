@@ -4,7 +4,7 @@ ghost use Rattle.std.specs.Prelude.{◌≡◌, ℕ, ◌≤◌, All, IfOk, OnErr,
 ghost use Rattle.gpu_alloc_types.specs.Properties.{IsUsable, properties_of};
 ghost use Rattle.gpu_alloc.specs.Pages.{SharesNoPage};
 ghost use Rattle.gpu_alloc.specs.Request.{IsAskable};
-ghost use Rattle.gpu_clients.specs.Resources.{WasGiven, FindsBlock, IsAsBefore};
+ghost use Rattle.gpu_clients.specs.Resources.{WasGiven, FindsBlock, IsManagerAsBefore};
 ghost use Rattle.gpu_clients.specs.Staging.{beside};
 
 use crate::frames::FramePlanner;
@@ -58,7 +58,7 @@ pub fn replace<M: MemoryObject, D: ObjectDevice<M>, A: Allocator + Copy>(
 ) -> Result<Handle, AllocationError>
     requires askable { IsAskable ((manager.old.allocator).properties).buffer_device_address request }
     ensures fresh { IfOk result (λ new. WasGiven manager.old new → ⊥) }
-    ensures refused { OnErr result (IsAsBefore manager.old manager.new) }
+    ensures refused { OnErr result (IsManagerAsBefore manager.old manager.new) }
 {
     let new = manager.create(request)?;
     manager.destroy(handle);

@@ -23,7 +23,7 @@ use Rattle.gpu_answers.specs.Held.{HeldState, KeepsNames}
 use Rattle.gpu_answers.proofs.Naming.{fewer_wait, first_wait, names_kept_twice, run_keeps_names}
 use Rattle.gpu_session.specs.Books.{Books}
 use Rattle.gpu_session.specs.Sound as session
-use Rattle.gpu_session.specs.Sound.{IsKept}
+use Rattle.gpu_session.specs.Sound.{IsSessionKept}
 use Rattle.gpu_session.specs.declared.offer.Offer.{Offer}
 use Rattle.gpu_desk.specs.Calls.{HasKey}
 use Rattle.gpu_desk.specs.declared.told.ObjectRange.{ObjectRange}
@@ -46,9 +46,9 @@ same_objects old new offers holds =
 
 -- a desk over it is kept as before
 pub kept_over : {A : Type 0} {s : Books} {o : Offer A} (old new : DeviceState) → new.properties ≡ old.properties → (new.held).objects ≡ (old.held).objects
-    → IsKept old.properties (objects_of old) s o → IsKept new.properties (objects_of new) s o
+    → IsSessionKept old.properties (objects_of old) s o → IsSessionKept new.properties (objects_of new) s o
 kept_over {s = s} {o = o} old new offers holds kept =
-    subst (λ f. IsKept new.properties f s o) (sym (same_objects old new offers holds)) (subst (λ p. IsKept p (objects_of old) s o) (sym offers) kept)
+    subst (λ f. IsSessionKept new.properties f s o) (sym (same_objects old new offers holds)) (subst (λ p. IsSessionKept p (objects_of old) s o) (sym offers) kept)
 
 -- a run that was begun keeps names
 pub begun_keeps_names : (old begun : DeviceState) (es : List Event) (new : DeviceState) → begun.held ≡ old.held → Chain IsStep begun es new
@@ -126,9 +126,9 @@ range_is o p m n same_object same_mapping =
 
 -- a heap's limit is of no account to what a desk keeps
 pub limited_is_kept : {A : Type 0} {p : Properties} {objects : ℕ → Option Object} {s : State} {blocks : map.FinMap nat_cmp Block} {o : Offer A} (heap limit : ℕ)
-    → IsKept p objects (record { allocator = s; blocks = blocks }) o → ((b : Block) → IsOwned s b → IsOwned (with_heap_limit s heap limit) b)
+    → IsSessionKept p objects (record { allocator = s; blocks = blocks }) o → ((b : Block) → IsOwned s b → IsOwned (with_heap_limit s heap limit) b)
     → Agrees (with_heap_limit s heap limit) p objects → allocator.IsSound (with_heap_limit s heap limit)
-    → IsKept p objects (record { allocator = with_heap_limit s heap limit; blocks = blocks }) o
+    → IsSessionKept p objects (record { allocator = with_heap_limit s heap limit; blocks = blocks }) o
 limited_is_kept {p = p} {objects = objects} {s = s} {blocks = blocks} heap limit kept owned agrees sound = record {
   sound = record {
     agrees = agrees;

@@ -8,10 +8,10 @@ use Rattle.gpu_alloc_types.specs.Device.Event.{Allocated, Deallocated, Mapped, U
 use Rattle.gpu_alloc_types.specs.Flags.{has_bit, transient, usage_bits}
 use Rattle.gpu_alloc_base.specs.Case as case
 use Rattle.gpu_alloc_base.specs.Case.{Case}
-use Rattle.gpu_alloc_base.specs.NewChunk.{ChunkQuestion, LacksDeviceMemory, LacksHostMemory, IsGivenBack, made, whole_of}
+use Rattle.gpu_alloc_base.specs.NewChunk.{ChunkQuestion, LacksDeviceMemory, LacksHostMemory, IsLetGo, made, whole_new_object}
 use Rattle.gpu_alloc_base.specs.Sizes.{preferred_threshold, transient_threshold}
 use Rattle.gpu_alloc_usage.proofs.Ranking.Candidates.{candidates-within}
-use Rattle.gpu_alloc.specs.Allocation.{Allocates, AllocatesBy, AllocatesOptimal, IsAloneWhereServed, IsGranted, IsInPages, IsPassed, Plan, Refuses, TriesAll, fits_a_chunk, is_alone, is_small, plan, plan_in_pages, serves_alone, shares_by, strategy, unhinted}
+use Rattle.gpu_alloc.specs.Allocation.{Allocates, AllocatesBy, AllocatesOptimal, IsAloneWhereServed, IsCandidatePassed, IsGranted, IsInPages, Plan, Refuses, TriesAll, fits_a_chunk, is_alone, is_small, plan, plan_in_pages, serves_alone, shares_by, strategy, unhinted}
 use Rattle.gpu_alloc.specs.Candidates.{candidate}
 use Rattle.gpu_alloc.specs.FitSharing.{fits_first}
 use Rattle.gpu_alloc.specs.Request.{in_pages, is_required}
@@ -23,8 +23,8 @@ use Rattle.gpu_alloc_block.specs.declared.sharing.Sharing.TheVariants.{Buddy, Fi
 use Rattle.gpu_alloc.specs.declared.request.Dedicated.{Dedicated}
 use Rattle.gpu_alloc.specs.declared.request.Dedicated.TheVariants.{Required, Preferred}
 use Rattle.gpu_alloc.specs.declared.request.Request.{Request}
-use Rattle.gpu_answers.specs.Asking.{Asks, IsTold, RunState, begun, map_question, open_in}
-use Rattle.gpu_answers.specs.Device.{Answers, IsStep}
+use Rattle.gpu_answers.specs.Asking.{AsksInRun, IsNextAnswer, RunState, begun, map_question, open_in}
+use Rattle.gpu_answers.specs.Device.{AnswersInRun, IsStep}
 use Rattle.gpu_answers.specs.DeviceState.{DeviceState}
 use Rattle.gpu_answers.specs.declared.question.Answer.{Answer}
 use Rattle.gpu_answers.specs.declared.question.Answered.{Answered}
@@ -71,7 +71,7 @@ module _ (P : ℕ → ℕ → Type 0) where
 
   module _ (q : ChunkQuestion) (fits : P q.size q.memory_type) where
     made_such : (object : ℕ) → AllSuch P (made q object)
-    made_such object = (fits, elim q.mapped as (λ b. AllSuch P (cond b (Mapped (whole_of q object) (Ok tt) ∷ []) [])) [ true ↦ (tt, tt) | false ↦ tt ])
+    made_such object = (fits, elim q.mapped as (λ b. AllSuch P (cond b (Mapped (whole_new_object q object) (Ok tt) ∷ []) [])) [ true ↦ (tt, tt) | false ↦ tt ])
 
     device_such : (es : List Event) → LacksDeviceMemory q es → AllSuch P es
     device_such es (inl one) = subst (AllSuch P) (sym one) (fits, tt)
@@ -81,8 +81,8 @@ module _ (P : ℕ → ℕ → Type 0) where
     host_such es (inl one) = subst (AllSuch P) (sym one) (fits, tt)
     host_such es (inr two) = subst (AllSuch P) (sym two.1.1.2) (fits, (tt, (tt, tt)))
 
-    given_back_such : (es : List Event) → IsGivenBack q es → AllSuch P es
-    given_back_such es back = subst (AllSuch P) (sym back.1) (both_such (made q back.0) (Deallocated back.0 ∷ []) (made_such back.0) (tt, tt))
+    let_go_such : (es : List Event) → IsLetGo q es → AllSuch P es
+    let_go_such es back = subst (AllSuch P) (sym back.1) (both_such (made q back.0) (Deallocated back.0 ∷ []) (made_such back.0) (tt, tt))
 
   module _ {B S : Type 0} (c : Case B S) (fits : P c.question.size c.question.memory_type) where
     passed_such : (es : List Event) → case.IsPassed c es → AllSuch P es
@@ -95,7 +95,7 @@ module _ (P : ℕ → ℕ → Type 0) where
     decided_such es (Err TooManyObjects) new d = none_such es d.1
     decided_such es (Err OutOfHostMemory) new (same, inl unasked) = none_such es unasked.0
     decided_such es (Err OutOfHostMemory) new (same, inr (asks, inl lacks)) = host_such c.question fits es lacks
-    decided_such es (Err OutOfHostMemory) new (same, inr (asks, inr given)) = given_back_such c.question fits es given.1
+    decided_such es (Err OutOfHostMemory) new (same, inr (asks, inr given)) = let_go_such c.question fits es given.1
     decided_such es (Err OutOfDeviceMemory) new d = absurd d
     decided_such es (Err NoCompatibleMemoryTypes) new d = absurd d
 
@@ -143,7 +143,7 @@ module _ (s : State) (p : Plan) (Q : ℕ → Type 0) where
       let asks = strategy_asks s (p.asked t).request t (p.asked t).hint in
       subst (IsFor (case_of t).question.size) (sym asks.0) (is, asks.1)
 
-  one_such : (t : ℕ) (es : List Event) → Q t → IsPassed s (p.asked t).request (p.asked t).hint t es → AllSuch IsFor es
+  one_such : (t : ℕ) (es : List Event) → Q t → IsCandidatePassed s (p.asked t).request (p.asked t).hint t es → AllSuch IsFor es
   one_such t es is (inl small) = none_such IsFor es small.1
   one_such t es is (inr served) = passed_such IsFor (case_of t) (fits_case t is) es served.1
 
@@ -194,14 +194,14 @@ not_mapping (Some m) object offset len size t flags is = by (m == object) is
 
 -- why a run stops at a question
 told_stops : (stop : Option Stop) (left : List Answered) (old : RunState) (question : Question) (told : Option Answer) (new : RunState)
-    → stop ≡ old.stop → IsTold stop left old question told new → stop ≡ None
+    → stop ≡ old.stop → IsNextAnswer stop left old question told new → stop ≡ None
     → (new.stop ≡ None) ⊎ ((why : Stop) × (new.stop ≡ Some why) × ((why ≡ Open question) ⊎ (why ≡ Strayed)))
 told_stops (Some why) left old question told new same is none = absurd (cc)
 told_stops None [] old question told new same is none = inr (Open question, ap (λ (r : RunState). r.stop) is.1, inl refl)
 told_stops None (next ∷ rest) old question told new same (inl used) none = inl (ap (λ (r : RunState). r.stop) used.2 ∙ sym same)
 told_stops None (next ∷ rest) old question told new same (inr other) none = inr (Strayed, ap (λ (r : RunState). r.stop) other.2, inr refl)
 
-ask_stops : (old : RunState) (question : Question) (told : Option Answer) (new : RunState) → Asks old question told new → old.stop ≡ None
+ask_stops : (old : RunState) (question : Question) (told : Option Answer) (new : RunState) → AsksInRun old question told new → old.stop ≡ None
     → (new.stop ≡ None) ⊎ ((why : Stop) × (new.stop ≡ Some why) × ((why ≡ Open question) ⊎ (why ≡ Strayed)))
 ask_stops old question told new asks none = told_stops old.stop old.left old question told new refl asks none
 
@@ -213,7 +213,7 @@ module _ (P : ℕ → ℕ → Type 0) (size t flags : ℕ) where
   goes_on : (old new : RunState) → new ≡ old → old.stop ≡ None → Stops new
   goes_on old new same none = inl (ap (λ (r : RunState). r.stop) same ∙ none)
 
-  stops_made : (old : RunState) (a b c : ℕ) (told : Option Answer) (new : RunState) → Asks old (Allocate a b c) told new → old.stop ≡ None → P a b → Stops new
+  stops_made : (old : RunState) (a b c : ℕ) (told : Option Answer) (new : RunState) → AsksInRun old (Allocate a b c) told new → old.stop ≡ None → P a b → Stops new
   stops_made old a b c told new asks none such = elim (ask_stops old (Allocate a b c) told new asks none) [
     | inl on ↦ inl on
     | inr (why, is, inl found) ↦ inr (
@@ -229,7 +229,7 @@ module _ (P : ℕ → ℕ → Type 0) (size t flags : ℕ) where
   ]
 
   stops_mapped : (old : RunState) (made : Option ℕ) (object offset len : ℕ) (told : Option Answer) (new : RunState)
-      → Asks old (map_question made object offset len) told new → old.stop ≡ None → Stops new
+      → AsksInRun old (map_question made object offset len) told new → old.stop ≡ None → Stops new
   stops_mapped old made object offset len told new asks none = elim (ask_stops old (map_question made object offset len) told new asks none) [
     | inl on ↦ inl on
     | inr (why, is, inl found) ↦ inr (
@@ -242,7 +242,7 @@ module _ (P : ℕ → ℕ → Type 0) (size t flags : ℕ) where
     | inr (why, is, inr strayed) ↦ inr (why, is, λ e. absurd (let one : Strayed ≡ Open (Allocate size t flags) = sym strayed ∙ e in cc))
   ]
 
-  step_stops : (old : RunState) (e : Event) (new : RunState) → Answers old e new → old.stop ≡ None → MakesSuch P e → Stops new
+  step_stops : (old : RunState) (e : Event) (new : RunState) → AnswersInRun old e new → old.stop ≡ None → MakesSuch P e → Stops new
   step_stops old (Allocated a b c (Ok name)) new h none such = elim (stops_made old a b c _ h.0 h.1 none such) [
     | inl on ↦ inl (ap (λ (r : RunState). r.stop) h.2 ∙ on)
     | inr (why, is, then) ↦ inr (why, ap (λ (r : RunState). r.stop) h.2 ∙ is, then)

@@ -14,7 +14,7 @@ use Rattle.gpu_alloc_base.proofs.PowersOfTwo.{power_of_bit}
 use Rattle.gpu_alloc.specs.Allocation.{IsInPages}
 use Rattle.gpu_alloc.specs.Owned.{AreTwo, IsSameBlock}
 use Rattle.gpu_alloc.specs.Request.{IsGranularity}
-use Rattle.gpu_alloc.specs.State.{Block, is_shared, span_of, AreApart}
+use Rattle.gpu_alloc.specs.State.{Block, is_shared, span_of, AreSpansApart}
 use Rattle.gpu_desk.specs.Pages.{ArePaged, ShareNoPage}
 use Rattle.gpu_desk.specs.Tags.{tag_at}
 use Rattle.gpu_desk.specs.declared.wish.Tag.{Tag}
@@ -64,7 +64,7 @@ module _ (g : ℕ) (is : IsGranularity g) where
         apart : AreTwo a b
         apart = two key other a b differ at_key at_other
 
-        beside : is_shared a.kind ≡ true → AreApart (span_of a) (span_of b) → ⊥
+        beside : is_shared a.kind ≡ true → AreSpansApart (span_of a) (span_of b) → ⊥
         beside shared (inl others) = others same
         beside shared (inr (inl before)) =
             let pages = paged key a at_key optimal shared in

@@ -15,10 +15,10 @@ use Rattle.gpu_alloc_types.specs.Flags.{usage_bits}
 use Rattle.gpu_alloc_types.specs.declared.types.MemoryType.{MemoryType}
 use Rattle.gpu_alloc_base.specs.Case as case
 use Rattle.gpu_alloc_base.specs.Case.{Case}
-use Rattle.gpu_alloc_base.specs.NewChunk.{ChunkQuestion, LacksDeviceMemory, LacksHostMemory, IsGivenBack, made, whole_of}
+use Rattle.gpu_alloc_base.specs.NewChunk.{ChunkQuestion, LacksDeviceMemory, LacksHostMemory, IsLetGo, made, whole_new_object}
 use Rattle.gpu_alloc_usage.specs.Ranking.{Before, IsRankingWithin, IsRising, candidates, implied, key_of}
 use Rattle.gpu_alloc_usage.proofs.Ranking.Candidates.{candidates_IsRankingWithin}
-use Rattle.gpu_alloc.specs.Allocation.{AllocatesBy, IsPassed, Plan, Refuses, TriesAll, candidates_of, plan, plan_in_pages, strategy}
+use Rattle.gpu_alloc.specs.Allocation.{AllocatesBy, IsCandidatePassed, Plan, Refuses, TriesAll, candidates_of, plan, plan_in_pages, strategy}
 use Rattle.gpu_alloc.specs.Candidates.{candidate}
 use Rattle.gpu_alloc.specs.Request.{is_required}
 use Rattle.gpu_alloc.specs.State.{Block, State}
@@ -85,7 +85,7 @@ none_asks : (n : ℕ) (es : List Event) → es ≡ [] → questions es ≤ n
 none_asks n es none = let asked = ap questions none in omega (arith, asked)
 
 made_asks : (q : ChunkQuestion) (object : ℕ) → questions (made q object) ≤ 2
-made_asks q object = elim q.mapped as (λ b. questions (Allocated q.size q.memory_type q.flags (Ok object) ∷ cond b (Mapped (whole_of q object) (Ok tt) ∷ []) []) ≤ 2) [
+made_asks q object = elim q.mapped as (λ b. questions (Allocated q.size q.memory_type q.flags (Ok object) ∷ cond b (Mapped (whole_new_object q object) (Ok tt) ∷ []) []) ≤ 2) [
   | true ↦ omega arith
   | false ↦ omega arith
 ]
@@ -98,8 +98,8 @@ host_lacks_asks : (q : ChunkQuestion) (es : List Event) → LacksHostMemory q es
 host_lacks_asks q es (inl one) = let asked = ap questions one in omega (arith, asked)
 host_lacks_asks q es (inr two) = let asked = ap questions two.1.1.2 in omega (arith, asked)
 
-given_back_asks : (q : ChunkQuestion) (es : List Event) → IsGivenBack q es → questions es ≤ 2
-given_back_asks q es back =
+let_go_asks : (q : ChunkQuestion) (es : List Event) → IsLetGo q es → questions es ≤ 2
+let_go_asks q es back =
     let asked = ap questions back.1 ∙ questions_append (made q back.0) (Deallocated back.0 ∷ []) in let most = made_asks q back.0 in omega (arith, asked, most)
 
 module _ {B S : Type 0} (c : Case B S) where
@@ -113,14 +113,14 @@ module _ {B S : Type 0} (c : Case B S) where
   decided_asks es (Err TooManyObjects) new d = none_asks 2 es d.1
   decided_asks es (Err OutOfHostMemory) new (same, inl unasked) = none_asks 2 es unasked.0
   decided_asks es (Err OutOfHostMemory) new (same, inr (asks, inl lacks)) = host_lacks_asks c.question es lacks
-  decided_asks es (Err OutOfHostMemory) new (same, inr (asks, inr given)) = given_back_asks c.question es given.1
+  decided_asks es (Err OutOfHostMemory) new (same, inr (asks, inr given)) = let_go_asks c.question es given.1
   decided_asks es (Err OutOfDeviceMemory) new d = absurd d
   decided_asks es (Err NoCompatibleMemoryTypes) new d = absurd d
 
 -- What an allocation asks.
 
 module _ (s : State) (p : Plan) where
-  one_asks : (t : ℕ) (es : List Event) → IsPassed s (p.asked t).request (p.asked t).hint t es → questions es ≤ 2
+  one_asks : (t : ℕ) (es : List Event) → IsCandidatePassed s (p.asked t).request (p.asked t).hint t es → questions es ≤ 2
   one_asks t es (inl small) = none_asks 2 es small.1
   one_asks t es (inr served) = passed_asks (candidate (strategy s (p.asked t).request (p.asked t).hint t) s (p.asked t).request t) es served.1
 

@@ -11,8 +11,8 @@ use Rattle.gpu_alloc.specs.Budget.{heap_budget, heap_bytes, with_heap_limit}
 use Rattle.gpu_alloc.specs.HeldOnly.{AllocatesHeld}
 use Rattle.gpu_alloc.specs.Importing.{imported_block}
 use Rattle.gpu_alloc.specs.Mapped.{AsksToMap, mapping_of, unmapping}
-use Rattle.gpu_alloc.specs.Ranges.{rounded}
-use Rattle.gpu_alloc.specs.Release.{Cleans, Frees, GoesBack}
+use Rattle.gpu_alloc.specs.Ranges.{rounded_range}
+use Rattle.gpu_alloc.specs.Release.{Cleans, Frees, LetsObjectsGo}
 use Rattle.gpu_alloc.specs.State.{Block, heap_limit, is_shared, ledger, total}
 use Rattle.gpu_alloc.specs.Types.AllocationError.{AllocationError}
 use Rattle.gpu_alloc.specs.Types.Kind.TheVariants.{Dedicated as DedicatedObject}
@@ -30,7 +30,7 @@ use Rattle.gpu_answers.specs.declared.question.Question.{Question}
 use Rattle.gpu_answers.specs.declared.run.Stop.{Stop}
 use Rattle.gpu_answers.specs.declared.run.Stop.TheVariants as Stopped
 use Rattle.gpu_session.specs.Faults.{fault_of_block, fault_of_import, fault_of_range, fault_of_request, where_true}
-use Rattle.gpu_session.specs.Sound.{HoldsNothing, KeepsGiven}
+use Rattle.gpu_session.specs.Sound.{HoldsNothingAfter, KeepsGiven}
 use Rattle.gpu_session.specs.declared.command.Fault.{Fault as FaultCode}
 use Rattle.gpu_session.specs.declared.command.Fault.TheVariants.{BadSize, NoMemory, UnknownName}
 use Rattle.gpu_slots.specs.SlotMap.{IsGiven, IsGone, SlotState, StaysGone}
@@ -55,7 +55,7 @@ KeepsTags old new =
 
 -- What was given to the allocator and the desk stays, and so do each heap's limit and the total of objects. Freed keys
 -- stay invalid, past names stay past, and each block that stays live keeps its tag.
-pub record Keeps (old new : DeskState) : Type 0 where
+pub record KeepsDesk (old new : DeskState) : Type 0 where
   pub given : KeepsGiven old.allocator new.allocator
   pub limits : new.allocator.heap_limits ≡ old.allocator.heap_limits
   pub total : total new.allocator ≡ total old.allocator
@@ -205,8 +205,8 @@ abbrev pub IsUnknown : DeskState → ℕ → Denial → Type 0
 IsUnknown s key d = (d ≡ Fault UnknownName) × (map.get s.blocks.live key ≡ None)
 
 -- Objects are released, and their names are to be read after those of before.
-pub record LetsGo (old new : DeskState) : Type 0 where
-  pub back : GoesBack IsStep objects_of old.allocator old.device new.allocator new.device
+pub record LetsNamesGo (old new : DeskState) : Type 0 where
+  pub back : LetsObjectsGo IsStep objects_of old.allocator old.device new.allocator new.device
   pub names : new.device.held.gone ≡ old.device.held.gone ++ back.gone
 
 -- A block is freed as the allocator frees it, and its key is invalid from then on.
@@ -214,17 +214,17 @@ pub record Returns (old : DeskState) (key : ℕ) (new : DeskState) : Type 0 wher
   pub block : Block
   pub at : map.get old.blocks.live key ≡ Some block
   pub freed : (es : List Event) × Chain IsStep old.device es new.device × Frees old.allocator block es new.allocator
-  pub goes : LetsGo old new
+  pub goes : LetsNamesGo old new
   pub live : new.blocks.live ≡ map.remove old.blocks.live key
   pub refused : IsGone new.blocks key
 
 -- Each object that no block needs is released. Where no block is live, none is held then.
 pub record CleansUp (old new : DeskState) : Type 0 where
   pub cleaned : (es : List Event) × Chain IsStep old.device es new.device × Cleans old.allocator es new.allocator
-  pub goes : LetsGo old new
+  pub goes : LetsNamesGo old new
   pub blocks : new.blocks ≡ old.blocks
   pub tags : new.tags ≡ old.tags
-  pub rest : old.blocks.live ≡ map.empty → HoldsNothing old.allocator new.allocator
+  pub rest : old.blocks.live ≡ map.empty → HoldsNothingAfter old.allocator new.allocator
 
 -- Blocks and where they lie.
 
@@ -288,7 +288,7 @@ pub record Unmaps (old : DeskState) (key : ℕ) (new : DeskState) (object : Opti
 -- the rounded range of some bytes, which is empty where no flush is needed
 abbrev pub range_told : Block → (offset size : ℕ) → ObjectRange
 range_told b offset size =
-    let r = rounded b offset size in
+    let r = rounded_range b offset size in
     record {
       object = b.object;
       offset = r.offset;

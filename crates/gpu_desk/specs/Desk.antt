@@ -57,8 +57,8 @@ objects s = objects_of s.device
 -- (nor an object where one of them has its own). Nothing else is live, and allocator and device agree. No held object
 -- has a name that waits to be read, and each such name waits once. Blocks for optimal resources share no page with
 -- linear ones.
-pub record IsSound (s : DeskState) : Type 0 where
-  pub memory : session.IsSound s.device.properties (objects s) (books s)
+pub record IsSoundDesk (s : DeskState) : Type 0 where
+  pub memory : session.IsSoundSession s.device.properties (objects s) (books s)
   pub names : AreNamed s.device.held
   pub pages : ShareNoPage s.blocks.live s.tags s.granularity
 
@@ -81,7 +81,7 @@ page_of granularity = cond (granularity == 0) 1 granularity
 
 -- The invariants of a desk's fields: those of a session, a place for each key, and a tag for each place.
 pub record IsDesk {A : Type 0} (o : Offer A) (s : DeskState) : Type 0 where
-  pub kept : session.IsKept s.device.properties (objects s) (books s) o
+  pub kept : session.IsSessionKept s.device.properties (objects s) (books s) o
   pub tagged : length s.tags ≡ length s.blocks.generations
   pub page : IsGranularity s.granularity
   pub paged : ArePaged s.blocks.live s.tags s.granularity

@@ -6,7 +6,7 @@ ghost use Rattle.gpu_alloc_types.specs.Properties.{IsUsable, properties_of};
 ghost use Rattle.gpu_alloc.specs.Opening.{opened, opened_by};
 ghost use Rattle.gpu_alloc.specs.Request.{IsGranularity};
 ghost use Rattle.gpu_slots.specs.SlotMap as slots;
-ghost use Rattle.gpu_desk.specs.Desk.{IsEmpty, IsSound, page_of};
+ghost use Rattle.gpu_desk.specs.Desk.{IsEmpty, IsSoundDesk, page_of};
 
 mod counting;
 mod granting;
@@ -156,7 +156,7 @@ impl Desk {
     /// A lemma about every desk, whatever calls were made: does nothing at run time. Live blocks share no memory. No
     /// held object has a name that waits to be read, and each such name waits once.
     pub fn keeps_sound(&self)
-        ensures { IsSound self.now }
+        ensures { IsSoundDesk self.now }
     {
         self.device.keeps_names();
     }

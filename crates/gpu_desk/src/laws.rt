@@ -3,8 +3,8 @@
 ghost use Rattle.std.specs.Prelude.{ℕ, List, All};
 ghost use Rattle.gpu_alloc.specs.Request.{IsGranularity};
 ghost use Rattle.gpu_session.specs.Sound as session;
-ghost use Rattle.gpu_desk.specs.Desk.{DeskState, IsSound, books, objects};
-ghost use Rattle.gpu_desk.specs.Names.{IsPast, IsSpent, MakesEver, NamesNothing, Waits};
+ghost use Rattle.gpu_desk.specs.Desk.{DeskState, IsSoundDesk, books, objects};
+ghost use Rattle.gpu_desk.specs.Names.{IsPastName, IsSpentName, MakesEver, NamesNothing, Waits};
 ghost use Rattle.gpu_desk.specs.Pages.{ArePaged, ShareNoPage};
 ghost use Rattle.gpu_desk.specs.Walk.{ComesOnce, IsLiveKey, NeverComes, WalksAll};
 
@@ -14,9 +14,9 @@ ghost use Rattle.gpu_desk.specs.Walk.{ComesOnce, IsLiveKey, NeverComes, WalksAll
 ///
 /// [`Desk::next_gone`]: crate::Desk::next_gone
 pub fn no_name_comes_twice()
-    ensures waiting { (s : DeskState) → IsSound s → (name : ℕ) → Waits s name → IsPast s name }
-    ensures nothing { MakesEver IsPast NamesNothing }
-    ensures once { MakesEver IsSpent (λ s name. Waits s name → ⊥) }
+    ensures waiting { (s : DeskState) → IsSoundDesk s → (name : ℕ) → Waits s name → IsPastName s name }
+    ensures nothing { MakesEver IsPastName NamesNothing }
+    ensures once { MakesEver IsSpentName (λ s name. Waits s name → ⊥) }
 {}
 
 /// A whole walk by [`Desk::block_after`] meets each block that lives all along exactly once, and no block that is live
@@ -36,6 +36,6 @@ pub fn a_walk_meets_each_block_once()
 /// or begins at a page and has whole pages for the requested bytes. Every desk keeps this so
 /// ([`Desk::keeps_sound`](crate::Desk::keeps_sound)).
 pub fn whole_pages_are_not_shared()
-    ensures { (s : DeskState) → session.IsSound s.device.properties (objects s) (books s) → IsGranularity s.granularity
+    ensures { (s : DeskState) → session.IsSoundSession s.device.properties (objects s) (books s) → IsGranularity s.granularity
         → ArePaged s.blocks.live s.tags s.granularity → ShareNoPage s.blocks.live s.tags s.granularity }
 {}

@@ -21,8 +21,8 @@ use Rattle.gpu_alloc_block.specs.declared.block.Kind.TheVariants.{Dedicated, Imp
 use Rattle.gpu_alloc.specs.FreeRanges.{HasByte, IsFreeOf, IsFreeRangeOf}
 use Rattle.gpu_alloc.specs.Sound.{IsSound, LiesIn}
 use Rattle.gpu_alloc.specs.State.{HeldObject, Span, State, IsLive, is_shared}
-use Rattle.gpu_report.specs.Free.{AreFree}
-use Rattle.gpu_report.specs.Live.{span_told, AreLive}
+use Rattle.gpu_report.specs.Free.{AreFreeRanges}
+use Rattle.gpu_report.specs.Live.{live_block_span, AreLive}
 use Rattle.gpu_report.specs.Places.{block_place, free_place, places_in, ArePlaces, Tile}
 use Rattle.gpu_report.specs.declared.live.LiveBlock.{LiveBlock}
 use Rattle.gpu_report.specs.declared.report.Place.{Place}
@@ -41,7 +41,7 @@ lies_within FitChunk counted span shared lies = lies
 pub record IsKnownOf (s : State) (object : ℕ) (h : HeldObject) (live : List LiveBlock) (free : List FreeRange) : Type 0 where
   pub sound : IsSound s
   pub are_live : AreLive s live
-  pub are_free : AreFree s h.memory_type free
+  pub are_free : AreFreeRanges s h.memory_type free
   pub held : finite.get s.held object ≡ Some h
   pub shared : is_shared h.kind ≡ true
 
@@ -61,16 +61,16 @@ module _ (s : State) (object : ℕ) (h : HeldObject) (live : List LiveBlock) (fr
     has : Contains live b
     of : b.object ≡ object
 
-  is_live : (b : LiveBlock) → IsBlock b → IsLive s (span_told b)
-  is_live b is = live_listed s (map span_told live) k.are_live.exact (span_told b) (contains_name span_told live b is.has)
+  is_live : (b : LiveBlock) → IsBlock b → IsLive s (live_block_span b)
+  is_live b is = live_listed s (map live_block_span live) k.are_live.exact (live_block_span b) (contains_name live_block_span live b is.has)
 
   block_lies : (b : LiveBlock) → IsBlock b → LiesBetween 0 h.counted (block_place b)
   block_lies b is =
-      let there = k.sound.inside (span_told b) (is_live b is) in
+      let there = k.sound.inside (live_block_span b) (is_live b is) in
       let same : there.0 ≡ h = one_value _ there.0 h (subst (λ o. finite.get s.held o ≡ Some there.0) is.of there.1) k.held in
-      let lies = subst (λ (x : HeldObject). LiesIn x.kind x.counted (span_told b)) same there.2 in
-      let inside = lies_within h.kind h.counted (span_told b) k.shared lies in
-      record { from = omega arith; some = k.sound.nonempty (span_told b) (is_live b is); to = inside }
+      let lies = subst (λ (x : HeldObject). LiesIn x.kind x.counted (live_block_span b)) same there.2 in
+      let inside = lies_within h.kind h.counted (live_block_span b) k.shared lies in
+      record { from = omega arith; some = k.sound.nonempty (live_block_span b) (is_live b is); to = inside }
 
   -- A free range of the object.
   record IsRange (r : FreeRange) : Type 0 where
@@ -94,7 +94,7 @@ module _ (s : State) (object : ℕ) (h : HeldObject) (live : List LiveBlock) (fr
 
   -- no byte is both
   not_both : (b : LiveBlock) (r : FreeRange) → IsBlock b → IsRange r → (x : ℕ) → b.offset ≤ x → x < b.offset + b.size → r.start ≤ x → x < r.end → ⊥
-  not_both b r block range x low high from to = (free_at r range x from to).free.unused (span_told b) (is_live b block) block.of (record { from = low; to = high })
+  not_both b r block range x low high from to = (free_at r range x from to).free.unused (live_block_span b) (is_live b block) block.of (record { from = low; to = high })
 
   -- A place is a block's or a range's.
   record OfBlock (p : Place) : Type 0 where
@@ -147,9 +147,9 @@ module _ (s : State) (object : ℕ) (h : HeldObject) (live : List LiveBlock) (fr
   blocks_apart : (b c : LiveBlock) → IsBlock b → IsBlock c → AreApart (block_place b) (block_place c)
   unfolding AreApart
   blocks_apart b c in_b in_c lt =
-      let other : span_told b ≢ span_told c = λ same. (let offset : b.offset ≡ c.offset = ap (λ (x : Span). x.offset) same in omega (arith, offset, lt)) in
-      let some = k.sound.nonempty (span_told c) (is_live c in_c) in
-      elim (k.sound.apart (span_told b) (span_told c) (is_live b in_b) (is_live c in_c) other) [
+      let other : live_block_span b ≢ live_block_span c = λ same. (let offset : b.offset ≡ c.offset = ap (λ (x : Span). x.offset) same in omega (arith, offset, lt)) in
+      let some = k.sound.nonempty (live_block_span c) (is_live c in_c) in
+      elim (k.sound.apart (live_block_span b) (live_block_span c) (is_live b in_b) (is_live c in_c) other) [
         | inl objects ↦ absurd (objects (in_b.of ∙ sym in_c.of))
         | inr ends ↦ elim ends [ inl before ↦ before | inr after ↦ absurd (omega (arith, after, some, lt)) ]
       ]
@@ -164,7 +164,7 @@ module _ (s : State) (object : ℕ) (h : HeldObject) (live : List LiveBlock) (fr
   range_block : (r : FreeRange) (b : LiveBlock) → IsRange r → IsBlock b → AreApart (free_place r) (block_place b)
   unfolding AreApart
   range_block r b range block lt =
-      let some = k.sound.nonempty (span_told b) (is_live b block) in
+      let some = k.sound.nonempty (live_block_span b) (is_live b block) in
       let nonempty = law.nonempty r (is_free r range) in
       elim (cases_lt b.offset r.end) [
         | inl inside ↦ absurd (not_both b r block range b.offset (omega arith) (omega (arith, some)) (omega arith) inside)
@@ -219,7 +219,7 @@ module _ (s : State) (object : ℕ) (h : HeldObject) (live : List LiveBlock) (fr
       of_kind = refl;
       inside = inside;
       unused = λ span is_live is lies.
-          let listed = from_mapped span_told live span (listed_live s (map span_told live) k.are_live.exact span is_live) in
+          let listed = from_mapped live_block_span live span (listed_live s (map live_block_span live) k.are_live.exact span is_live) in
           let no = none listed.0 listed.1 in
           let yes = subst (λ (z : Span). z.object ≡ object → IsIn z.offset z.size x → has_byte x listed.0 ≡ true) listed.2 (covers_it x listed.0) is lies in
           absurd (cc);
@@ -242,9 +242,9 @@ module _ (s : State) (object : ℕ) (h : HeldObject) (live : List LiveBlock) (fr
 
   blocks_start_apart : (b c : LiveBlock) → IsBlock b → IsBlock c → same_span b c ≡ false → same_offset (block_place b) (block_place c) ≡ false
   blocks_start_apart b c in_b in_c other = starts_differ (block_place b) (block_place c) (λ same.
-      let some = k.sound.nonempty (span_told b) (is_live b in_b) in
-      let more = k.sound.nonempty (span_told c) (is_live c in_c) in
-      elim (k.sound.apart (span_told b) (span_told c) (is_live b in_b) (is_live c in_c) (span_other b c other)) [
+      let some = k.sound.nonempty (live_block_span b) (is_live b in_b) in
+      let more = k.sound.nonempty (live_block_span c) (is_live c in_c) in
+      elim (k.sound.apart (live_block_span b) (live_block_span c) (is_live b in_b) (is_live c in_c) (span_other b c other)) [
         | inl objects ↦ objects (in_b.of ∙ sym in_c.of)
         | inr ends ↦ elim ends [ inl before ↦ omega (arith, before, some, same) | inr after ↦ omega (arith, after, more, same) ]
       ])
@@ -257,7 +257,7 @@ module _ (s : State) (object : ℕ) (h : HeldObject) (live : List LiveBlock) (fr
   both_start_apart p q b r = starts_differ p q (λ same.
       let at_p : b.block.offset ≡ p.offset = ap (λ (z : Place). z.offset) b.place in
       let at_q : r.range.start ≡ q.offset = ap (λ (z : Place). z.offset) r.place in
-      let some = k.sound.nonempty (span_told b.block) (is_live b.block b.is) in
+      let some = k.sound.nonempty (live_block_span b.block) (is_live b.block b.is) in
       let nonempty = law.nonempty r.range (is_free r.range r.is) in
       not_both b.block r.range b.is r.is b.block.offset (omega arith) (omega (arith, some)) (omega (arith, at_p, at_q, same)) (omega (arith, at_p, at_q, same, nonempty)))
 

@@ -5,21 +5,21 @@ use Rattle.std.proofs.lemmas.List.{append-nil, take_more}
 use Rattle.std.proofs.lemmas.Grind.{flat_map-append}
 use Rattle.std.specs.List.{flat_map}
 use Rattle.gpu_report.specs.Text.{lead, rows}
-use Rattle.gpu_report.specs.Writing.{over, IsWritten, GoesOn}
+use Rattle.gpu_report.specs.Writing.{written_over, IsTextWritten, GoesOn}
 
-over_more : (text old : List ℕ) (b : ℕ) → length text < length old → over (text ++ b ∷ []) old ≡ set (over text old) (length text) b
+over_more : (text old : List ℕ) (b : ℕ) → length text < length old → written_over (text ++ b ∷ []) old ≡ set (written_over text old) (length text) b
 over_more [] [] b lt = absurd (omega (arith, lt))
 over_more [] (x ∷ old) b lt = refl
 over_more (t ∷ text) [] b lt = absurd (omega (arith, lt))
 over_more (t ∷ text) (x ∷ old) b lt = ap (λ xs. t ∷ xs) (over_more text old b (omega (arith, lt)))
 
-over_full : (text old : List ℕ) (b : ℕ) → length old ≤ length text → over (text ++ b ∷ []) old ≡ over text old
+over_full : (text old : List ℕ) (b : ℕ) → length old ≤ length text → written_over (text ++ b ∷ []) old ≡ written_over text old
 over_full [] [] b le = refl
 over_full [] (x ∷ old) b le = absurd (omega (arith, le))
 over_full (t ∷ text) [] b le = refl
 over_full (t ∷ text) (x ∷ old) b le = ap (λ xs. t ∷ xs) (over_full text old b (omega (arith, le)))
 
-length-over : (text old : List ℕ) → length (over text old) ≡ length old
+length-over : (text old : List ℕ) → length (written_over text old) ≡ length old
 length-over [] old = refl
 length-over (t ∷ text) [] = refl
 length-over (t ∷ text) (x ∷ old) = ap suc (length-over text old)
@@ -27,15 +27,15 @@ length-over (t ∷ text) (x ∷ old) = ap suc (length-over text old)
 -- one text behind another
 pub goes_on : {a b c xs ys : List ℕ} {i j k : ℕ} → GoesOn a i xs b j → GoesOn b j ys c k → GoesOn a i (xs ++ ys) c k
 goes_on {a} {b} {c} {xs} {ys} {i} {j} {k} first second = record {
-  on = λ text before is. subst (λ t. IsWritten t before c k) (append_assoc text xs ys) (second.on (text ++ xs) before (first.on text before is));
+  on = λ text before is. subst (λ t. IsTextWritten t before c k) (append_assoc text xs ys) (second.on (text ++ xs) before (first.on text before is));
 }
 
 -- nothing more
 pub stays : (a : List ℕ) (i : ℕ) → GoesOn a i [] a i
-stays a i = record { on = λ text before is. subst (λ t. IsWritten t before a i) (sym (append-nil text)) is }
+stays a i = record { on = λ text before is. subst (λ t. IsTextWritten t before a i) (sym (append-nil text)) is }
 
 -- the whole text, from the start on
-pub written : {old text new : List ℕ} {end : ℕ} → GoesOn old 0 text new end → IsWritten text old new end
+pub written : {old text new : List ℕ} {end : ℕ} → GoesOn old 0 text new end → IsTextWritten text old new end
 written {old} goes = goes.on [] old (record { bytes = refl; length = refl })
 
 -- a byte for which there is room
@@ -45,7 +45,7 @@ byte_fits a i b lt few = record {
       let long : length a ≡ length before = ap length is.bytes ∙ length-over text before in
       let at : i ≡ length text = omega (arith, is.length, long) in
       record {
-        bytes = ap (λ xs. set xs i b) is.bytes ∙ ap (λ n. set (over text before) n b) at ∙ sym (over_more text before b (omega (arith, at, long)));
+        bytes = ap (λ xs. set xs i b) is.bytes ∙ ap (λ n. set (written_over text before) n b) at ∙ sym (over_more text before b (omega (arith, at, long)));
         length = omega (arith, at, length-append text (b ∷ []));
       };
 }

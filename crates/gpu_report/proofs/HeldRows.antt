@@ -20,7 +20,7 @@ use Rattle.std.specs.FinMap.{nat_cmp-IsAntisymmetric}
 use Rattle.gpu_alloc_block.specs.declared.block.Kind.TheVariants.{Dedicated}
 use Rattle.gpu_alloc_base.proofs.ListViews.{contains_name}
 use Rattle.gpu_alloc_base.proofs.Names.{get_entries}
-use Rattle.gpu_alloc.specs.Spans.{entry_of, held_of, objects_in}
+use Rattle.gpu_alloc.specs.Spans.{held_entry_of, held_objects_in, held_of}
 use Rattle.gpu_alloc.specs.State.{HeldObject, State}
 use Rattle.gpu_alloc.specs.declared.spans.HeldRow.{HeldRow}
 use Rattle.gpu_report.proofs.Members.{from_mapped}
@@ -29,12 +29,12 @@ use Rattle.gpu_report.specs.declared.part.Part.{Part}
 
 -- one row more
 pub held_more : (p : Part) (rows : List (ℕ × HeldRow)) (i : ℕ) (d : ℕ × HeldRow) → i < length rows
-    → held_as (map entry_of (take (i + 1) rows)) p
-    ≡ held_as (map entry_of (take i rows)) p ++ cond (is_of p (held_of (get_or rows i d).1)) (entry_of (get_or rows i d) ∷ []) []
+    → held_as (map held_entry_of (take (i + 1) rows)) p
+    ≡ held_as (map held_entry_of (take i rows)) p ++ cond (is_of p (held_of (get_or rows i d).1)) (held_entry_of (get_or rows i d) ∷ []) []
 held_more p rows i d lt =
-    ap (λ (xs : List (ℕ × HeldRow)). held_as (map entry_of xs) p) (take_more rows i d lt)
-    ∙ ap (λ (xs : List (ℕ × HeldObject)). held_as xs p) (map-append entry_of (take i rows) (get_or rows i d ∷ []))
-    ∙ filter-append (λ e. is_of p e.1) (map entry_of (take i rows)) (entry_of (get_or rows i d) ∷ [])
+    ap (λ (xs : List (ℕ × HeldRow)). held_as (map held_entry_of xs) p) (take_more rows i d lt)
+    ∙ ap (λ (xs : List (ℕ × HeldObject)). held_as xs p) (map-append held_entry_of (take i rows) (get_or rows i d ∷ []))
+    ∙ filter-append (λ e. is_of p e.1) (map held_entry_of (take i rows)) (held_entry_of (get_or rows i d) ∷ [])
 
 -- What is found by name, whatever the order of the rows.
 
@@ -66,13 +66,13 @@ module _ {X : Type 0} (es fs : List (ℕ × X)) (perm : IsPermutation es fs) (on
   same_map = finite.same_map nat_cmp_total nat_cmp-IsAntisymmetric _ _ (λ q. get_entries es q ∙ same_found q ∙ sym (get_entries fs q))
 
 -- the rows of the held objects, sorted by name
-pub held_sorted : (s : State) (old new : List (ℕ × HeldRow)) → objects_in old ≡ s.held → IsDistinct nat_eq (keys_of old) → IsPermutation old new → IsNonDecreasingBy (λ e. e.0) new → AreHeld s (map entry_of new)
+pub held_sorted : (s : State) (old new : List (ℕ × HeldRow)) → held_objects_in old ≡ s.held → IsDistinct nat_eq (keys_of old) → IsPermutation old new → IsNonDecreasingBy (λ e. e.0) new → AreHeld s (map held_entry_of new)
 held_sorted s old new exact once perm sorted =
-    let both = IsPermutation-map entry_of old new perm in
+    let both = IsPermutation-map held_entry_of old new perm in
     let apart = subst (IsDistinct nat_eq) (sym (keys_of-map_values held_of old)) once in
     record {
-      exact = sym (same_map (map entry_of old) (map entry_of new) both apart) ∙ exact;
-      once = still_once (map entry_of old) (map entry_of new) both apart;
+      exact = sym (same_map (map held_entry_of old) (map held_entry_of new) both apart) ∙ exact;
+      once = still_once (map held_entry_of old) (map held_entry_of new) both apart;
       rising = subst IsNonDecreasing (sym (keys_of-map_values held_of new)) (rises new sorted);
     }
   where
@@ -104,17 +104,17 @@ module _ (rows : List (ℕ × HeldRow)) (object : ℕ) where
   abbrev pub beside : ℕ × HeldRow → Ordering
   beside e = nat_cmp e.0 object
 
-  pub found_row : (i : ℕ) (d : ℕ × HeldRow) → IsDistinct nat_eq (keys_of (map entry_of rows)) → i < length rows → HoldsAt (λ e. beside e ≡ Equal) rows i
-      → Some (held_of (get_or rows i d).1) ≡ lookup (nat_eq object) (map entry_of rows)
+  pub found_row : (i : ℕ) (d : ℕ × HeldRow) → IsDistinct nat_eq (keys_of (map held_entry_of rows)) → i < length rows → HoldsAt (λ e. beside e ≡ Equal) rows i
+      → Some (held_of (get_or rows i d).1) ≡ lookup (nat_eq object) (map held_entry_of rows)
   found_row i d once lt at =
       let e = get_or rows i d in
       let name : e.0 ≡ object = nat_cmp-IsAntisymmetric e.0 object (at d) in
-      let has = contains_name entry_of rows e (Contains-get_or rows i d lt) in
-      sym (ap (λ n. lookup (nat_eq n) (map entry_of rows)) (sym name) ∙ lookup-from_Contains nat_eq_equiv e.0 (held_of e.1) (map entry_of rows) once has)
+      let has = contains_name held_entry_of rows e (Contains-get_or rows i d lt) in
+      sym (ap (λ n. lookup (nat_eq n) (map held_entry_of rows)) (sym name) ∙ lookup-from_Contains nat_eq_equiv e.0 (held_of e.1) (map held_entry_of rows) once has)
 
-  rises : IsNonDecreasing (keys_of (map entry_of rows)) → IsNonDecreasingBy (λ e. ordering_index (beside e)) rows
+  rises : IsNonDecreasing (keys_of (map held_entry_of rows)) → IsNonDecreasingBy (λ e. ordering_index (beside e)) rows
   rises up i j d le lt =
-      let keys : keys_of (map entry_of rows) ≡ map (λ e. e.0) rows = keys_of-map_values held_of rows in
+      let keys : keys_of (map held_entry_of rows) ≡ map (λ e. e.0) rows = keys_of-map_values held_of rows in
       let at_i = get_or-map (λ (e : ℕ × HeldRow). e.0) rows i d 0 (omega (arith, le, lt)) in
       let at_j = get_or-map (λ (e : ℕ × HeldRow). e.0) rows j d 0 lt in
       let h = subst IsNonDecreasing keys up i j 0 le (omega (arith, lt, length-map rows (λ (e : ℕ × HeldRow). e.0))) in
@@ -123,14 +123,14 @@ module _ (rows : List (ℕ × HeldRow)) (object : ℕ) where
       later : (a b : ℕ) → a ≤ b → ordering_index (nat_cmp a object) ≤ ordering_index (nat_cmp b object)
       later a b at_most = grind (arith, nat_tests, at_most)
 
-  pub missed_row : (i : ℕ) → IsNonDecreasing (keys_of (map entry_of rows)) → (IsNonDecreasingBy (λ e. ordering_index (beside e)) rows → IsPartitionPoint (λ e. beside e ≡ Less) (λ e. beside e ≡ Greater) rows i)
-      → None ≡ lookup (nat_eq object) (map entry_of rows)
-  missed_row i up clause = sym (none (lookup (nat_eq object) (map entry_of rows)) refl)
+  pub missed_row : (i : ℕ) → IsNonDecreasing (keys_of (map held_entry_of rows)) → (IsNonDecreasingBy (λ e. ordering_index (beside e)) rows → IsPartitionPoint (λ e. beside e ≡ Less) (λ e. beside e ≡ Greater) rows i)
+      → None ≡ lookup (nat_eq object) (map held_entry_of rows)
+  missed_row i up clause = sym (none (lookup (nat_eq object) (map held_entry_of rows)) refl)
     where
-      none : (o : Option HeldObject) → lookup (nat_eq object) (map entry_of rows) ≡ o → lookup (nat_eq object) (map entry_of rows) ≡ None
+      none : (o : Option HeldObject) → lookup (nat_eq object) (map held_entry_of rows) ≡ o → lookup (nat_eq object) (map held_entry_of rows) ≡ None
       none None is = is
       none (Some h) is =
-          let e = from_mapped entry_of rows (object, h) (Contains-from_lookup same_number object h (map entry_of rows) is) in
+          let e = from_mapped held_entry_of rows (object, h) (Contains-from_lookup same_number object h (map held_entry_of rows) is) in
           let k : ℕ = e.1.0 in
           let at : get_or rows k e.0 ≡ e.0 = e.1.2 in
           let equal : beside (get_or rows k e.0) ≡ Equal = ap (λ (x : ℕ × HeldRow). beside x) at ∙ ap (λ (x : ℕ × HeldObject). nat_cmp x.0 object) e.2 ∙ tied_itself nat_cmp_total object in

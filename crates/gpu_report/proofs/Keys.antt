@@ -9,12 +9,12 @@ use Rattle.gpu_alloc.specs.State.{Block}
 use Rattle.gpu_alloc_base.proofs.Lists.{contains_cases, contains_none, contains_head, contains_later}
 use Rattle.gpu_alloc_base.proofs.ListViews.{contains_name}
 use Rattle.gpu_slots.specs.SlotMap.{place_of}
-use Rattle.gpu_desk.specs.Desk.{DeskState, IsSound}
+use Rattle.gpu_desk.specs.Desk.{DeskState, IsSoundDesk}
 use Rattle.gpu_desk.specs.Calls.{Told}
 use Rattle.gpu_desk.specs.declared.told.Grant.{Grant}
 use Rattle.gpu_desk.specs.Walk.{behind, IsNext, IsLast}
 use Rattle.gpu_report.specs.DeskReport.{IsKeyed, AreKeyed}
-use Rattle.gpu_report.specs.Live.{span_told, LacksSpan}
+use Rattle.gpu_report.specs.Live.{live_block_span, LacksSpan}
 use Rattle.gpu_report.specs.declared.live.LiveBlock.{LiveBlock}
 
 -- a block as it is listed
@@ -107,8 +107,8 @@ all_keyed s blocks after live last lists b = (
 )
 
 -- and each live span is one's
-pub none_lacks : (s : DeskState) (blocks : List LiveBlock) → AreKeyed s blocks → IsSound s → LacksSpan s.allocator blocks → ⊥
+pub none_lacks : (s : DeskState) (blocks : List LiveBlock) → AreKeyed s blocks → IsSoundDesk s → LacksSpan s.allocator blocks → ⊥
 none_lacks s blocks keyed sound lacks =
     let found = sound.memory.named lacks.span lacks.live in
     let b : LiveBlock = record { name = found.0; object = lacks.span.object; offset = lacks.span.offset; size = lacks.span.size } in
-    lacks.lacks (contains_name span_told blocks b ((keyed b).1 found.1))
+    lacks.lacks (contains_name live_block_span blocks b ((keyed b).1 found.1))

@@ -8,9 +8,9 @@ use Rattle.gpu_alloc_base.proofs.Lists.{contains_cases, contains_none, contains_
 use Rattle.gpu_alloc_base.proofs.ListViews.{contains_name}
 use Rattle.gpu_session.specs.Books.{Books, OfBlock}
 use Rattle.gpu_session.specs.Listing.{IsNamed}
-use Rattle.gpu_session.specs.Sound.{IsSound}
+use Rattle.gpu_session.specs.Sound.{IsSoundSession}
 use Rattle.gpu_session.specs.declared.session.listing.NamedSpan.{NamedSpan}
-use Rattle.gpu_report.specs.Live.{span_told, LacksSpan}
+use Rattle.gpu_report.specs.Live.{live_block_span, LacksSpan}
 use Rattle.gpu_report.specs.Session.{block_of}
 use Rattle.gpu_report.specs.declared.live.LiveBlock.{LiveBlock}
 
@@ -23,15 +23,15 @@ from_row (x ∷ xs) b has = elim (contains_cases (block_of x) b (map block_of xs
 
 module _ (s : Books) (rows : List NamedSpan) (exact : (row : NamedSpan) → Contains rows row ↔ IsNamed s row) where
   -- each has the name of a block
-  pub rows_named : (b : LiveBlock) → Contains (map block_of rows) b → OfBlock s b.name (λ x. span_of x ≡ span_told b)
+  pub rows_named : (b : LiveBlock) → Contains (map block_of rows) b → OfBlock s b.name (λ x. span_of x ≡ live_block_span b)
   rows_named b has =
       let found = from_row rows b has in
-      subst (λ (y : LiveBlock). OfBlock s y.name (λ x. span_of x ≡ span_told y)) found.2 ((exact found.0).0 found.1)
+      subst (λ (y : LiveBlock). OfBlock s y.name (λ x. span_of x ≡ live_block_span y)) found.2 ((exact found.0).0 found.1)
 
   -- and each live span is one's
-  pub none_lacks : (p : Properties) (objects : ℕ → Option Object) → IsSound p objects s → LacksSpan s.allocator (map block_of rows) → ⊥
+  pub none_lacks : (p : Properties) (objects : ℕ → Option Object) → IsSoundSession p objects s → LacksSpan s.allocator (map block_of rows) → ⊥
   none_lacks p objects sound lacks =
       let found = sound.named lacks.span lacks.live in
       let row : NamedSpan = record { name = found.0; object = lacks.span.object; offset = lacks.span.offset; size = lacks.span.size } in
       let has : Contains rows row = (exact row).1 found.1 in
-      lacks.lacks (contains_name span_told (map block_of rows) (block_of row) (contains_name block_of rows row has))
+      lacks.lacks (contains_name live_block_span (map block_of rows) (block_of row) (contains_name block_of rows row has))

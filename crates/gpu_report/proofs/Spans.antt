@@ -17,7 +17,7 @@ use Rattle.gpu_alloc_base.proofs.Lists.{head_is_other}
 use Rattle.gpu_alloc_base.proofs.ListSets.{in_set}
 use Rattle.gpu_alloc_base.proofs.ListViews.{contains_name}
 use Rattle.gpu_alloc_block.proofs.LiveSpans.{span_total, span_exact, span_test}
-use Rattle.gpu_report.specs.Live.{span_told}
+use Rattle.gpu_report.specs.Live.{live_block_span}
 use Rattle.gpu_report.specs.declared.live.LiveBlock.{LiveBlock}
 use Rattle.gpu_report.proofs.Members.{each_member}
 
@@ -36,18 +36,18 @@ is_false false not_so = refl
 
 -- the two have one span
 abbrev pub same_span : LiveBlock → LiveBlock → Bool
-same_span b c = eq_by_cmp span_cmp (span_told b) (span_told c)
+same_span b c = eq_by_cmp span_cmp (live_block_span b) (live_block_span c)
 
-pub span_other : (b c : LiveBlock) → same_span b c ≡ false → span_told b ≢ span_told c
-span_other b c other same = let one = (span_test (span_told b) (span_told c)).1 same in absurd (cc)
+pub span_other : (b c : LiveBlock) → same_span b c ≡ false → live_block_span b ≢ live_block_span c
+span_other b c other same = let one = (span_test (live_block_span b) (live_block_span c)).1 same in absurd (cc)
 
 -- of blocks whose spans stand once, no two have one span
-pub once_distinct : (live : List LiveBlock) → AreOnce (map span_told live) → IsDistinct same_span live
+pub once_distinct : (live : List LiveBlock) → AreOnce (map live_block_span live) → IsDistinct same_span live
 unfolding IsDistinct
 once_distinct [] once = once
 once_distinct (b ∷ bs) once =
     IsDistinct-cons same_span b bs (recursion_from_All _ _ (each_member (λ c. same_span b c ≡ false) bs (λ c has.
-    is_false _ (λ e. once.0 (span_told c) (contains_name span_told bs c has) (sym ((span_test (span_told b) (span_told c)).0 e))))))
+    is_false _ (λ e. once.0 (live_block_span c) (contains_name live_block_span bs c has) (sym ((span_test (live_block_span b) (live_block_span c)).0 e))))))
     (once_distinct bs once.1)
 
 -- Spans in another order.
@@ -83,11 +83,11 @@ nothing : LiveSpan
 nothing = record { object = 0; offset = 0; size = 0; chunk = 0; index = 0 }
 
 -- blocks rise by object where the spans that they have do
-pub told_rises : (live : List LiveBlock) (spans : List LiveSpan) → map span_told live ≡ map span_in spans → IsNonDecreasingBy (λ s. s.object) spans → IsNonDecreasingBy (λ b. b.object) live
+pub told_rises : (live : List LiveBlock) (spans : List LiveSpan) → map live_block_span live ≡ map span_in spans → IsNonDecreasingBy (λ s. s.object) spans → IsNonDecreasingBy (λ b. b.object) live
 told_rises live spans told up i j d le lt =
-    let count : length live ≡ length spans = sym (length-map live span_told) ∙ ap length told ∙ length-map spans span_in in
+    let count : length live ≡ length spans = sym (length-map live live_block_span) ∙ ap length told ∙ length-map spans span_in in
     let same = λ (k : ℕ) (in_live : k < length live). (
-    ap (λ (x : Span). x.object) (sym (get_or-map span_told live k d (span_told d) in_live) ∙ ap (λ xs. get_or xs k (span_told d)) told ∙ get_or-map span_in spans k nothing (span_told d) (omega (arith, count)))) in
+    ap (λ (x : Span). x.object) (sym (get_or-map live_block_span live k d (live_block_span d) in_live) ∙ ap (λ xs. get_or xs k (live_block_span d)) told ∙ get_or-map span_in spans k nothing (live_block_span d) (omega (arith, count)))) in
     let at_i = same i (omega arith) in
     let at_j = same j lt in
     omega (arith, at_i, at_j, up i j nothing le (omega (arith, count)))

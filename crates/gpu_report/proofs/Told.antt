@@ -14,14 +14,14 @@ use Rattle.gpu_alloc_block.specs.declared.block.Kind.{Kind}
 use Rattle.gpu_alloc_block.specs.declared.block.Kind.TheVariants as kinds
 use Rattle.gpu_alloc.specs.Listing.{AreOfKnownTypes}
 use Rattle.gpu_alloc.specs.Sound.{IsSound}
-use Rattle.gpu_alloc.specs.Spans.{entry_of, held_of}
+use Rattle.gpu_alloc.specs.Spans.{held_entry_of, held_of}
 use Rattle.gpu_alloc.specs.State.{HeldObject, State, is_shared}
 use Rattle.gpu_alloc.specs.declared.spans.HeldRow.{HeldRow}
-use Rattle.gpu_report.specs.Free.{AreFree}
-use Rattle.gpu_report.specs.Held.{held_as, is_of, kind_of, part_of, parts, parts_of, AreHeld}
+use Rattle.gpu_report.specs.Free.{AreFreeRanges}
+use Rattle.gpu_report.specs.Held.{held_as, is_of, kind_of, part_of, parts, parts_of_type, AreHeld}
 use Rattle.gpu_report.specs.Live.{AreLive}
 use Rattle.gpu_report.specs.Places.{ArePlaces, Tile}
-use Rattle.gpu_report.specs.Report.{head_held, head_told, is_chunk, is_used, part_told, AreTold, HasPlaces, Head, AreSums, IsKindTold, IsObjectTold, TellsEach}
+use Rattle.gpu_report.specs.Report.{head_held, head_told, is_chunk, is_used, part_told, ArePartsTold, HasPlaces, Head, AreSums, IsKindTold, IsObjectTold, TellsEach}
 use Rattle.gpu_report.proofs.Covering.{AreTheFree, tiled}
 use Rattle.gpu_report.proofs.HeldRows.{entry_held, held_entry, held_more}
 use Rattle.gpu_report.proofs.Members.{each_member, from_filtered, from_mapped, to_filtered}
@@ -38,7 +38,7 @@ used held p some = grind (arith, nat_tests)
 unused : (held : List (ℕ × HeldObject)) (p : Part) → length (held_as held p) ≤ 0 → is_used held p ≡ false
 unused held p none = grind (arith, nat_tests)
 
-module _ (s : State) (held : List (ℕ × HeldObject)) (live : List LiveBlock) (p : Part) (ps : List Part) (ks : List KindReport) (os : List ObjectReport) (told : AreTold s held live ps ks os) where
+module _ (s : State) (held : List (ℕ × HeldObject)) (live : List LiveBlock) (p : Part) (ps : List Part) (ks : List KindReport) (os : List ObjectReport) (told : ArePartsTold s held live ps ks os) where
   heads_more : (more : List ObjectReport) → map head_told more ≡ map head_held (held_as held p) → map head_told (os ++ more) ≡ map head_held (flat_map (held_as held) (ps ++ p ∷ []))
   heads_more more heads =
       map-append head_told os more ∙ (λ i. told.heads i ++ heads i)
@@ -49,7 +49,7 @@ module _ (s : State) (held : List (ℕ × HeldObject)) (live : List LiveBlock) (
   -- an object is held so
   pub told_used : (k : KindReport) → 0 < length (held_as held p) → part_told k ≡ p → AreSums s held live k
       → (more : List ObjectReport) → map head_told more ≡ map head_held (held_as held p) → All (IsObjectTold s live) more
-      → AreTold s held live (ps ++ p ∷ []) (ks ++ k ∷ []) (os ++ more)
+      → ArePartsTold s held live (ps ++ p ∷ []) (ks ++ k ∷ []) (os ++ more)
   told_used k some of sums more heads each = record {
     heads = heads_more more heads;
     objects = All-append (IsObjectTold s live) os more told.objects each;
@@ -63,7 +63,7 @@ module _ (s : State) (held : List (ℕ × HeldObject)) (live : List LiveBlock) (
 
   -- none is
   pub told_unused : length (held_as held p) ≤ 0 → (more : List ObjectReport) → map head_told more ≡ map head_held (held_as held p) → All (IsObjectTold s live) more
-      → AreTold s held live (ps ++ p ∷ []) ks (os ++ more)
+      → ArePartsTold s held live (ps ++ p ∷ []) ks (os ++ more)
   told_unused none more heads each = record {
     heads = heads_more more heads;
     objects = All-append (IsObjectTold s live) os more told.objects each;
@@ -75,18 +75,18 @@ module _ (s : State) (held : List (ℕ × HeldObject)) (live : List LiveBlock) (
 -- One row more of those that are looked at.
 
 module _ (p : Part) (rows : List (ℕ × HeldRow)) (i : ℕ) (d : ℕ × HeldRow) (lt : i < length rows) (os : List ObjectReport)
-    (so_far : map head_told os ≡ map head_held (held_as (map entry_of (take i rows)) p)) where
+    (so_far : map head_told os ≡ map head_held (held_as (map held_entry_of (take i rows)) p)) where
   more_heads : (b : Bool) → is_of p (held_of (get_or rows i d).1) ≡ b
-      → map head_held (held_as (map entry_of (take (i + 1) rows)) p) ≡ map head_held (held_as (map entry_of (take i rows)) p) ++ map head_held (cond b (entry_of (get_or rows i d) ∷ []) [])
+      → map head_held (held_as (map held_entry_of (take (i + 1) rows)) p) ≡ map head_held (held_as (map held_entry_of (take i rows)) p) ++ map head_held (cond b (held_entry_of (get_or rows i d) ∷ []) [])
   more_heads b is =
-      ap (map head_held) (held_more p rows i d lt ∙ ap (λ t. held_as (map entry_of (take i rows)) p ++ cond t (entry_of (get_or rows i d) ∷ []) []) is)
-      ∙ map-append head_held (held_as (map entry_of (take i rows)) p) (cond b (entry_of (get_or rows i d) ∷ []) [])
+      ap (map head_held) (held_more p rows i d lt ∙ ap (λ t. held_as (map held_entry_of (take i rows)) p ++ cond t (held_entry_of (get_or rows i d) ∷ []) []) is)
+      ∙ map-append head_held (held_as (map held_entry_of (take i rows)) p) (cond b (held_entry_of (get_or rows i d) ∷ []) [])
 
-  pub objects_more : (o : ObjectReport) → is_of p (held_of (get_or rows i d).1) ≡ true → head_told o ≡ head_held (entry_of (get_or rows i d))
-      → map head_told (os ++ o ∷ []) ≡ map head_held (held_as (map entry_of (take (i + 1) rows)) p)
+  pub objects_more : (o : ObjectReport) → is_of p (held_of (get_or rows i d).1) ≡ true → head_told o ≡ head_held (held_entry_of (get_or rows i d))
+      → map head_told (os ++ o ∷ []) ≡ map head_held (held_as (map held_entry_of (take (i + 1) rows)) p)
   objects_more o is of = map-append head_told os (o ∷ []) ∙ (λ k. so_far k ++ of k ∷ []) ∙ sym (more_heads true is)
 
-  pub objects_same : is_of p (held_of (get_or rows i d).1) ≡ false → map head_told os ≡ map head_held (held_as (map entry_of (take (i + 1) rows)) p)
+  pub objects_same : is_of p (held_of (get_or rows i d).1) ≡ false → map head_told os ≡ map head_held (held_as (map held_entry_of (take (i + 1) rows)) p)
   objects_same is = so_far ∙ sym (more_heads false is ∙ append-nil _)
 
 -- Objects that are held as one memory type and kind, each with its places.
@@ -99,7 +99,7 @@ is_shared_chunk (kinds.FreeListChunk number) e = e
 is_shared_chunk kinds.FitChunk e = e
 
 module _ (s : State) (held : List (ℕ × HeldObject)) (live : List LiveBlock) (free : List FreeRange) (p : Part) (sound : IsSound s) (are_held : AreHeld s held) (are_live : AreLive s live)
-    (are_free : AreFree s p.memory_type free) (law : AreTheFree s p.memory_type) where
+    (are_free : AreFreeRanges s p.memory_type free) (law : AreTheFree s p.memory_type) where
   object_told : (e : ℕ × HeldObject) (o : ObjectReport) → Contains held e → is_of p e.1 ≡ true → head_held e ≡ head_told o → HasPlaces live free o → IsObjectTold s live o
   object_told e o has is_p head placed =
       let of_type : e.1.memory_type ≡ p.memory_type = of_part e.1 is_p in
@@ -108,11 +108,11 @@ module _ (s : State) (held : List (ℕ × HeldObject)) (live : List LiveBlock) (
       let size : e.1.counted ≡ o.size = ap (λ (h : Head). h.size) head in
       let kind : kind_of e.1.kind ≡ o.kind = ap (λ (h : Head). h.kind) head in
       let there = held_entry s held e are_held has in
-      let free_of = subst (λ t. AreFree s t free) (sym of_type) are_free in
+      let free_of = subst (λ t. AreFreeRanges s t free) (sym of_type) are_free in
       let law_of = subst (λ t. AreTheFree s t) (sym of_type) law in
       record {
         free = free;
-        are_free = subst (λ t. AreFree s t free) told_type free_of;
+        are_free = subst (λ t. AreFreeRanges s t free) told_type free_of;
         places = placed;
         tiled = λ chunk. subst (λ n. Tile 0 n o.places.items) size (tiled s e.0 e.1 live free
             (record { sound = sound; are_live = are_live; are_free = free_of; held = there; shared = is_shared_chunk e.1.kind (ap is_chunk kind ∙ chunk) }) law_of
@@ -138,7 +138,7 @@ from_flat f (z ∷ zs) x y has there = elim (contains_cases z x zs has) [
   | inr later ↦ Contains-append_right (f z) (flat_map f zs) y (from_flat f zs x y later there)
 ]
 
-has_kind : (t : ℕ) (kind : ObjectKind) → Contains (parts_of t) (part_of t kind)
+has_kind : (t : ℕ) (kind : ObjectKind) → Contains (parts_of_type t) (part_of t kind)
 has_kind t objects.Dedicated = (0, omega arith, refl)
 has_kind t objects.Imported = (1, omega arith, refl)
 has_kind t objects.BuddyChunk = (2, omega arith, refl)
@@ -148,15 +148,15 @@ has_kind t objects.FitChunk = (4, omega arith, refl)
 has_part : (n t : ℕ) (kind : ObjectKind) → t < n → Contains (parts n) (part_of t kind)
 has_part zero t kind lt = absurd (omega (arith, lt))
 has_part (suc n) t kind lt = elim (cases_lt t n) [
-  | inl less ↦ Contains-append_left (parts n) (parts_of n) (part_of t kind) (has_part n t kind less)
-  | inr ge ↦ let e : n ≡ t = omega (arith, lt) in Contains-append_right (parts n) (parts_of n) (part_of t kind) (subst (λ m. Contains (parts_of m) (part_of t kind)) (sym e) (has_kind t kind))
+  | inl less ↦ Contains-append_left (parts n) (parts_of_type n) (part_of t kind) (has_part n t kind less)
+  | inr ge ↦ let e : n ≡ t = omega (arith, lt) in Contains-append_right (parts n) (parts_of_type n) (part_of t kind) (subst (λ m. Contains (parts_of_type m) (part_of t kind)) (sym e) (has_kind t kind))
 ]
 
 is_its_own : (h : HeldObject) → is_of (part_of h.memory_type (kind_of h.kind)) h ≡ true
 is_its_own h = grind (arith, nat_tests)
 
 pub each_told : (s : State) (held : List (ℕ × HeldObject)) (live : List LiveBlock) (ks : List KindReport) (os : List ObjectReport) → AreHeld s held → AreOfKnownTypes s
-    → AreTold s held live (parts (length s.properties.memory_types)) ks os → TellsEach s os
+    → ArePartsTold s held live (parts (length s.properties.memory_types)) ks os → TellsEach s os
 each_told s held live ks os are known told object h is =
     let p = part_of h.memory_type (kind_of h.kind) in
     let kept = to_filtered (λ (e : ℕ × HeldObject). is_of p e.1) held (object, h) (entry_held s held object h are is) (is_its_own h) in

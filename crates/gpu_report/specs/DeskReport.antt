@@ -3,14 +3,14 @@ use Rattle.std.specs.Prelude.{◌≡◌, ◌↔◌, ℕ, List, Contains, is_some
 use Rattle.std.specs.FinMap as map
 use Rattle.gpu_alloc.specs.State.{span_of}
 use Rattle.gpu_desk.specs.Desk.{DeskState, OfKey, tag_of}
-use Rattle.gpu_report.specs.Live.{span_told}
+use Rattle.gpu_report.specs.Live.{live_block_span}
 use Rattle.gpu_report.specs.Report.{IsReport}
 use Rattle.gpu_report.specs.declared.live.LiveBlock.{LiveBlock}
 use Rattle.gpu_report.specs.declared.report.Report.{Report}
 
 -- the block lies where the live block of the key lies that it has as its name
 abbrev pub IsKeyed : DeskState → LiveBlock → Type 0
-IsKeyed s b = OfKey s b.name (λ x. span_of x ≡ span_told b)
+IsKeyed s b = OfKey s b.name (λ x. span_of x ≡ live_block_span b)
 
 -- these are the live blocks, under their keys
 abbrev pub AreKeyed : DeskState → List LiveBlock → Type 0

@@ -9,7 +9,7 @@ use Rattle.gpu_report.specs.Held.{is_listed_as}
 use Rattle.gpu_report.specs.declared.part.Part.{Part}
 
 -- these are the free ranges of a memory type, each once
-pub record AreFree (s : State) (t : ℕ) (free : List FreeRange) : Type 0 where
+pub record AreFreeRanges (s : State) (t : ℕ) (free : List FreeRange) : Type 0 where
   pub exact : (r : FreeRange) → Contains free r ↔ IsFreeRangeOf s t r
   pub order : AreInOrder free
 

@@ -40,13 +40,13 @@ abbrev pub part_of : ℕ → ObjectKind → Part
 part_of t kind = record { memory_type = t; kind = kind }
 
 -- all kinds of a memory type, and those of the first n memory types, by memory type, then kind
-abbrev pub parts_of : ℕ → List Part
-parts_of t =
+abbrev pub parts_of_type : ℕ → List Part
+parts_of_type t =
     part_of t Dedicated ∷ part_of t Imported ∷ part_of t BuddyChunk ∷ part_of t FreeListChunk ∷ part_of t FitChunk ∷ []
 
 abbrev pub parts : ℕ → List Part
 parts zero = []
-parts (suc n) = parts n ++ parts_of n
+parts (suc n) = parts n ++ parts_of_type n
 
 -- these are the held objects, each once, by name
 pub record AreHeld (s : State) (held : List (ℕ × HeldObject)) : Type 0 where

@@ -11,24 +11,24 @@ use Rattle.gpu_report.specs.declared.part.Part.{Part}
 use Rattle.gpu_report.specs.declared.live.LiveBlock.{LiveBlock}
 use Rattle.gpu_report.specs.Held.{is_listed_as}
 
-abbrev pub span_told : LiveBlock → Span
-span_told b = record { object = b.object; offset = b.offset; size = b.size }
+abbrev pub live_block_span : LiveBlock → Span
+live_block_span b = record { object = b.object; offset = b.offset; size = b.size }
 
 -- these are all that are live, each once, by the name of their object
 pub record AreLive (s : State) (live : List LiveBlock) : Type 0 where
-  pub exact : set.from_list (map span_told live) ≡ s.live
-  pub once : AreOnce (map span_told live)
+  pub exact : set.from_list (map live_block_span live) ≡ s.live
+  pub once : AreOnce (map live_block_span live)
   pub by_object : IsNonDecreasingBy (λ b. b.object) live
 
 -- blocks in the order of their spans' numbers
 abbrev pub AreBySpan : List LiveBlock → Type 0
-AreBySpan blocks = IsSortedByKey (λ b. span_numbers (span_told b)) (slice_cmp nat_cmp) blocks
+AreBySpan blocks = IsSortedByKey (λ b. span_numbers (live_block_span b)) (slice_cmp nat_cmp) blocks
 
 -- a live span that none of the blocks has
 pub record LacksSpan (s : State) (blocks : List LiveBlock) : Type 0 where
   pub span : Span
   pub live : IsLive s span
-  pub lacks : Contains (map span_told blocks) span → ⊥
+  pub lacks : Contains (map live_block_span blocks) span → ⊥
 
 -- the sizes of the live blocks in the held objects that are held as this
 abbrev pub live_sizes : List (ℕ × HeldObject) → Part → List LiveBlock → List ℕ

@@ -5,7 +5,7 @@ use Rattle.std.specs.List.{filter, flat_map}
 use Rattle.gpu_alloc_types.specs.declared.types.FreeRange.{FreeRange}
 use Rattle.gpu_alloc.specs.Budget.{heap_bytes, heap_budget}
 use Rattle.gpu_alloc.specs.State.{HeldObject, State, ledger}
-use Rattle.gpu_report.specs.Free.{AreFree, free_sizes, largest, scattered}
+use Rattle.gpu_report.specs.Free.{AreFreeRanges, free_sizes, largest, scattered}
 use Rattle.gpu_report.specs.Held.{AreHeld, part_of, kind_of, parts, held_as}
 use Rattle.gpu_report.specs.Live.{AreLive, live_sizes}
 use Rattle.gpu_report.specs.Places.{ArePlaces, Tile}
@@ -56,7 +56,7 @@ HasPlaces live free o = ArePlaces live free o.object o.places.items
 -- at 0, each begins where the one before it ends, and the last ends with the object.
 pub record IsObjectTold (s : State) (live : List LiveBlock) (o : ObjectReport) : Type 0 where
   pub free : List FreeRange
-  pub are_free : AreFree s o.memory_type free
+  pub are_free : AreFreeRanges s o.memory_type free
   pub places : HasPlaces live free o
   pub tiled : is_chunk o.kind ≡ true → Tile 0 o.size o.places.items
 
@@ -64,7 +64,7 @@ pub record IsObjectTold (s : State) (live : List LiveBlock) (o : ObjectReport) :
 -- them and of their free ranges. All are 0 where no object is held so.
 pub record AreSums (s : State) (held : List (ℕ × HeldObject)) (live : List LiveBlock) (k : KindReport) : Type 0 where
   pub free : List FreeRange
-  pub are_free : AreFree s k.memory_type free
+  pub are_free : AreFreeRanges s k.memory_type free
   pub objects : k.objects ≡ length (held_as held (part_of k.memory_type k.kind))
   pub live_blocks : k.live_blocks ≡ length (live_sizes held (part_of k.memory_type k.kind) live)
   pub live_bytes : k.live_bytes ≡ sum (live_sizes held (part_of k.memory_type k.kind) live)
@@ -86,7 +86,7 @@ part_told k = part_of k.memory_type k.kind
 
 -- The reports of these memory types and kinds: each object that is held so, in their order and by name, and each memory
 -- type and kind of which one is held.
-pub record AreTold (s : State) (held : List (ℕ × HeldObject)) (live : List LiveBlock) (ps : List Part)
+pub record ArePartsTold (s : State) (held : List (ℕ × HeldObject)) (live : List LiveBlock) (ps : List Part)
     (ks : List KindReport) (os : List ObjectReport) : Type 0 where
   pub heads : map head_told os ≡ map head_held (flat_map (held_as held) ps)
   pub objects : All (IsObjectTold s live) os
@@ -107,5 +107,5 @@ pub record IsReport (s : State) (blocks : List LiveBlock) (r : Report) : Type 0 
   pub are_live : AreLive s live
   pub given : All (Contains blocks) live
   pub heaps : AreHeaps s r.heaps.items
-  pub told : AreTold s held live (parts (length s.properties.memory_types)) r.kinds.items r.objects.items
+  pub told : ArePartsTold s held live (parts (length s.properties.memory_types)) r.kinds.items r.objects.items
   pub each : TellsEach s r.objects.items

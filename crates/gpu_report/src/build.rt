@@ -2,11 +2,11 @@
 
 ghost use Rattle.std.specs.Prelude.{◌≡◌, ◌<◌, ◌++◌, IfErr, IfNone, IfOk, IfSome, OnOk, List, length, map as mapped};
 ghost use Rattle.gpu_alloc.specs.Sound as Sound;
-ghost use Rattle.gpu_alloc.specs.Spans.{entry_of};
-ghost use Rattle.gpu_report.specs.Free.{AreFree};
-ghost use Rattle.gpu_report.specs.Held.{parts_of, AreHeld};
+ghost use Rattle.gpu_alloc.specs.Spans.{held_entry_of};
+ghost use Rattle.gpu_report.specs.Free.{AreFreeRanges};
+ghost use Rattle.gpu_report.specs.Held.{parts_of_type, AreHeld};
 ghost use Rattle.gpu_report.specs.Live.{AreLive, LacksSpan};
-ghost use Rattle.gpu_report.specs.Report.{AreTold, IsReport};
+ghost use Rattle.gpu_report.specs.Report.{ArePartsTold, IsReport};
 ghost use Rattle.gpu_report.specs.Session.{block_of, IsSessionReport};
 ghost use Rattle.gpu_report.specs.declared.error.ReportError.TheVariants.{BlockMissing};
 ghost use Rattle.gpu_report.specs.declared.part.Part.{Part as APart};
@@ -122,11 +122,11 @@ fn add_type<M: MemoryObject, A: Allocator + Copy>(
 ) -> Result<(), AllocError>
     requires sound { Sound.IsSound allocator.now }
     requires known { memory_type < length (allocator.now.properties).memory_types }
-    requires are_held { AreHeld allocator.now (mapped entry_of held.now) }
+    requires are_held { AreHeld allocator.now (mapped held_entry_of held.now) }
     requires are_live { AreLive allocator.now live.now }
     ensures { OnOk result ((ps : List APart)
-        → AreTold allocator.now (mapped entry_of held.now) live.now ps kinds.old.items objects.old.items
-        → AreTold allocator.now (mapped entry_of held.now) live.now (ps ++ parts_of memory_type)
+        → ArePartsTold allocator.now (mapped held_entry_of held.now) live.now ps kinds.old.items objects.old.items
+        → ArePartsTold allocator.now (mapped held_entry_of held.now) live.now (ps ++ parts_of_type memory_type)
         kinds.new.items objects.new.items) }
 {
     let free = free_of(allocator, memory_type)?;
@@ -168,7 +168,7 @@ pub(crate) fn free_of<M: MemoryObject, A: Allocator + Copy>(
     memory_type: u32,
 ) -> Result<Vec<FreeRange, A>, AllocError>
     requires { memory_type < length (allocator.now.properties).memory_types }
-    ensures { IfOk result (λ free. AreFree allocator.now memory_type free.items) }
+    ensures { IfOk result (λ free. AreFreeRanges allocator.now memory_type free.items) }
 {
     match allocator.free_ranges(memory_type) {
         Ok(free) => Ok(free),

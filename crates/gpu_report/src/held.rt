@@ -6,7 +6,7 @@ ghost use Rattle.std.specs.List.Sorted.{IsNonDecreasing};
 ghost use Rattle.std.specs.Map.{keys_of, lookup};
 ghost use Rattle.std.specs.Option.{option_map};
 ghost use Rattle.gpu_alloc.specs.Listing.{AreOfKnownTypes};
-ghost use Rattle.gpu_alloc.specs.Spans.{entry_of, held_of};
+ghost use Rattle.gpu_alloc.specs.Spans.{held_entry_of, held_of};
 ghost use Rattle.gpu_report.specs.Held.{AreHeld};
 ghost use Rattle.gpu_report.specs.Report.{AreHeaps};
 
@@ -20,7 +20,7 @@ pub(crate) fn held_by_name<M: MemoryObject, A: Allocator>(
     alloc: Global,
     allocator: &GpuAllocator<M, A>,
 ) -> Result<Vec<(u64, HeldRow)>, AllocError>
-    ensures held { IfOk result (λ rows. AreHeld allocator.now (mapped entry_of rows.items)) }
+    ensures held { IfOk result (λ rows. AreHeld allocator.now (mapped held_entry_of rows.items)) }
     ensures known { AreOfKnownTypes allocator.now }
 {
     let mut rows = allocator.objects(alloc)?;
@@ -30,9 +30,9 @@ pub(crate) fn held_by_name<M: MemoryObject, A: Allocator>(
 
 /// The object of a name, or `None` where it is not one of these, which are sorted by name.
 pub(crate) fn find(held: &[(u64, HeldRow)], object: u64) -> Option<HeldRow>
-    requires once { IsDistinct nat_eq (keys_of (mapped entry_of held.now)) }
-    requires rising { IsNonDecreasing (keys_of (mapped entry_of held.now)) }
-    ensures { option_map held_of result ≡ lookup (nat_eq object) (mapped entry_of held.now) }
+    requires once { IsDistinct nat_eq (keys_of (mapped held_entry_of held.now)) }
+    requires rising { IsNonDecreasing (keys_of (mapped held_entry_of held.now)) }
+    ensures { option_map held_of result ≡ lookup (nat_eq object) (mapped held_entry_of held.now) }
 {
     match held.binary_search_by(|row| row.0.cmp(&object)) {
         Ok(index) => Some(held[index].1),

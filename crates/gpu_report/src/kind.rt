@@ -4,12 +4,12 @@ ghost use Rattle.std.specs.Prelude.{◌≡◌, ◌++◌, ◌∷◌, [], All, Lis
 ghost use Rattle.std.specs.List.Sorted.{IsNonDecreasingBy};
 ghost use Rattle.gpu_alloc.specs.RangeOrder.{AreInOrder};
 ghost use Rattle.gpu_alloc.specs.Sound as Sound;
-ghost use Rattle.gpu_alloc.specs.Spans.{entry_of};
+ghost use Rattle.gpu_alloc.specs.Spans.{held_entry_of};
 ghost use Rattle.gpu_report.specs.declared.part.Part.{Part as APart};
-ghost use Rattle.gpu_report.specs.Free.{AreFree};
+ghost use Rattle.gpu_report.specs.Free.{AreFreeRanges};
 ghost use Rattle.gpu_report.specs.Held.{AreHeld, held_as};
 ghost use Rattle.gpu_report.specs.Live.{AreLive};
-ghost use Rattle.gpu_report.specs.Report.{head_held, head_told, part_told, AreSums, AreTold, HasPlaces};
+ghost use Rattle.gpu_report.specs.Report.{head_held, head_told, part_told, AreSums, ArePartsTold, HasPlaces};
 
 use crate::part::Part;
 use crate::places::places_of;
@@ -29,9 +29,9 @@ pub(crate) fn kind_report<M: MemoryObject, A: Allocator>(
     live: &[LiveBlock],
     free: &[FreeRange],
 ) -> Result<KindReport, AllocError>
-    requires are_held { AreHeld allocator.now (mapped entry_of held.now) }
-    requires are_free { AreFree allocator.now part.memory_type free.now }
-    ensures sums { IfOk result (AreSums allocator.now (mapped entry_of held.now) live.now) }
+    requires are_held { AreHeld allocator.now (mapped held_entry_of held.now) }
+    requires are_free { AreFreeRanges allocator.now part.memory_type free.now }
+    ensures sums { IfOk result (AreSums allocator.now (mapped held_entry_of held.now) live.now) }
     ensures of { IfOk result (λ k. part_told k ≡ part) }
 {
     let live_sizes = part.live_sizes(alloc, held, live)?;
@@ -57,7 +57,7 @@ fn object_report(
 ) -> Result<ObjectReport, AllocError>
     requires by_object { IsNonDecreasingBy (λ b. b.object) live.now }
     requires order { AreInOrder free.now }
-    ensures of { IfOk result (λ o. head_told o ≡ head_held (entry_of row.now)) }
+    ensures of { IfOk result (λ o. head_told o ≡ head_held (held_entry_of row.now)) }
     ensures placed { IfOk result (HasPlaces live.now free.now) }
 {
     let (object, held) = *row;
@@ -81,7 +81,7 @@ fn objects_of(
     requires by_object { IsNonDecreasingBy (λ b. b.object) live.now }
     requires order { AreInOrder free.now }
     ensures heads { IfOk result (λ objects.
-        mapped head_told objects.items ≡ mapped head_held (held_as (mapped entry_of held.now) part)) }
+        mapped head_told objects.items ≡ mapped head_held (held_as (mapped held_entry_of held.now) part)) }
     ensures placed { IfOk result (λ objects. All (HasPlaces live.now free.now) objects.items) }
 {
     let mut objects = Vec::new(alloc);
@@ -105,12 +105,12 @@ pub(crate) fn add_kind<M: MemoryObject, A: Allocator>(
     objects: &mut Vec<ObjectReport>,
 ) -> Result<(), AllocError>
     requires sound { Sound.IsSound allocator.now }
-    requires are_held { AreHeld allocator.now (mapped entry_of held.now) }
+    requires are_held { AreHeld allocator.now (mapped held_entry_of held.now) }
     requires are_live { AreLive allocator.now live.now }
-    requires are_free { AreFree allocator.now part.memory_type free.now }
+    requires are_free { AreFreeRanges allocator.now part.memory_type free.now }
     ensures { OnOk result ((ps : List APart)
-        → AreTold allocator.now (mapped entry_of held.now) live.now ps kinds.old.items objects.old.items
-        → AreTold allocator.now (mapped entry_of held.now) live.now (ps ++ part ∷ [])
+        → ArePartsTold allocator.now (mapped held_entry_of held.now) live.now ps kinds.old.items objects.old.items
+        → ArePartsTold allocator.now (mapped held_entry_of held.now) live.now (ps ++ part ∷ [])
         kinds.new.items objects.new.items) }
 {
     if part.count(held) > 0 {

@@ -7,7 +7,7 @@ ghost use Rattle.gpu_alloc.specs.Listing.{AreOnce};
 ghost use Rattle.gpu_alloc.specs.Sound as Sound;
 ghost use Rattle.gpu_alloc.specs.State.{span_numbers, span_of};
 ghost use Rattle.gpu_alloc.specs.Spans.{span_in};
-ghost use Rattle.gpu_report.specs.Live.{span_told, AreBySpan, AreLive, LacksSpan};
+ghost use Rattle.gpu_report.specs.Live.{live_block_span, AreBySpan, AreLive, LacksSpan};
 ghost use Rattle.gpu_report.specs.declared.live.LiveBlock.{LiveBlock as Block};
 
 use gpu_alloc::spans::LiveSpan;
@@ -34,7 +34,7 @@ impl LiveBlock {
     /// A block under a name.
     pub fn of<M: MemoryObject>(name: u64, block: &MemoryBlock<M>) -> LiveBlock
         ensures name { result.name ≡ name }
-        ensures span { span_told result ≡ span_of block.now }
+        ensures span { live_block_span result ≡ span_of block.now }
     {
         LiveBlock {
             name,
@@ -46,7 +46,7 @@ impl LiveBlock {
 
     /// The numbers of its span, by which blocks are sorted and found.
     fn numbers(&self) -> [u64; 3]
-        ensures { result ≡ span_numbers (span_told self.now) }
+        ensures { result ≡ span_numbers (live_block_span self.now) }
     {
         [self.object, self.offset, self.size]
     }
@@ -80,8 +80,8 @@ fn blocks_by_span(alloc: Global, blocks: &[LiveBlock]) -> Result<Vec<LiveBlock>,
 /// A block with this span, from blocks that are sorted by their spans.
 fn find(blocks: &[LiveBlock], span: &LiveSpan) -> Option<LiveBlock>
     requires { AreBySpan blocks.now }
-    ensures { MatchOption result (Contains (mapped span_told blocks.now) (span_in span.now) → ⊥)
-        (λ b. Contains blocks.now b × (span_told b ≡ span_in span.now)) }
+    ensures { MatchOption result (Contains (mapped live_block_span blocks.now) (span_in span.now) → ⊥)
+        (λ b. Contains blocks.now b × (live_block_span b ≡ span_in span.now)) }
 {
     let wanted = [span.object, span.offset, span.size];
     match blocks.binary_search_by(|block| block.numbers().cmp(&wanted)) {
@@ -92,7 +92,7 @@ fn find(blocks: &[LiveBlock], span: &LiveSpan) -> Option<LiveBlock>
 
 /// Spans as blocks, each named 0.
 fn unnamed(alloc: Global, spans: &[LiveSpan]) -> Result<Vec<LiveBlock>, AllocError>
-    ensures { IfOk result (λ live. mapped span_told live.items ≡ mapped span_in spans.now) }
+    ensures { IfOk result (λ live. mapped live_block_span live.items ≡ mapped span_in spans.now) }
 {
     let mut live = Vec::new(alloc);
     for span in spans {

@@ -5,7 +5,7 @@ ghost use Rattle.std.specs.List.{IsDistinct};
 ghost use Rattle.std.specs.List.Sorted.{IsNonDecreasing};
 ghost use Rattle.std.specs.Map.{keys_of};
 ghost use Rattle.std.specs.Option.{option_map};
-ghost use Rattle.gpu_alloc.specs.Spans.{entry_of, held_of};
+ghost use Rattle.gpu_alloc.specs.Spans.{held_entry_of, held_of};
 ghost use Rattle.gpu_report.specs.Free.{free_sizes};
 ghost use Rattle.gpu_report.specs.Held.{held_as, is_found, is_of, kind_of, rank};
 ghost use Rattle.gpu_report.specs.Live.{live_sizes};
@@ -82,7 +82,7 @@ impl Part {
 
     /// How many objects are held as this.
     pub(crate) fn count(&self, held: &[(u64, HeldRow)]) -> u64
-        ensures { result ≡ length (held_as (mapped entry_of held.now) self.now) }
+        ensures { result ≡ length (held_as (mapped held_entry_of held.now) self.now) }
     {
         let mut count = 0;
         for row in held {
@@ -100,9 +100,9 @@ impl Part {
         held: &[(u64, HeldRow)],
         live: &[LiveBlock],
     ) -> Result<Vec<u64>, AllocError>
-        requires once { IsDistinct nat_eq (keys_of (mapped entry_of held.now)) }
-        requires rising { IsNonDecreasing (keys_of (mapped entry_of held.now)) }
-        ensures { IfOk result (λ sizes. sizes.items ≡ live_sizes (mapped entry_of held.now) self.now live.now) }
+        requires once { IsDistinct nat_eq (keys_of (mapped held_entry_of held.now)) }
+        requires rising { IsNonDecreasing (keys_of (mapped held_entry_of held.now)) }
+        ensures { IfOk result (λ sizes. sizes.items ≡ live_sizes (mapped held_entry_of held.now) self.now live.now) }
     {
         let mut sizes = Vec::new(alloc);
         for block in live {
@@ -120,9 +120,9 @@ impl Part {
         held: &[(u64, HeldRow)],
         free: &[FreeRange],
     ) -> Result<Vec<u64>, AllocError>
-        requires once { IsDistinct nat_eq (keys_of (mapped entry_of held.now)) }
-        requires rising { IsNonDecreasing (keys_of (mapped entry_of held.now)) }
-        ensures { IfOk result (λ sizes. sizes.items ≡ free_sizes (mapped entry_of held.now) self.now free.now) }
+        requires once { IsDistinct nat_eq (keys_of (mapped held_entry_of held.now)) }
+        requires rising { IsNonDecreasing (keys_of (mapped held_entry_of held.now)) }
+        ensures { IfOk result (λ sizes. sizes.items ≡ free_sizes (mapped held_entry_of held.now) self.now free.now) }
     {
         let mut sizes = Vec::new(alloc);
         for range in free {

@@ -5,7 +5,7 @@ ghost use Rattle.std.specs.Prelude.{◌≡◌};
 ghost use Rattle.gpu_report.specs.DeskReport.{user_of};
 ghost use Rattle.gpu_report.specs.Text.{heap_text, key_text, kind_text, kind_words, lead, object_text, part_text};
 ghost use Rattle.gpu_report.specs.Text.{place_text, report_text, rows, type_text};
-ghost use Rattle.gpu_report.specs.Writing.{GoesOn, IsWritten};
+ghost use Rattle.gpu_report.specs.Writing.{GoesOn, IsTextWritten};
 
 use crate::desk::user_of;
 use crate::writing::{put_member, put_words};
@@ -20,7 +20,7 @@ use gpu_desk::Desk;
 /// In place of a block's name there are its `key` and its `user`, both null for free bytes. Each row is a line. The
 /// text has no 0 byte. `report` must be that of the desk as it is: for a key that has no live block the `user` is 0.
 pub fn write_report(desk: &Desk, report: &Report, text: &mut [u8]) -> u64
-    ensures { IsWritten (report_text (user_of desk.now) (desk.now.allocator.properties).memory_types report.now)
+    ensures { IsTextWritten (report_text (user_of desk.now) (desk.now.allocator.properties).memory_types report.now)
         text.old text.new result }
 {
     let heaps = put_words(text, 0, "{\"heaps\":[");

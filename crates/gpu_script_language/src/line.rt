@@ -1,7 +1,7 @@
 //! What is wrong with a line, and the numbers and bytes in it.
 
 ghost use Rattle.std.specs.Prelude.{IfOk};
-ghost use Rattle.gpu_script_language.specs.Bytes.{IsWritten};
+ghost use Rattle.gpu_script_language.specs.Bytes.{StandsForBytes};
 
 use crate::fields::Fields;
 use gpu_session::Bytes;
@@ -88,7 +88,7 @@ fn number(field: &[u8]) -> Option<u64> {
 
 /// The bytes in a field: two hexadecimal digits for each, or `-` for none.
 fn bytes<A: Allocator>(alloc: A, field: &[u8]) -> Result<Bytes<A>, LineStop>
-    ensures { IfOk result (IsWritten field.now) }
+    ensures { IfOk result (StandsForBytes field.now) }
 {
     if let [b'-'] = field {
         return Ok(Bytes::from_vec(Vec::new(alloc)));

@@ -11,7 +11,7 @@ use Rattle.gpu_alloc.specs.Types.Mapping.{Mapping}
 use Rattle.gpu_alloc.specs.declared.request.Request.{Request}
 use Rattle.gpu_session.specs.Books.{Books}
 use Rattle.gpu_session.specs.Faults.{where_true, is_alignment, fault_of_block, fault_of_mapping, fault_of_new_name, fault_of_range, fault_of_request, fault_of_type}
-use Rattle.gpu_session.specs.Sound.{IsKept}
+use Rattle.gpu_session.specs.Sound.{IsSessionKept}
 use Rattle.gpu_session.specs.declared.command.Fault.{Fault}
 use Rattle.gpu_session.specs.declared.command.Fault.TheVariants.{NameInUse, BadSize, BadAlignment, BadRange, BadType, NoDeviceAddress, UnknownName}
 use Rattle.gpu_session.specs.declared.offer.Offer.{Offer}
@@ -30,7 +30,7 @@ was_new None rest e = refl
 was_new (Some b) rest e = absurd (cc)
 
 -- a request that was tested by what the session keeps of the device's properties
-pub tested_request : {A : Type 0} {p : Properties} {objects : ℕ → Option Object} {s : Books} {o : Offer A} → IsKept p objects s o
+pub tested_request : {A : Type 0} {p : Properties} {objects : ℕ → Option Object} {s : Books} {o : Offer A} → IsSessionKept p objects s o
     → (r : Request) (fault : Option Fault) → fault_of_request o.buffer_device_address r ≡ fault → fault_of_request (s.allocator.properties).buffer_device_address r ≡ fault
 tested_request k r fault is = ap (λ a. fault_of_request a r) (sym (k.offer.feature ∙ ap (λ (q : Properties). q.buffer_device_address) k.sound.agrees.properties)) ∙ is
 

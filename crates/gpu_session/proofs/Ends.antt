@@ -6,7 +6,7 @@ use Rattle.std.specs.Result.{IsOk}
 use Rattle.gpu_alloc_types.specs.Device.{Event, Object}
 use Rattle.gpu_alloc.specs.Bytes.{EndsRead, EndsWrite, flush_fails, invalidate_fails, where_some}
 use Rattle.gpu_alloc.specs.Mapped.{refusal}
-use Rattle.gpu_alloc.specs.Ranges.{rounded}
+use Rattle.gpu_alloc.specs.Ranges.{rounded_range}
 use Rattle.gpu_alloc.specs.State.{Block}
 use Rattle.gpu_alloc.specs.Types.MapError.{MapError}
 use Rattle.gpu_session.specs.Does.{EndsEarly}
@@ -18,12 +18,12 @@ some_bytes answer e P (suc len) empty failed able = omega arith
 
 module _ {T : Type 0} (answer : Result T MapError) (b : Block) (e : MapError) (f g : ℕ → Option Object) (es : List Event) (failed : answer ≡ Err e) where
   pub ends_write : (offset : ℕ) (bytes : List ℕ) → (refusal b ≡ None → length bytes ≡ 0 → IsOk answer) → EndsWrite b offset bytes e f g es
-      → EndsEarly b (rounded b offset (length bytes)) (length bytes) (flush_fails b offset bytes) e es
+      → EndsEarly b (rounded_range b offset (length bytes)) (length bytes) (flush_fails b offset bytes) e es
   ends_write offset bytes empty ends =
       (some_bytes answer e (refusal b ≡ None) (length bytes) empty failed, elim ends [ inl refused ↦ inl refused.0 | inr refused ↦ inr refused.0 ])
 
   pub ends_read : (offset len : ℕ) → (refusal b ≡ None → len ≡ 0 → IsOk answer) → EndsRead b offset len e f g es
-      → EndsEarly b (rounded b offset len) len (invalidate_fails (rounded b offset len)) e es
+      → EndsEarly b (rounded_range b offset len) len (invalidate_fails (rounded_range b offset len)) e es
   ends_read offset len empty ends =
       (some_bytes answer e (refusal b ≡ None) len empty failed, elim ends [ inl refused ↦ inl refused.0 | inr refused ↦ inr refused.0 ])
 

@@ -7,7 +7,7 @@ use Rattle.std.specs.FinMap as finite
 use Rattle.gpu_alloc_types.specs.Chains.{chain_append}
 use Rattle.gpu_alloc_types.specs.Device.{Event, Object, Chain}
 use Rattle.gpu_alloc_types.specs.Device.Event.{Deallocated}
-use Rattle.gpu_alloc.specs.Release.{GoesBack}
+use Rattle.gpu_alloc.specs.Release.{LetsObjectsGo}
 use Rattle.gpu_alloc.specs.State.{State, Block, HeldObject}
 use Rattle.gpu_alloc_base.proofs.Lists.{contains_cases, contains_head, contains_later, contains_none, none_is_some}
 use Rattle.gpu_alloc_base.proofs.Names.{one_or_two}
@@ -45,7 +45,7 @@ module _ {D : Type 0} (step : D → Event → D → Type 0) (objects : D → ℕ
   }
 
 module _ {D : Type 0} {step : D → Event → D → Type 0} {objects : D → ℕ → Option Object} {first : State} {from : D} {now : State} {to : D} {new : State} {next : D}
-    (done : HasReturned step objects first from now to) (back : GoesBack step objects now to new next) where
+    (done : HasReturned step objects first from now to) (back : LetsObjectsGo step objects now to new next) where
   abbrev gone_now : List ℕ
   gone_now = done.gone ++ back.gone
 

@@ -11,7 +11,7 @@ use Rattle.gpu_alloc.specs.State.{Span, span_of, Block, State, IsLive, IsOwned}
 use Rattle.gpu_alloc_block.proofs.LiveSpans.{live_before}
 use Rattle.gpu_alloc_base.proofs.Names.{here, wherever, put-cases, get_put, get_put-other}
 use Rattle.gpu_session.specs.Offer.{IsOffer}
-use Rattle.gpu_session.specs.Sound.{IsBlock, IsSound, IsKept}
+use Rattle.gpu_session.specs.Sound.{IsBlock, IsSoundSession, IsSessionKept}
 use Rattle.gpu_session.specs.declared.offer.Offer.{Offer}
 use Rattle.gpu_session.proofs.Blocks.{live_block}
 
@@ -27,7 +27,7 @@ pub record Grants (s : State) (blocks : finite.FinMap nat_cmp Block) (name : ℕ
   pub agrees : Agrees new q after
 
 module _ {s : State} {blocks : finite.FinMap nat_cmp Block} {name : ℕ} {b : Block} {new : State} {p q : Properties} {before after : ℕ → Option Object}
-    (g : Grants s blocks name b new p before q after) (sound : IsSound p before (record { allocator = s; blocks = blocks })) where
+    (g : Grants s blocks name b new p before q after) (sound : IsSoundSession p before (record { allocator = s; blocks = blocks })) where
   block_before : (n : ℕ) (c : Block) → finite.get blocks n ≡ Some c → IsBlock p s before c
   block_before n c at = here (finite.get blocks n) (IsBlock p s before) (sound.blocks n) c at
 
@@ -42,7 +42,7 @@ module _ {s : State} {blocks : finite.FinMap nat_cmp Block} {name : ℕ} {b : Bl
         live_block c q after (g.keeps c was.owned was.agrees) new g.sound (g.leaves.owned c was.owned)
   ]
 
-  pub grant_is_sound : IsSound q after (record { allocator = new; blocks = finite.insert blocks name b })
+  pub grant_is_sound : IsSoundSession q after (record { allocator = new; blocks = finite.insert blocks name b })
   grant_is_sound = record {
     agrees = g.agrees;
     allocator = g.sound;
@@ -71,6 +71,6 @@ module _ {s : State} {blocks : finite.FinMap nat_cmp Block} {name : ℕ} {b : Bl
 
 -- What a session keeps, it keeps over a grant.
 pub grant_is_kept : {A : Type 0} {s : State} {blocks : finite.FinMap nat_cmp Block} {name : ℕ} {b : Block} {new : State} {p q : Properties} {before after : ℕ → Option Object} {o : Offer A}
-    → IsKept p before (record { allocator = s; blocks = blocks }) o → Grants s blocks name b new p before q after
-    → IsKept q after (record { allocator = new; blocks = finite.insert blocks name b }) o
+    → IsSessionKept p before (record { allocator = s; blocks = blocks }) o → Grants s blocks name b new p before q after
+    → IsSessionKept q after (record { allocator = new; blocks = finite.insert blocks name b }) o
 grant_is_kept {o = o} k g = record { sound = grant_is_sound g k.sound; offer = subst (λ r. IsOffer r o) (sym (grant_keeps_properties g k.sound)) k.offer }

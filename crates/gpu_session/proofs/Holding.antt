@@ -14,9 +14,9 @@ use Rattle.gpu_alloc.specs.Types.MapError.TheVariants.{AlreadyMapped, MapFailed,
 use Rattle.gpu_alloc.specs.Types.Mapping.{Mapping}
 use Rattle.gpu_alloc_base.proofs.Names.{get_put}
 use Rattle.gpu_session.specs.Books.{Books, SessionState}
-use Rattle.gpu_session.specs.Isolation.{GoesOn, HasBoth, HasOneOf, HoldsAlong, HoldsWritten, IsRefusedWrite, TellsByte, MovesNoByte, PutsBytes, TellAlong, TellsWritten, WritesBytes, device_at}
+use Rattle.gpu_session.specs.Isolation.{SeenAlongJoined, HasBoth, HasOneOf, HoldsAlong, HoldsWritten, IsRefusedWrite, TellsByte, MovesNoByte, PutsBytes, TellAlong, TellsWritten, WritesBytes, device_at}
 use Rattle.gpu_session.specs.Run.{Run, Step}
-use Rattle.gpu_session.specs.Sound.{Keeps, SoundStep}
+use Rattle.gpu_session.specs.Sound.{SoundStep, StepKeeps}
 use Rattle.gpu_session.specs.Written.{IsWrittenLast, AllLeaveByte, LeavesByte, Seen, given, is_about, mapped_after, maybe, own_after, seen_after, seen_along, surely, unseen, written}
 use Rattle.gpu_session.specs.declared.command.Command.{Command}
 use Rattle.gpu_session.specs.declared.command.Command.TheVariants.{Alloc, Dedicated, Import, Free, Map, Unmap, Write, Read, Put, Get, SetRemaining, Cleanup, FreeRanges, Counts}
@@ -112,7 +112,7 @@ module _ {D : Type 0} (objects : D → ℕ → Option Object) (old new : Session
   as_before n books moved before = still_seen f g old.books new.books n byte seen books moved before
 
   module _ {A : Type 0} (step : D → Event → D → Type 0) where
-    map_done : (n offset size : ℕ) (m : Mapping) → Step {A = A} step old (Map n offset size) (MappedTo m) new → Keeps {A = A} objects old (Map n offset size) (MappedTo m) new → Stays n (record seen { mapped_from = offset })
+    map_done : (n offset size : ℕ) (m : Mapping) → Step {A = A} step old (Map n offset size) (MappedTo m) new → StepKeeps {A = A} objects old (Map n offset size) (MappedTo m) new → Stays n (record seen { mapped_from = offset })
     map_done n offset size m s keeps before =
         let b = s.2.1.0 in
         let at = s.2.1.1 in
@@ -120,7 +120,7 @@ module _ {D : Type 0} (objects : D → ℕ → Option Object) (old new : Session
         map_seen f g old.books new.books n byte offset seen b (Some m) at (ap (λ (t : Books). finite.get t.blocks n) rest.2 ∙ get_put old.books.blocks n _)
         (λ x is. let one : m ≡ x = cc in ap (λ (y : Mapping). y.start) (sym one) ∙ ap (λ (y : Mapping). y.start) rest.1) (of_its_name old.books n b (λ x. MovesNoByte x f g) at keeps.bytes) before
 
-    unmap_done : (n : ℕ) (was : Bool) → Step {A = A} step old (Unmap n) (WasMapped was) new → Keeps {A = A} objects old (Unmap n) (WasMapped was) new → Stays n seen
+    unmap_done : (n : ℕ) (was : Bool) → Step {A = A} step old (Unmap n) (WasMapped was) new → StepKeeps {A = A} objects old (Unmap n) (WasMapped was) new → Stays n seen
     unmap_done n was s keeps before =
         let b = s.2.1.0 in
         let at = s.2.1.1 in
@@ -128,7 +128,7 @@ module _ {D : Type 0} (objects : D → ℕ → Option Object) (old new : Session
         map_seen f g old.books new.books n byte seen.mapped_from seen b None at (ap (λ (t : Books). finite.get t.blocks n) rest.2 ∙ get_put old.books.blocks n _)
         (λ x is. absurd (cc)) (of_its_name old.books n b (λ x. MovesNoByte x f g) at keeps.bytes) before
 
-    write_done : (n offset : ℕ) (bytes : List ℕ) → Step {A = A} step old (Write n offset bytes) Done new → Keeps {A = A} objects old (Write n offset bytes) Done new → Stays n (surely (given offset bytes byte) seen)
+    write_done : (n offset : ℕ) (bytes : List ℕ) → Step {A = A} step old (Write n offset bytes) Done new → StepKeeps {A = A} objects old (Write n offset bytes) Done new → Stays n (surely (given offset bytes byte) seen)
     write_done n offset bytes s keeps before =
         let b = s.2.1.0 in
         let at = s.2.1.1 in
@@ -136,32 +136,32 @@ module _ {D : Type 0} (objects : D → ℕ → Option Object) (old new : Session
         write_seen f g old.books new.books n byte seen b at rest.1 before offset bytes (not_mapped _ b.mapping rest.0.0) (range_inside (finite.get old.books.blocks n) b offset (length bytes) at s.2.0)
         (of_its_name old.books n b (λ x. WritesBytes x offset bytes f g) at keeps.bytes)
 
-    write_refused : (n offset : ℕ) (bytes : List ℕ) (e : MapError) → Step {A = A} step old (Write n offset bytes) (MapRefused e) new → Keeps {A = A} objects old (Write n offset bytes) (MapRefused e) new → Stays n (maybe (given offset bytes byte) seen)
+    write_refused : (n offset : ℕ) (bytes : List ℕ) (e : MapError) → Step {A = A} step old (Write n offset bytes) (MapRefused e) new → StepKeeps {A = A} objects old (Write n offset bytes) (MapRefused e) new → Stays n (maybe (given offset bytes byte) seen)
     write_refused n offset bytes e s keeps before =
         let b = s.2.1.0 in
         let at = s.2.1.1 in
         flush_seen f g old.books new.books n byte seen b at s.2.1.2.1 before offset bytes e (of_its_name old.books n b (λ x. IsRefusedWrite x offset bytes e f g) at keeps.bytes)
 
     unmoved : (n offset : ℕ) (bytes : List ℕ) (e : MapError) → ((cause : OutOfMemory) → e ≡ map_like_memory cause → ⊥) → Step {A = A} step old (Write n offset bytes) (MapRefused e) new
-        → Keeps {A = A} objects old (Write n offset bytes) (MapRefused e) new → Stays n seen
+        → StepKeeps {A = A} objects old (Write n offset bytes) (MapRefused e) new → Stays n seen
     unmoved n offset bytes e other s keeps before = elim keeps.bytes.2 [
       | inl moved ↦ as_before n s.2.1.2.1 moved before
       | inr failed ↦ absurd (other failed.0 failed.1)
     ]
 
-    read_done : (n offset len : ℕ) (bytes : List ℕ) → Step {A = A} step old (Read n offset len) (Bytes bytes) new → Keeps {A = A} objects old (Read n offset len) (Bytes bytes) new → Stays n seen
+    read_done : (n offset len : ℕ) (bytes : List ℕ) → Step {A = A} step old (Read n offset len) (Bytes bytes) new → StepKeeps {A = A} objects old (Read n offset len) (Bytes bytes) new → Stays n seen
     read_done n offset len bytes s keeps before =
         byte_stays f g old.books new.books n byte seen keeps.bytes.0 keeps.bytes.1 s.2.1.2.2 before (λ h. read_through keeps.bytes.0 offset bytes f g (keeps.bytes.0.offset + byte) len seen.values keeps.bytes.2 h)
 
-    read_fails : (n offset len : ℕ) (e : MapError) → Step {A = A} step old (Read n offset len) (MapRefused e) new → Keeps {A = A} objects old (Read n offset len) (MapRefused e) new → Stays n seen
+    read_fails : (n offset len : ℕ) (e : MapError) → Step {A = A} step old (Read n offset len) (MapRefused e) new → StepKeeps {A = A} objects old (Read n offset len) (MapRefused e) new → Stays n seen
     read_fails n offset len e s keeps before =
         byte_stays f g old.books new.books n byte seen keeps.bytes.0 keeps.bytes.1 s.2.1.2.1 before (λ h. read_refused keeps.bytes.0 offset [] f g (keeps.bytes.0.offset + byte) len seen.values keeps.bytes.2 h)
 
-    put_done : (n offset : ℕ) (bytes : List ℕ) → Step {A = A} step old (Put n offset bytes) Done new → Keeps {A = A} objects old (Put n offset bytes) Done new → Stays n (maybe (given (seen.mapped_from + offset) bytes byte) seen)
+    put_done : (n offset : ℕ) (bytes : List ℕ) → Step {A = A} step old (Put n offset bytes) Done new → StepKeeps {A = A} objects old (Put n offset bytes) Done new → Stays n (maybe (given (seen.mapped_from + offset) bytes byte) seen)
     put_done n offset bytes s keeps before =
         put_seen f g old.books new.books n byte seen keeps.bytes.0 keeps.bytes.1 s.2.1.2.1 before (old.books.allocator).properties offset bytes keeps.bytes.2
 
-    own_step : (command : Command A) (reply : Reply A) (name : ℕ) → is_about name command ≡ true → Step step old command reply new → Keeps objects old command reply new → Stays name (own_after byte command reply seen)
+    own_step : (command : Command A) (reply : Reply A) (name : ℕ) → is_about name command ≡ true → Step step old command reply new → StepKeeps objects old command reply new → Stays name (own_after byte command reply seen)
     own_step (Alloc n request) (Granted memory_type object offset size) name is s k before = inl refl
     own_step (Alloc n request) (Refused e) name is s k before = as_before name k.refused.0 k.refused.1 before
     own_step (Alloc n request) (Faulty fault) name is s k before = as_before name k.refused.0 k.refused.1 before
@@ -207,7 +207,7 @@ module _ {D : Type 0} (objects : D → ℕ → Option Object) (old new : Session
     own_step (FreeRanges t) reply name is s k before = absurd (cc)
     own_step Counts reply name is s k before = absurd (cc)
 
-    pub step_seen : (command : Command A) (reply : Reply A) (name : ℕ) → Step step old command reply new → Keeps objects old command reply new → Stays name (seen_after name byte command reply seen)
+    pub step_seen : (command : Command A) (reply : Reply A) (name : ℕ) → Step step old command reply new → StepKeeps objects old command reply new → Stays name (seen_after name byte command reply seen)
     step_seen command reply name s k before =
         elim (is_about name command) as (λ t. is_about name command ≡ t → IsSeen g new.books name byte (cond t (own_after byte command reply seen) seen)) [
           | true ↦ λ is. own_step command reply name is s k before
@@ -239,7 +239,7 @@ pub run_holds_along : {D A : Type 0} (step : D → Event → D → Type 0) (prop
 run_holds_along step properties objects old commands replies n mid run = run_holds step properties objects old mid (take n commands) (take n replies) run
 
 -- what is known along joined lists, where each of the first commands has its reply
-pub goes_on : {A : Type 0} (commands : List (Command A)) (replies : List (Reply A)) → length replies ≡ length commands → GoesOn commands replies
+pub goes_on : {A : Type 0} (commands : List (Command A)) (replies : List (Reply A)) → length replies ≡ length commands → SeenAlongJoined commands replies
 goes_on [] [] each later answers name byte seen = refl
 goes_on [] (r ∷ replies) each later answers name byte seen = absurd (cc)
 goes_on (c ∷ commands) [] each later answers name byte seen = absurd (cc)

@@ -9,7 +9,7 @@ use Rattle.gpu_alloc.specs.Owned.{AreTwo, IsSameBlock}
 use Rattle.gpu_alloc.specs.State.{span_of, Block, State, IsOwned}
 use Rattle.gpu_alloc_base.proofs.Names.{here, wherever, put-cases, get_put, get_put-other, one_or_two}
 use Rattle.gpu_session.specs.Offer.{IsOffer}
-use Rattle.gpu_session.specs.Sound.{IsBlock, IsSound, IsKept}
+use Rattle.gpu_session.specs.Sound.{IsBlock, IsSoundSession, IsSessionKept}
 use Rattle.gpu_session.specs.declared.offer.Offer.{Offer}
 use Rattle.gpu_session.proofs.Blocks.{live_block}
 
@@ -22,7 +22,7 @@ pub record Moves (blocks : finite.FinMap nat_cmp Block) (name : ℕ) (b now : Bl
   pub properties : q ≡ p
 
 module _ {s : State} {blocks : finite.FinMap nat_cmp Block} {name : ℕ} {b now : Block} {p q : Properties} {before after : ℕ → Option Object}
-    (m : Moves blocks name b now p before q after) (sound : IsSound p before (record { allocator = s; blocks = blocks })) where
+    (m : Moves blocks name b now p before q after) (sound : IsSoundSession p before (record { allocator = s; blocks = blocks })) where
   block_before : (n : ℕ) (c : Block) → finite.get blocks n ≡ Some c → IsBlock p s before c
   block_before n c at = here (finite.get blocks n) (IsBlock p s before) (sound.blocks n) c at
 
@@ -38,7 +38,7 @@ module _ {s : State} {blocks : finite.FinMap nat_cmp Block} {name : ℕ} {b now 
         live_block c q after (m.keeps.two c two was.agrees) s sound.allocator was.owned
   ]
 
-  pub move_is_sound : IsSound q after (record { allocator = s; blocks = finite.insert blocks name now })
+  pub move_is_sound : IsSoundSession q after (record { allocator = s; blocks = finite.insert blocks name now })
   move_is_sound = record {
     agrees = m.keeps.owner s (block_before name b m.named).owned sound.agrees;
     allocator = sound.allocator;
@@ -67,8 +67,8 @@ module _ {s : State} {blocks : finite.FinMap nat_cmp Block} {name : ℕ} {b now 
 
 -- What a session keeps, it keeps over such a call.
 pub move_is_kept : {A : Type 0} {s : State} {blocks : finite.FinMap nat_cmp Block} {name : ℕ} {b now : Block} {p q : Properties} {before after : ℕ → Option Object} {o : Offer A}
-    → IsKept p before (record { allocator = s; blocks = blocks }) o → Moves blocks name b now p before q after
-    → IsKept q after (record { allocator = s; blocks = finite.insert blocks name now }) o
+    → IsSessionKept p before (record { allocator = s; blocks = blocks }) o → Moves blocks name b now p before q after
+    → IsSessionKept q after (record { allocator = s; blocks = finite.insert blocks name now }) o
 move_is_kept {o = o} k m = record { sound = move_is_sound m k.sound; offer = subst (λ t. IsOffer t o) (sym m.properties) k.offer }
 
 -- The device was called beside the allocator's and the blocks' calls, and all agree with it as before.
@@ -78,7 +78,7 @@ pub record Agreed (s : State) (p : Properties) (before : ℕ → Option Object) 
 
 -- What a session keeps, it keeps over such a call.
 pub agreed_is_kept : {A : Type 0} {s : State} {blocks : finite.FinMap nat_cmp Block} {p q : Properties} {before after : ℕ → Option Object} {o : Offer A}
-    → IsKept p before (record { allocator = s; blocks = blocks }) o → Agreed s p before q after → IsKept q after (record { allocator = s; blocks = blocks }) o
+    → IsSessionKept p before (record { allocator = s; blocks = blocks }) o → Agreed s p before q after → IsSessionKept q after (record { allocator = s; blocks = blocks }) o
 agreed_is_kept {s = s} {blocks = blocks} {p = p} {q = q} {before = before} {after = after} {o = o} k agreed =
     let sound = k.sound in
     let agrees = agreed.allocator sound.agrees in

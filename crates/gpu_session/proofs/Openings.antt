@@ -13,7 +13,7 @@ use Rattle.gpu_alloc.specs.State.{Span, span_cmp, Block}
 use Rattle.gpu_alloc.specs.Types.Config.{Config}
 use Rattle.gpu_alloc_base.proofs.Names.{wherever}
 use Rattle.gpu_session.specs.Offer.{IsOffer}
-use Rattle.gpu_session.specs.Sound.{AreWholeObjects, IsKept}
+use Rattle.gpu_session.specs.Sound.{AreWholeObjects, IsSessionKept}
 use Rattle.gpu_session.specs.declared.offer.Offer.{Offer}
 
 none_at : {X : Type 0} (P : ℕ → X → Type 0) (q : ℕ) → IfSome (finite.get (finite.empty {X = X} {R = nat_cmp}) q) (P q)
@@ -23,7 +23,7 @@ none_live : (span : Span) → set.contains (set.empty {R = span_cmp}) span ≢ t
 none_live span live = let none = set.contains-empty span_cmp span in let differ : false ≡ true = sym none ∙ live in cc
 
 pub opening_is_kept : {A : Type 0} (sharing : Sharing) (c : Config) (p : Properties) (objects : ℕ → Option Object) (o : Offer A) → IsOffer p o → allocator.IsSound (opened_by sharing c p)
-    → IsKept p objects (record { allocator = opened_by sharing c p; blocks = finite.empty }) o
+    → IsSessionKept p objects (record { allocator = opened_by sharing c p; blocks = finite.empty }) o
 opening_is_kept sharing c p objects o offer sound = record {
   sound = record {
     agrees = record { properties = refl; holds = none_at _ };

@@ -18,7 +18,7 @@ use Rattle.gpu_alloc_base.proofs.Names.{get_put-other, here}
 use Rattle.gpu_alloc_block.specs.Contents.{HasSameBytes}
 use Rattle.gpu_alloc_block.proofs.Contents.{change_leaves, outside_data}
 use Rattle.gpu_session.specs.Isolation.{AreSame, IsRefusedRead, IsRefusedWrite, MovesNoByte, host_at, device_at}
-use Rattle.gpu_session.specs.Sound.{IsBlock, IsSound}
+use Rattle.gpu_session.specs.Sound.{IsBlock, IsSoundSession}
 
 -- the bytes of a block are as before
 abbrev pub IsUntouched : (old new : ℕ → Option Object) → Block → Type 0
@@ -54,7 +54,7 @@ unfolding HasSameBytes
 untouched_bytes f g b same = same
 
 -- the object of a block that has a name
-pub its_object : {p : Properties} {objects : ℕ → Option Object} {s : State} {blocks : finite.FinMap nat_cmp Block} → IsSound p objects (record { allocator = s; blocks = blocks }) → (name : ℕ) (b : Block) → finite.get blocks name ≡ Some b → (o : Object) × (objects b.object ≡ Some o)
+pub its_object : {p : Properties} {objects : ℕ → Option Object} {s : State} {blocks : finite.FinMap nat_cmp Block} → IsSoundSession p objects (record { allocator = s; blocks = blocks }) → (name : ℕ) (b : Block) → finite.get blocks name ≡ Some b → (o : Object) × (objects b.object ≡ Some o)
 its_object {p = p} {objects = objects} {s = s} {blocks = blocks} sound name b at =
     let inside = (here (finite.get blocks name) (IsBlock p s objects) (sound.blocks name) b at).inside in
     (inside.0, inside.1)

@@ -11,7 +11,7 @@ use Rattle.gpu_alloc.specs.State.{span_of, Block, HeldObject, Span, State, IsLiv
 use Rattle.gpu_alloc_block.proofs.LiveSpans.{live_other}
 use Rattle.gpu_alloc_base.proofs.Names.{here, wherever, removed-cases, get_removed-other}
 use Rattle.gpu_session.specs.Offer.{IsOffer}
-use Rattle.gpu_session.specs.Sound.{HoldsNothing, IsBlock, IsSound, IsKept}
+use Rattle.gpu_session.specs.Sound.{HoldsNothingAfter, IsBlock, IsSoundSession, IsSessionKept}
 use Rattle.gpu_session.specs.declared.offer.Offer.{Offer}
 use Rattle.gpu_session.proofs.Blocks.{live_block}
 
@@ -29,7 +29,7 @@ pub record Returns (s : State) (blocks : finite.FinMap nat_cmp Block) (name : �
   pub agrees : Agrees new q after
 
 module _ {s : State} {blocks : finite.FinMap nat_cmp Block} {name : ℕ} {b : Block} {new : State} {p q : Properties} {before after : ℕ → Option Object}
-    (r : Returns s blocks name b new p before q after) (sound : IsSound p before (record { allocator = s; blocks = blocks })) where
+    (r : Returns s blocks name b new p before q after) (sound : IsSoundSession p before (record { allocator = s; blocks = blocks })) where
   -- a block under another name is live as before
   block_still : (n : ℕ) (c : Block) → n ≢ name → finite.get blocks n ≡ Some c → IsBlock q new after c
   block_still n c ne at =
@@ -37,7 +37,7 @@ module _ {s : State} {blocks : finite.FinMap nat_cmp Block} {name : ℕ} {b : Bl
       let owned = r.removes.owned c was.owned (sound.apart n name c b ne at r.named).differ in
       live_block c q after (kept_block s new p q before after c r.keeps was.owned owned was.agrees) new r.sound owned
 
-  pub return_is_sound : IsSound q after (record { allocator = new; blocks = finite.remove blocks name })
+  pub return_is_sound : IsSoundSession q after (record { allocator = new; blocks = finite.remove blocks name })
   return_is_sound = record {
     agrees = r.agrees;
     allocator = r.sound;
@@ -59,8 +59,8 @@ module _ {s : State} {blocks : finite.FinMap nat_cmp Block} {name : ℕ} {b : Bl
 
 -- What a session keeps, it keeps over a return.
 pub return_is_kept : {A : Type 0} {s : State} {blocks : finite.FinMap nat_cmp Block} {name : ℕ} {b : Block} {new : State} {p q : Properties} {before after : ℕ → Option Object} {o : Offer A}
-    → IsKept p before (record { allocator = s; blocks = blocks }) o → Returns s blocks name b new p before q after
-    → IsKept q after (record { allocator = new; blocks = finite.remove blocks name }) o
+    → IsSessionKept p before (record { allocator = s; blocks = blocks }) o → Returns s blocks name b new p before q after
+    → IsSessionKept q after (record { allocator = new; blocks = finite.remove blocks name }) o
 return_is_kept {o = o} k r = record { sound = return_is_sound r k.sound; offer = subst (λ t. IsOffer t o) (sym (return_keeps_properties r k.sound)) k.offer }
 
 -- Chunks without a live block went.
@@ -72,8 +72,8 @@ pub record Cleans (s new : State) (p : Properties) (before : ℕ → Option Obje
   pub agrees : Agrees new q after
 
 module _ {s : State} {blocks : finite.FinMap nat_cmp Block} {new : State} {p q : Properties} {before after : ℕ → Option Object}
-    (r : Cleans s new p before q after) (sound : IsSound p before (record { allocator = s; blocks = blocks })) where
-  cleanup_is_sound : IsSound q after (record { allocator = new; blocks = blocks })
+    (r : Cleans s new p before q after) (sound : IsSoundSession p before (record { allocator = s; blocks = blocks })) where
+  cleanup_is_sound : IsSoundSession q after (record { allocator = new; blocks = blocks })
   cleanup_is_sound = record {
     agrees = r.agrees;
     allocator = r.sound;
@@ -87,15 +87,15 @@ module _ {s : State} {blocks : finite.FinMap nat_cmp Block} {new : State} {p q :
 
 -- What a session keeps, it keeps over a cleanup.
 pub cleanup_is_kept : {A : Type 0} {s : State} {blocks : finite.FinMap nat_cmp Block} {new : State} {p q : Properties} {before after : ℕ → Option Object} {o : Offer A}
-    → IsKept p before (record { allocator = s; blocks = blocks }) o → Cleans s new p before q after
-    → IsKept q after (record { allocator = new; blocks = blocks }) o
+    → IsSessionKept p before (record { allocator = s; blocks = blocks }) o → Cleans s new p before q after
+    → IsSessionKept q after (record { allocator = new; blocks = blocks }) o
 cleanup_is_kept {o = o} k r = record {
   sound = cleanup_is_sound r k.sound;
   offer = subst (λ t. IsOffer t o) (sym (r.agrees.properties ∙ r.leaves.properties ∙ sym k.sound.agrees.properties)) k.offer;
 }
 
 -- with no block under any name, nothing is live
-pub nothing_live : {p : Properties} {objects : ℕ → Option Object} {s : State} {blocks : finite.FinMap nat_cmp Block} → IsSound p objects (record { allocator = s; blocks = blocks }) → blocks ≡ finite.empty → (span : Span) → IsLive s span → ⊥
+pub nothing_live : {p : Properties} {objects : ℕ → Option Object} {s : State} {blocks : finite.FinMap nat_cmp Block} → IsSoundSession p objects (record { allocator = s; blocks = blocks }) → blocks ≡ finite.empty → (span : Span) → IsLive s span → ⊥
 nothing_live sound empty span live =
     let f = sound.named span live in
     let none = ap (λ (m : finite.FinMap nat_cmp Block). finite.get m f.0) empty ∙ finite.get-empty {X = Block} nat_cmp f.0 in
@@ -103,7 +103,7 @@ nothing_live sound empty span live =
     absurd (cc)
 
 -- where nothing is held, what remains is the total
-pub nothing_held : (s new : State) → total new ≡ total s → new.held ≡ finite.empty → ((heap : ℕ) → ledger new heap ≡ 0) → HoldsNothing s new
+pub nothing_held : (s new : State) → total new ≡ total s → new.held ≡ finite.empty → ((heap : ℕ) → ledger new heap ≡ 0) → HoldsNothingAfter s new
 nothing_held s new same empty ledgers =
     let none : finite.len new.held ≡ 0 = ap (λ (m : finite.FinMap nat_cmp HeldObject). finite.len m) empty ∙ finite.len-empty nat_cmp HeldObject in
     record { held = empty; remaining = omega (arith, none, same); ledgers = ledgers }

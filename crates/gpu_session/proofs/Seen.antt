@@ -7,7 +7,7 @@ use Rattle.gpu_alloc_types.specs.Device.{Changes, IsCopied, IsOutside, IsPut, Is
 use Rattle.gpu_alloc_types.specs.Objects.{put-same}
 use Rattle.gpu_alloc_types.specs.Properties.{Properties, is_coherent}
 use Rattle.gpu_alloc.specs.Bytes.{ChangesBytes, IsPartlyRead, IsPartlyWritten, IsReadThrough, IsWrittenThrough}
-use Rattle.gpu_alloc.specs.Ranges.{HasAll, rounded}
+use Rattle.gpu_alloc.specs.Ranges.{HasAll, rounded_range}
 use Rattle.gpu_alloc.specs.State.{Block}
 use Rattle.gpu_alloc.specs.Types.Mapping.{Mapping}
 use Rattle.gpu_session.specs.Books.{Books, OfBlock}
@@ -176,7 +176,7 @@ module _ (b : Block) (offset : ℕ) (bytes : List ℕ) (f g : ℕ → Option Obj
         (host, one_of values _ _ _ (copied _ _ new.host_bytes o.device_bytes new.device_bytes k w.device) both.1 host)) h
   ]
 
-  pub write_here : (v : ℕ) → IsGiven (b.offset + offset) bytes k v → HasAll (rounded b offset (length bytes)) (b.offset + offset) (length bytes) → ChangesBytes b (length bytes) (IsWrittenThrough b offset bytes) f g
+  pub write_here : (v : ℕ) → IsGiven (b.offset + offset) bytes k v → HasAll (rounded_range b offset (length bytes)) (b.offset + offset) (length bytes) → ChangesBytes b (length bytes) (IsWrittenThrough b offset bytes) f g
       → HasBoth (v ∷ []) (g b.object) k
   write_here v at all c =
       let place = at.1 in
@@ -215,7 +215,7 @@ module _ (b : Block) (offset : ℕ) (bytes : List ℕ) (f g : ℕ → Option Obj
   pub read_refused : (len : ℕ) (values : List ℕ) → IsRefusedRead b offset len f g → HasBoth values (f b.object) k → HasBoth values (g b.object) k
   read_refused len values (inl same) h = unchanged f g b.object k values same h
   read_refused len values (inr c) h =
-      changed (IsPartlyRead (rounded b offset len)) f g b.object k values values c (λ o new w both. (
+      changed (IsPartlyRead (rounded_range b offset len)) f g b.object k values values c (λ o new w both. (
         one_of values _ _ _ (w.host.inside k) both.0 both.1,
         along values _ _ (ap (λ xs. slice_get xs k) w.device) both.1,
       )) h

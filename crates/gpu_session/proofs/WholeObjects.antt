@@ -4,7 +4,7 @@ use Rattle.std.specs.FinMap as finite
 use Rattle.std.specs.Ordering.{nat_cmp}
 use Rattle.gpu_alloc_types.specs.Device.{Event, Object}
 use Rattle.gpu_alloc_types.specs.Properties.{Properties}
-use Rattle.gpu_alloc.specs.Agreement.{IsCounted}
+use Rattle.gpu_alloc.specs.Agreement.{IsCountedFor}
 use Rattle.gpu_alloc.specs.Sound.{LiesIn}
 use Rattle.gpu_alloc.specs.State.{Span, span_of, HeldObject, Block, State, is_shared}
 use Rattle.gpu_alloc.specs.Types.Kind.{Kind}
@@ -12,9 +12,9 @@ use Rattle.gpu_alloc.specs.Types.Kind.TheVariants.{Dedicated as DedicatedObject}
 use Rattle.gpu_alloc_base.proofs.Maps.{one_value}
 use Rattle.gpu_alloc_base.proofs.Names.{get_put, here, wherever, put-cases, removed-cases}
 use Rattle.gpu_session.specs.Books.{Books, SessionState, with_block}
-use Rattle.gpu_session.specs.Does.{Does, Serves}
+use Rattle.gpu_session.specs.Does.{Does, ServesCommand}
 use Rattle.gpu_session.specs.Run.{Run}
-use Rattle.gpu_session.specs.Sound.{IsBlock, IsSound, AreWholeObjects, GrantsAsAsked, SoundStep, IsForRequired}
+use Rattle.gpu_session.specs.Sound.{IsBlock, IsSoundSession, AreWholeObjects, GrantsAsAsked, SoundStep, IsForRequired}
 use Rattle.gpu_session.specs.declared.command.Command.{Command}
 use Rattle.gpu_session.specs.declared.command.Command.TheVariants.{Alloc, Dedicated, Import, Free, Map, Unmap, Write, Read, Put, Get, SetRemaining, Cleanup, FreeRanges, Counts}
 use Rattle.gpu_session.specs.declared.command.Reply.{Reply}
@@ -26,13 +26,13 @@ AreOwn s = (name : ℕ) → IfSome (finite.get s.blocks name) (λ b. b.kind ≡ 
 
 -- In a sound state such blocks are whole objects.
 
-lies_whole : (k : Kind) (s : State) (name counted : ℕ) (span : Span) (o : Object) → k ≡ DedicatedObject → LiesIn k counted span → IsCounted k s name counted o → (span.offset ≡ 0) × (o.size ≡ span.size)
+lies_whole : (k : Kind) (s : State) (name counted : ℕ) (span : Span) (o : Object) → k ≡ DedicatedObject → LiesIn k counted span → IsCountedFor k s name counted o → (span.offset ≡ 0) × (o.size ≡ span.size)
 lies_whole k s name counted span o is lies count =
     let whole : LiesIn DedicatedObject counted span = subst (λ (x : Kind). LiesIn x counted span) is lies in
-    let counts : IsCounted DedicatedObject s name counted o = subst (λ (x : Kind). IsCounted x s name counted o) is count in
+    let counts : IsCountedFor DedicatedObject s name counted o = subst (λ (x : Kind). IsCountedFor x s name counted o) is count in
     (whole.0, counts ∙ sym whole.1)
 
-module _ {p : Properties} {objects : ℕ → Option Object} {s : Books} (sound : IsSound p objects s) where
+module _ {p : Properties} {objects : ℕ → Option Object} {s : Books} (sound : IsSoundSession p objects s) where
   block_at : (name : ℕ) (b : Block) → finite.get s.blocks name ≡ Some b → IsBlock p s.allocator objects b
   block_at name b at = here (finite.get s.blocks name) (IsBlock p s.allocator objects) (sound.blocks name) b at
 
@@ -79,7 +79,7 @@ own_books : (old new : Books) → new ≡ old → AreOwn old → AreOwn new
 own_books old new same own = own_same old new (ap (λ (b : Books). b.blocks) same) own
 
 module _ {A : Type 0} (old : Books) (own : AreOwn old) (es : List Event) where
-  serves_own : (command : Command A) (reply : Reply A) (new : Books) → IsForRequired command → GrantsAsAsked old command reply new → Serves old command es reply new → AreOwn new
+  serves_own : (command : Command A) (reply : Reply A) (new : Books) → IsForRequired command → GrantsAsAsked old command reply new → ServesCommand old command es reply new → AreOwn new
   serves_own (Alloc name request) reply new required granted served = absurd required
   serves_own (Dedicated name request dedicated) (Granted memory_type object offset size) new required granted served =
       let at = ap (λ (m : finite.FinMap nat_cmp Block). finite.get m name) served.3 ∙ get_put old.blocks name served.0 in

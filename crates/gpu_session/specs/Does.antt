@@ -16,7 +16,7 @@ use Rattle.gpu_alloc.specs.Importing.{Imports}
 use Rattle.gpu_alloc.specs.Mapped.{AsksToMap, IsMapRefused, mapping_of, refusal, unmapping}
 use Rattle.gpu_alloc.specs.NewChunk.{flags_of}
 use Rattle.gpu_alloc.specs.RangeOrder.{AreInOrder}
-use Rattle.gpu_alloc.specs.Ranges.{rounded}
+use Rattle.gpu_alloc.specs.Ranges.{rounded_range}
 use Rattle.gpu_alloc.specs.Release.{Cleans, Frees}
 use Rattle.gpu_alloc.specs.State.{Block, State, ledger}
 use Rattle.gpu_alloc.specs.Types.AllocationError.{AllocationError}
@@ -81,71 +81,71 @@ pub record IsEachFreeRange (s : State) (t : ℕ) (ranges : List FreeRange) : Typ
   pub order : AreInOrder ranges
 
 -- What happens where no fault is answered.
-abbrev pub Serves : {A : Type 0} → Books → Command A → List Event → Reply A → Books → Type 0
-Serves old (Alloc name request) es (Granted memory_type object offset size) new =
+abbrev pub ServesCommand : {A : Type 0} → Books → Command A → List Event → Reply A → Books → Type 0
+ServesCommand old (Alloc name request) es (Granted memory_type object offset size) new =
     GivesBlock old name (λ b after. Allocates old.allocator request None es (Ok b) after) memory_type object offset size
     new
-Serves old (Alloc name request) es (Refused e) new =
+ServesCommand old (Alloc name request) es (Refused e) new =
     Allocates old.allocator request None es (Err e) new.allocator × (new.blocks ≡ old.blocks)
-Serves old (Alloc name request) es reply new = ⊥
-Serves old (Dedicated name request dedicated) es (Granted memory_type object offset size) new =
+ServesCommand old (Alloc name request) es reply new = ⊥
+ServesCommand old (Dedicated name request dedicated) es (Granted memory_type object offset size) new =
     GivesBlock old name (λ b after. Allocates old.allocator request (Some dedicated) es (Ok b) after) memory_type object
     offset size new
-Serves old (Dedicated name request dedicated) es (Refused e) new =
+ServesCommand old (Dedicated name request dedicated) es (Refused e) new =
     Allocates old.allocator request (Some dedicated) es (Err e) new.allocator × (new.blocks ≡ old.blocks)
-Serves old (Dedicated name request dedicated) es reply new = ⊥
-Serves old (Import name t object_size start len) es (Granted memory_type object offset size) new =
+ServesCommand old (Dedicated name request dedicated) es reply new = ⊥
+ServesCommand old (Import name t object_size start len) es (Granted memory_type object offset size) new =
     GivesBlock old name (ImportsNew old.allocator t object_size start len es) memory_type object offset size new
-Serves old (Import name t object_size start len) es (Refused e) new =
+ServesCommand old (Import name t object_size start len) es (Refused e) new =
     RefusesObject old.allocator t object_size e es × (new ≡ old)
-Serves old (Import name t object_size start len) es reply new = ⊥
-Serves old (Free name) es Done new =
+ServesCommand old (Import name t object_size start len) es reply new = ⊥
+ServesCommand old (Free name) es Done new =
     OfBlock old name (λ b. Frees old.allocator b es new.allocator × (new.blocks ≡ map.remove old.blocks name))
-Serves old (Free name) es reply new = ⊥
-Serves old (Map name offset size) es (MappedTo mapping) new =
+ServesCommand old (Free name) es reply new = ⊥
+ServesCommand old (Map name offset size) es (MappedTo mapping) new =
     OfBlock old name (λ b. AsksToMap b offset size (Ok mapping) es × (mapping ≡ mapping_of b offset size)
     × (new ≡ with_block old name (record b { mapping = Some mapping })))
-Serves old (Map name offset size) es (MapRefused e) new =
+ServesCommand old (Map name offset size) es (MapRefused e) new =
     OfBlock old name (λ b. AsksToMap b offset size (Err e) es × (new ≡ old))
-Serves old (Map name offset size) es reply new = ⊥
-Serves old (Unmap name) es (WasMapped was) new =
+ServesCommand old (Map name offset size) es reply new = ⊥
+ServesCommand old (Unmap name) es (WasMapped was) new =
     OfBlock old name (λ b. (was ≡ is_some b.mapping) × (es ≡ unmapping b)
     × (new ≡ with_block old name (record b { mapping = None })))
-Serves old (Unmap name) es reply new = ⊥
-Serves old (Write name offset bytes) es Done new = OfBlock old name (λ b. AsksToWrite b offset bytes es × (new ≡ old))
-Serves old (Write name offset bytes) es (MapRefused e) new =
-    OfBlock old name (λ b. EndsEarly b (rounded b offset (length bytes)) (length bytes) (flush_fails b offset bytes) e es
+ServesCommand old (Unmap name) es reply new = ⊥
+ServesCommand old (Write name offset bytes) es Done new = OfBlock old name (λ b. AsksToWrite b offset bytes es × (new ≡ old))
+ServesCommand old (Write name offset bytes) es (MapRefused e) new =
+    OfBlock old name (λ b. EndsEarly b (rounded_range b offset (length bytes)) (length bytes) (flush_fails b offset bytes) e es
     × (new ≡ old))
-Serves old (Write name offset bytes) es reply new = ⊥
-Serves old (Read name offset len) es (Bytes bytes) new =
+ServesCommand old (Write name offset bytes) es reply new = ⊥
+ServesCommand old (Read name offset len) es (Bytes bytes) new =
     OfBlock old name (λ b. (length bytes ≡ len) × AsksToRead b offset bytes es × (new ≡ old))
-Serves old (Read name offset len) es (MapRefused e) new =
-    OfBlock old name (λ b. EndsEarly b (rounded b offset len) len (invalidate_fails (rounded b offset len)) e es
+ServesCommand old (Read name offset len) es (MapRefused e) new =
+    OfBlock old name (λ b. EndsEarly b (rounded_range b offset len) len (invalidate_fails (rounded_range b offset len)) e es
     × (new ≡ old))
-Serves old (Read name offset len) es reply new = ⊥
-Serves old (Put name offset bytes) es Done new =
+ServesCommand old (Read name offset len) es reply new = ⊥
+ServesCommand old (Put name offset bytes) es Done new =
     OfBlock old name (λ b. InMapping b (length bytes) (λ m. BytesPut b.object (m.start + offset) bytes) es × (new ≡ old))
-Serves old (Put name offset bytes) es reply new = ⊥
-Serves old (Get name offset len) es (Bytes bytes) new =
+ServesCommand old (Put name offset bytes) es reply new = ⊥
+ServesCommand old (Get name offset len) es (Bytes bytes) new =
     OfBlock old name (λ b. (length bytes ≡ len)
     × InMapping b len (λ m. BytesGot b.object (m.start + offset) bytes) es × (new ≡ old))
-Serves old (Get name offset len) es reply new = ⊥
-Serves old (SetRemaining remaining) es Done new =
+ServesCommand old (Get name offset len) es reply new = ⊥
+ServesCommand old (SetRemaining remaining) es Done new =
     (es ≡ []) × (new ≡ record old { allocator = record (old.allocator) { remaining = remaining } })
-Serves old (SetRemaining remaining) es reply new = ⊥
-Serves old Cleanup es Done new = Cleans old.allocator es new.allocator × (new.blocks ≡ old.blocks)
-Serves old Cleanup es reply new = ⊥
-Serves old (FreeRanges t) es (Ranges ranges) new =
+ServesCommand old (SetRemaining remaining) es reply new = ⊥
+ServesCommand old Cleanup es Done new = Cleans old.allocator es new.allocator × (new.blocks ≡ old.blocks)
+ServesCommand old Cleanup es reply new = ⊥
+ServesCommand old (FreeRanges t) es (Ranges ranges) new =
     (es ≡ []) × (new ≡ old) × IsEachFreeRange old.allocator t ranges
-Serves old (FreeRanges t) es reply new = ⊥
-Serves old Counts es (Counted remaining held used) new =
+ServesCommand old (FreeRanges t) es reply new = ⊥
+ServesCommand old Counts es (Counted remaining held used) new =
     (es ≡ []) × (new ≡ old)
     × (remaining ≡ (old.allocator).remaining) × (held ≡ map.len (old.allocator).held) × IsEachLedger old.allocator used
-Serves old Counts es reply new = ⊥
+ServesCommand old Counts es reply new = ⊥
 
 -- an object that was made for an import is released
-abbrev pub GivesObjectBack : Properties → (memory_type object_size : ℕ) → List Event → Type 0
-GivesObjectBack p t object_size es =
+abbrev pub LetsObjectGo : Properties → (memory_type object_size : ℕ) → List Event → Type 0
+LetsObjectGo p t object_size es =
     (object : ℕ) × (es ≡ object_asked p t object_size (Ok object) ∷ Deallocated object ∷ [])
 
 -- What a command that then finds no host memory asks of the device: nothing, except that an import may have made its
@@ -154,7 +154,7 @@ abbrev pub AsksInVain : {A : Type 0} → Books → Command A → List Event → 
 AsksInVain old (Alloc name request) es = es ≡ []
 AsksInVain old (Dedicated name request dedicated) es = es ≡ []
 AsksInVain old (Import name t object_size offset size) es =
-    (es ≡ []) ⊎ GivesObjectBack old.allocator.properties t object_size es
+    (es ≡ []) ⊎ LetsObjectGo old.allocator.properties t object_size es
 AsksInVain old (Free name) es = es ≡ []
 AsksInVain old (Map name offset size) es = es ≡ []
 AsksInVain old (Unmap name) es = es ≡ []
@@ -177,4 +177,4 @@ Faults old command es fault new =
 
 abbrev pub Does : {A : Type 0} → Books → Command A → List Event → Reply A → Books → Type 0
 Does old command es (Faulty fault) new = Faults old command es fault new
-Does old command es reply new = (first_fault old command ≡ None) × Serves old command es reply new
+Does old command es reply new = (first_fault old command ≡ None) × ServesCommand old command es reply new

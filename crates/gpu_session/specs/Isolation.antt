@@ -8,7 +8,7 @@ use Rattle.gpu_alloc_types.specs.declared.types.OutOfMemory.{OutOfMemory}
 use Rattle.gpu_alloc.specs.Bytes.{ChangesBytes, IsWrittenThrough, IsPartlyWritten, IsReadThrough, IsPartlyRead}
 pub use Rattle.gpu_alloc.specs.Contents.{host_at, device_at, AreSame}
 use Rattle.gpu_alloc.specs.Errors.{map_like_memory}
-use Rattle.gpu_alloc.specs.Ranges.{HasAll, rounded}
+use Rattle.gpu_alloc.specs.Ranges.{HasAll, rounded_range}
 use Rattle.gpu_alloc.specs.State.{Block}
 use Rattle.gpu_alloc.specs.Types.MapError.{MapError}
 use Rattle.gpu_alloc.specs.Types.Mapping.{Mapping}
@@ -34,7 +34,7 @@ LeavesOthers objects old command new_objects new =
 -- host and device both have the bytes, and agree on all that is flushed with them
 pub record WritesBytes (b : Block) (offset : ℕ) (bytes : List ℕ) (old new : ℕ → Option Object) : Type 0 where
   pub through : ChangesBytes b (length bytes) (IsWrittenThrough b offset bytes) old new
-  pub all : HasAll (rounded b offset (length bytes)) (b.offset + offset) (length bytes)
+  pub all : HasAll (rounded_range b offset (length bytes)) (b.offset + offset) (length bytes)
 
 -- a refused write moved no byte, or the device had no memory for the flush
 abbrev pub IsRefusedWrite : Block → ℕ → List ℕ → MapError → (old new : ℕ → Option Object) → Type 0
@@ -45,7 +45,7 @@ IsRefusedWrite b offset bytes e old new =
 
 -- a refused read moved no byte, or part of the device's bytes to the host
 abbrev pub IsRefusedRead : Block → (offset len : ℕ) → (old new : ℕ → Option Object) → Type 0
-IsRefusedRead b offset len old new = (new ≡ old) ⊎ Changes (IsPartlyRead (rounded b offset len)) old b.object new
+IsRefusedRead b offset len old new = (new ≡ old) ⊎ Changes (IsPartlyRead (rounded_range b offset len)) old b.object new
 
 -- some bytes are put, in the block's mapping
 abbrev pub PutsBytes : Properties → Block → ℕ → List ℕ → (old new : ℕ → Option Object) → Type 0
@@ -127,8 +127,8 @@ TellAlong {A} commands replies =
     → TellsWritten (take n commands) (take n replies) command reply
 
 -- What is known of a byte along joined lists is what the later ones make of what the earlier ones left.
-abbrev pub GoesOn : {A : Type 0} → List (Command A) → List (Reply A) → Type 0
-GoesOn {A} commands replies =
+abbrev pub SeenAlongJoined : {A : Type 0} → List (Command A) → List (Reply A) → Type 0
+SeenAlongJoined {A} commands replies =
     (later : List (Command A)) (answers : List (Reply A)) (name byte : ℕ) (seen : Seen)
     → seen_along name byte (commands ++ later) (replies ++ answers) seen
     ≡ seen_along name byte later answers (seen_along name byte commands replies seen)

@@ -40,7 +40,7 @@ pub record IsBlock (p : Properties) (s : State) (objects : ℕ → Option Object
 
 -- Live blocks share no memory: allocator and device agree, and the allocator is sound. Each named block is a live span
 -- of a held object, no two share a byte (nor an object where one of them has its own), and nothing else is live.
-pub record IsSound (p : Properties) (objects : ℕ → Option Object) (s : Books) : Type 0 where
+pub record IsSoundSession (p : Properties) (objects : ℕ → Option Object) (s : Books) : Type 0 where
   pub agrees : Agrees s.allocator p objects
   pub allocator : allocator.IsSound s.allocator
   pub blocks : (name : ℕ) → IfSome (finite.get s.blocks name) (IsBlock p s.allocator objects)
@@ -49,8 +49,8 @@ pub record IsSound (p : Properties) (objects : ℕ → Option Object) (s : Books
   pub named : (span : Span) → IsLive s.allocator span → (name : ℕ) × OfBlock s name (λ b. span_of b ≡ span)
 
 -- the invariants of a session's fields
-pub record IsKept {A : Type 0} (p : Properties) (objects : ℕ → Option Object) (s : Books) (o : Offer A) : Type 0 where
-  pub sound : IsSound p objects s
+pub record IsSessionKept {A : Type 0} (p : Properties) (objects : ℕ → Option Object) (s : Books) (o : Offer A) : Type 0 where
+  pub sound : IsSoundSession p objects s
   pub offer : IsOffer p o
 
 -- What each step keeps.
@@ -81,7 +81,7 @@ ChangesNothing objects old (Faulty fault) new_objects new = (new ≡ old) × (ne
 ChangesNothing objects old reply new_objects new = Unit {0}
 
 -- nothing is held, and the whole total may be held again
-pub record HoldsNothing (s new : State) : Type 0 where
+pub record HoldsNothingAfter (s new : State) : Type 0 where
   pub held : new.held ≡ finite.empty
   pub remaining : new.remaining ≡ total s
   pub ledgers : (heap : ℕ) → ledger new heap ≡ 0
@@ -90,11 +90,11 @@ pub record HoldsNothing (s new : State) : Type 0 where
 abbrev pub Balances : {A : Type 0} → Books → Command A → Books → Type 0
 Balances old (SetRemaining remaining) new = Unit {0}
 Balances old Cleanup new =
-    (total new.allocator ≡ total old.allocator) × (old.blocks ≡ finite.empty → HoldsNothing old.allocator new.allocator)
+    (total new.allocator ≡ total old.allocator) × (old.blocks ≡ finite.empty → HoldsNothingAfter old.allocator new.allocator)
 Balances old command new = total new.allocator ≡ total old.allocator
 
 -- What each step keeps.
-pub record Keeps {D A : Type 0} (objects : D → ℕ → Option Object) (old : SessionState D) (command : Command A)
+pub record StepKeeps {D A : Type 0} (objects : D → ℕ → Option Object) (old : SessionState D) (command : Command A)
     (reply : Reply A) (new : SessionState D) : Type 0 where
   pub given : KeepsGiven (old.books).allocator (new.books).allocator
   pub granted : GrantsAsAsked old.books command reply new.books
@@ -107,10 +107,10 @@ pub record Keeps {D A : Type 0} (objects : D → ℕ → Option Object) (old : S
 pub record SoundStep {D A : Type 0} (step : D → Event → D → Type 0) (properties : D → Properties)
     (objects : D → ℕ → Option Object) (old : SessionState D) (command : Command A) (reply : Reply A)
     (new : SessionState D) : Type 0 where
-  pub before : IsSound (properties old.device) (objects old.device) old.books
+  pub before : IsSoundSession (properties old.device) (objects old.device) old.books
   pub taken : Step step old command reply new
-  pub keeps : Keeps objects old command reply new
-  pub after : IsSound (properties new.device) (objects new.device) new.books
+  pub keeps : StepKeeps objects old command reply new
+  pub after : IsSoundSession (properties new.device) (objects new.device) new.books
 
 -- Special runs, and the end.
 
@@ -121,7 +121,7 @@ LeavesRemaining command = Unit {0}
 
 -- if no name has a block, nothing is held
 abbrev pub HasNothingLeft : Books → Type 0
-HasNothingLeft s = s.blocks ≡ finite.empty → HoldsNothing s.allocator s.allocator
+HasNothingLeft s = s.blocks ≡ finite.empty → HoldsNothingAfter s.allocator s.allocator
 
 -- Each live block is the whole of an object, and no two are of one object.
 pub record AreWholeObjects (objects : ℕ → Option Object) (s : Books) : Type 0 where

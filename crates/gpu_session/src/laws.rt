@@ -5,7 +5,7 @@ ghost use Rattle.gpu_alloc.specs.Request.{IsAskable};
 ghost use Rattle.gpu_alloc.specs.State.{total};
 ghost use Rattle.gpu_alloc.specs.declared.request.Request.{Request};
 ghost use Rattle.gpu_session.specs.Faults.{fault_of_request};
-ghost use Rattle.gpu_session.specs.Isolation.{GoesOn, HoldsWritten, TellAlong, TellsWritten};
+ghost use Rattle.gpu_session.specs.Isolation.{HoldsWritten, SeenAlongJoined, TellAlong, TellsWritten};
 ghost use Rattle.gpu_session.specs.Run.{Step, Run, Joins, EachRun, EachNext, EndsWithCleanup};
 ghost use Rattle.gpu_session.specs.Sound.{SoundStep, LeavesRemaining, HasNothingLeft, HasWholeObjects, IsForRequired};
 ghost use Rattle.gpu_session.specs.Written.{IsWrittenLast, written};
@@ -23,7 +23,7 @@ pub fn runs_join<M: MemoryObject, D: MemoryDevice<M>, A: Allocator>()
     ensures sound { Joins {A = A} (SoundStep D.step D.properties D.objects) }
     ensures steps { EachRun {A = A} (SoundStep D.step D.properties D.objects)
         (λ old commands replies new. Run (Step D.step) old commands replies new) }
-    ensures seen { EachRun {A = A} (SoundStep D.step D.properties D.objects) (λ old commands replies new. GoesOn commands replies) }
+    ensures seen { EachRun {A = A} (SoundStep D.step D.properties D.objects) (λ old commands replies new. SeenAlongJoined commands replies) }
 {}
 
 /// A request has no fault exactly where an allocator accepts it.

@@ -8,7 +8,7 @@ ghost use Rattle.gpu_alloc.specs.Opening.{opened, opened_by};
 ghost use Rattle.gpu_session.specs.Books.{Books, SessionState};
 ghost use Rattle.gpu_session.specs.Isolation.{HoldsAlong, TellAlong};
 ghost use Rattle.gpu_session.specs.Run.{Step, Run};
-ghost use Rattle.gpu_session.specs.Sound.{IsSound, Keeps, KeepsGiven, HasWholeObjects, SoundStep, ReturnsAll};
+ghost use Rattle.gpu_session.specs.Sound.{IsSoundSession, StepKeeps, KeepsGiven, HasWholeObjects, SoundStep, ReturnsAll};
 
 mod allocating;
 mod counting;
@@ -52,14 +52,14 @@ impl<M: MemoryObject, D: MemoryDevice<M>, A: Allocator + Copy> Model for Session
     ghost coded = { session_code D.code };
 
     ghost use Rattle.std.specs.FinMap.{from_entries};
-    ghost use Rattle.gpu_session.specs.Sound.{IsKept};
+    ghost use Rattle.gpu_session.specs.Sound.{IsSessionKept};
 
     ghost view = { λ a. record {
       books = record { allocator = a.allocator; blocks = from_entries a.blocks.entries };
       device = a.device;
     } };
 
-    ghost invariant = { λ a. IsKept (D.properties a.device) (D.objects a.device)
+    ghost invariant = { λ a. IsSessionKept (D.properties a.device) (D.objects a.device)
         (record { allocator = a.allocator; blocks = from_entries a.blocks.entries }) a.offer };
 }
 
@@ -82,7 +82,7 @@ impl<M: MemoryObject, D: MemoryDevice<M>, A: Allocator + Copy> Session<M, D, A> 
           books = record { allocator = opened config (properties_of props.entry); blocks = map.empty };
           device = device;
         }) }
-        ensures sound { IfOk result (λ session. IsSound (D.properties device) (D.objects device) session.books) }
+        ensures sound { IfOk result (λ session. IsSoundSession (D.properties device) (D.objects device) session.books) }
         ensures whole { IfOk result (HasWholeObjects D.objects) }
         ensures given_back { IfErr result (λ e. e.device ≡ device) }
     {
@@ -105,7 +105,7 @@ impl<M: MemoryObject, D: MemoryDevice<M>, A: Allocator + Copy> Session<M, D, A> 
           books = record { allocator = opened_by sharing config (properties_of props.entry); blocks = map.empty };
           device = device;
         }) }
-        ensures sound { IfOk result (λ session. IsSound (D.properties device) (D.objects device) session.books) }
+        ensures sound { IfOk result (λ session. IsSoundSession (D.properties device) (D.objects device) session.books) }
         ensures whole { IfOk result (HasWholeObjects D.objects) }
         ensures given_back { IfErr result (λ e. e.device ≡ device) }
     {
@@ -149,7 +149,7 @@ impl<M: MemoryObject, D: MemoryDevice<M>, A: Allocator + Copy> Session<M, D, A> 
         ensures isolated { IfOk result (λ replies.
             HoldsAlong (SoundStep D.step D.properties D.objects) D.objects self.old commands.now replies.items) }
         ensures told { IfOk result (λ replies. TellAlong commands.now replies.items) }
-        ensures sound { IsSound (D.properties self.new.device) (D.objects self.new.device) self.new.books }
+        ensures sound { IsSoundSession (D.properties self.new.device) (D.objects self.new.device) self.new.books }
         ensures given { KeepsGiven (self.old.books).allocator (self.new.books).allocator }
     {
         self.keeps_sound();
@@ -191,7 +191,7 @@ impl<M: MemoryObject, D: MemoryDevice<M>, A: Allocator + Copy> Session<M, D, A> 
 
     /// A lemma about every session: does nothing at run time.
     fn keeps_sound(&self)
-        ensures { IsSound (D.properties self.now.device) (D.objects self.now.device) self.now.books }
+        ensures { IsSoundSession (D.properties self.now.device) (D.objects self.now.device) self.now.books }
     {
         let _ = &self.alloc;
     }
@@ -199,7 +199,7 @@ impl<M: MemoryObject, D: MemoryDevice<M>, A: Allocator + Copy> Session<M, D, A> 
     /// Answers one command.
     fn serve(&mut self, command: &Command<A>) -> Reply<A>
         ensures step { Step D.step self.old command.now result self.new }
-        ensures keeps { Keeps D.objects self.old command.now result self.new }
+        ensures keeps { StepKeeps D.objects self.old command.now result self.new }
     {
         match command {
             Command::Alloc { name, request } => self.alloc(*name, *request),

@@ -7,7 +7,7 @@ use Rattle.std.proofs.lemmas.List.{places, length-append, length-take, length-dr
 use Rattle.std.proofs.lemmas.List.{drop-drop}
 use Rattle.std.proofs.lemmas.Option.{slice_get-get_or, slice_get_past}
 use Rattle.gpu_alloc_types.specs.Device.{IsOutside, IsCopied, IsPartlyCopied, IsWritten}
-use Rattle.gpu_sim.specs.Bytes.{with_range, written}
+use Rattle.gpu_sim.specs.Bytes.{bytes_written, with_range}
 
 -- lists of one length have the same at an index where their bytes are the same
 same_get : (xs ys : List ℕ) (k : ℕ) → length xs ≡ length ys → (k < length xs → get_or xs k 0 ≡ get_or ys k 0)
@@ -72,28 +72,28 @@ with_range-same offset size xs =
     rw (append_assoc, ← drop-drop, take-append-drop, take-append-drop) refl
 
 module _ (offset : ℕ) (bytes to : List ℕ) (fits : offset + length bytes ≤ length to) where
-  pub length-written : length (written offset bytes to) ≡ length to
+  pub length-written : length (bytes_written offset bytes to) ≡ length to
   length-written = simp (length-append, length-take, length-drop) (omega arith)
 
-  write_below : (k : ℕ) → k < offset → get_or (written offset bytes to) k 0 ≡ get_or to k 0
+  write_below : (k : ℕ) → k < offset → get_or (bytes_written offset bytes to) k 0 ≡ get_or to k 0
   write_below k lt = grind (arith, places)
 
-  write_above : (k : ℕ) → offset + length bytes ≤ k → get_or (written offset bytes to) k 0 ≡ get_or to k 0
+  write_above : (k : ℕ) → offset + length bytes ≤ k → get_or (bytes_written offset bytes to) k 0 ≡ get_or to k 0
   write_above k le = grind (arith, places)
 
-  write_inside : (k : ℕ) → k < length bytes → get_or (written offset bytes to) (offset + k) 0 ≡ get_or bytes k 0
+  write_inside : (k : ℕ) → k < length bytes → get_or (bytes_written offset bytes to) (offset + k) 0 ≡ get_or bytes k 0
   write_inside k lt = grind (arith, places)
 
-  write_outside : (k : ℕ) → IsOutside offset (length bytes) k → slice_get (written offset bytes to) k ≡ slice_get to k
-  write_outside k (inl lt) = same_get (written offset bytes to) to k length-written (λ within. write_below k lt)
-  write_outside k (inr le) = same_get (written offset bytes to) to k length-written (λ within. write_above k le)
+  write_outside : (k : ℕ) → IsOutside offset (length bytes) k → slice_get (bytes_written offset bytes to) k ≡ slice_get to k
+  write_outside k (inl lt) = same_get (bytes_written offset bytes to) to k length-written (λ within. write_below k lt)
+  write_outside k (inr le) = same_get (bytes_written offset bytes to) to k length-written (λ within. write_above k le)
 
-  write_here : (k : ℕ) → k < length bytes → slice_get (written offset bytes to) (offset + k) ≡ slice_get bytes k
+  write_here : (k : ℕ) → k < length bytes → slice_get (bytes_written offset bytes to) (offset + k) ≡ slice_get bytes k
   write_here k lt =
-      slice_get-get_or (written offset bytes to) (offset + k) 0 (omega (arith, length-written))
+      slice_get-get_or (bytes_written offset bytes to) (offset + k) 0 (omega (arith, length-written))
       ∙ ap (λ b. Some b) (write_inside k lt) ∙ sym (slice_get-get_or bytes k 0 lt)
 
-  pub is_written : IsWritten offset bytes to (written offset bytes to)
+  pub is_written : IsWritten offset bytes to (bytes_written offset bytes to)
   is_written = record { outside = write_outside; inside = write_here }
 
 get_read : (offset n : ℕ) (xs : List ℕ) (k : ℕ) → k < n → k < length (take n (drop offset xs))

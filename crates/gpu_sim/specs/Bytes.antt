@@ -13,5 +13,5 @@ abbrev pub with_range : (offset size : ℕ) → (from to : List ℕ) → List �
 with_range offset size from to = take offset to ++ take size (drop offset from) ++ drop (offset + size) to
 
 -- `to`, with `bytes` written over it from an offset on
-abbrev pub written : ℕ → (bytes to : List ℕ) → List ℕ
-written offset bytes to = take offset to ++ bytes ++ drop (offset + length bytes) to
+abbrev pub bytes_written : ℕ → (bytes to : List ℕ) → List ℕ
+bytes_written offset bytes to = take offset to ++ bytes ++ drop (offset + length bytes) to

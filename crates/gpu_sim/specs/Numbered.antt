@@ -9,5 +9,5 @@ use Rattle.gpu_sim.specs.contracts.sim.numbered.Numbered.{the_row}
 
 module _ (V A : RattleType) (alloc : Ghosts A.Denot) (numbered : MutBor (FinMap nat_cmp V.Denot)) where
   -- the number has the last value written through r; at `None` the values are unchanged
-  abbrev pub lends_value : ℕ → Option (MutBor V.Denot) → Fml
-  lends_value number r = LendsIf (the_row V A alloc) V numbered r (map.insert numbered.now number) numbered.now
+  abbrev pub lends_numbered : ℕ → Option (MutBor V.Denot) → Fml
+  lends_numbered number r = LendsIf (the_row V A alloc) V numbered r (map.insert numbered.now number) numbered.now

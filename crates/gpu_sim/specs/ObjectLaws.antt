@@ -14,9 +14,9 @@ use Rattle.std.proofs.lemmas.Slice.Eq.{bytes_eq-Decides}
 use Rattle.gpu_alloc_types.specs.Properties.{Properties, is_host_visible, is_coherent}
 use Rattle.gpu_alloc_types.specs.Device.{Object, IsWellFormed, put}
 use Rattle.gpu_sim.specs.ByteLaws.{length-with_range, with_range-same, length-written}
-use Rattle.gpu_sim.specs.Bytes.{with_range, written}
+use Rattle.gpu_sim.specs.Bytes.{bytes_written, with_range}
 use Rattle.gpu_sim.specs.Objects.{HasBytes, HasRange, IsWhole, AreWhole, shown, shown_if, is_well_formed, ends_within}
-use Rattle.gpu_sim.specs.Objects.{bytes_of, new_object, mapped_as, copied, put_by_host, put_by_device}
+use Rattle.gpu_sim.specs.Objects.{new_bytes, new_object, mapped_as, copied, put_by_host, put_by_device}
 use Rattle.gpu_sim.specs.declared.sim.bytes.Direction.{Direction}
 use Rattle.gpu_sim.specs.declared.sim.bytes.Direction.TheVariants.{ToDevice, ToHost}
 
@@ -67,7 +67,7 @@ new_is_whole p size t = record {
   well_formed = record {
     host = length-bytes (is_host_visible p t) size _;
     device = length-bytes (is_host_visible p t) size 0;
-    coherent = first_bytes (is_coherent p t) (bytes_of p size t);
+    coherent = first_bytes (is_coherent p t) (new_bytes p size t);
     range = tt;
   };
   mapped_bytes = tt;
@@ -131,13 +131,13 @@ module _ (p : Properties) (o : Object) (w : IsWhole p o) where
 
 module _ (offset : ℕ) (bytes : List ℕ) where
   length-where : (coherent : Bool) (xs : List ℕ) → offset + length bytes ≤ length xs
-      → length (cond coherent (written offset bytes xs) xs) ≡ length xs
+      → length (cond coherent (bytes_written offset bytes xs) xs) ≡ length xs
   length-where true xs fits = length-written offset bytes xs fits
   length-where false xs fits = refl
 
   written_both : (coherent : Bool) (xs ys : List ℕ) → (IsTrue coherent → xs ≡ ys) → IsTrue coherent
-      → written offset bytes xs ≡ cond coherent (written offset bytes ys) ys
-  written_both true xs ys same is = ap (written offset bytes) (same is)
+      → bytes_written offset bytes xs ≡ cond coherent (bytes_written offset bytes ys) ys
+  written_both true xs ys same is = ap (bytes_written offset bytes) (same is)
   written_both false xs ys same is = absurd (let no : false ≡ true = is in cc)
 
   module _ (p : Properties) (o : Object) (w : IsWhole p o) (has : HasRange offset (length bytes) o) where

@@ -7,7 +7,7 @@ use Rattle.std.specs.FinMap.{FinMap}
 use Rattle.std.specs.Ordering.{nat_cmp}
 use Rattle.gpu_alloc_types.specs.Properties.{Properties, is_host_visible, is_coherent}
 use Rattle.gpu_alloc_types.specs.Device.{Object, Range, IsWellFormed}
-use Rattle.gpu_sim.specs.Bytes.{size_of_part, with_range, written}
+use Rattle.gpu_sim.specs.Bytes.{bytes_written, size_of_part, with_range}
 use Rattle.gpu_sim.specs.declared.sim.bytes.Direction.{Direction}
 use Rattle.gpu_sim.specs.declared.sim.bytes.Direction.TheVariants.{ToDevice, ToHost}
 use Rattle.gpu_sim.specs.declared.sim.bytes.Part.{Part}
@@ -17,8 +17,8 @@ abbrev pub offset_and_size : MappedRange → ℕ × ℕ
 offset_and_size range = (range.offset, range.size)
 
 -- as many bytes as the object is long if it is host-visible, and none otherwise
-abbrev pub bytes_of : Properties → (size memory_type byte : ℕ) → List ℕ
-bytes_of p size t byte = cond (is_host_visible p t) (replicate size byte) []
+abbrev pub new_bytes : Properties → (size memory_type byte : ℕ) → List ℕ
+new_bytes p size t byte = cond (is_host_visible p t) (replicate size byte) []
 
 -- A new object. The host's bytes start as 00 in coherent memory and as ee in other memory, so that a missing flush or
 -- invalidate shows. The device's start as 00.
@@ -27,8 +27,8 @@ new_object p size t = record {
   memory_type = t;
   size = size;
   mapped = None;
-  host_bytes = bytes_of p size t (cond (is_coherent p t) 0 238);
-  device_bytes = bytes_of p size t 0;
+  host_bytes = new_bytes p size t (cond (is_coherent p t) 0 238);
+  device_bytes = new_bytes p size t 0;
 }
 
 -- the object, with that range mapped or none
@@ -43,15 +43,15 @@ copied ToHost offset size o = record o { host_bytes = with_range offset size o.d
 -- the object, once the host wrote bytes: in coherent memory the device sees them at once
 abbrev pub put_by_host : Properties → ℕ → List ℕ → Object → Object
 put_by_host p offset bytes o = record o {
-  host_bytes = written offset bytes o.host_bytes;
-  device_bytes = cond (is_coherent p o.memory_type) (written offset bytes o.device_bytes) o.device_bytes;
+  host_bytes = bytes_written offset bytes o.host_bytes;
+  device_bytes = cond (is_coherent p o.memory_type) (bytes_written offset bytes o.device_bytes) o.device_bytes;
 }
 
 -- the object, once the device wrote bytes: in coherent memory the host sees them at once
 abbrev pub put_by_device : Properties → ℕ → List ℕ → Object → Object
 put_by_device p offset bytes o = record o {
-  host_bytes = cond (is_coherent p o.memory_type) (written offset bytes o.host_bytes) o.host_bytes;
-  device_bytes = written offset bytes o.device_bytes;
+  host_bytes = cond (is_coherent p o.memory_type) (bytes_written offset bytes o.host_bytes) o.host_bytes;
+  device_bytes = bytes_written offset bytes o.device_bytes;
 }
 
 -- a range of bytes that the object has, for the host and for the device

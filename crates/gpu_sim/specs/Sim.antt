@@ -47,7 +47,7 @@ abbrev pub IsNamedUpTo : ℕ → FinMap nat_cmp Object → Type 0
 IsNamedUpTo last objects = (name : ℕ) → last < name → map.get objects name ≡ None
 
 -- what holds of every simulated device
-pub record IsSound (last : ℕ) (p : Properties) (objects : FinMap nat_cmp Object) : Type 0 where
+pub record IsSoundSim (last : ℕ) (p : Properties) (objects : FinMap nat_cmp Object) : Type 0 where
   pub named : IsNamedUpTo last objects
   pub whole : AreWhole p objects
 
@@ -105,23 +105,23 @@ IsRefusal (Some cause) error = error ≡ refusal_of cause
 IsRefusal None error = error ≡ OutOfHostMemory
 
 -- the answer to a counted question to allocate
-abbrev pub Answers : SimState → (size memory_type : ℕ) → Result ℕ OutOfMemory → SimState → Type 0
-Answers old size t (Ok name) new =
+abbrev pub AnswersAllocation : SimState → (size memory_type : ℕ) → Result ℕ OutOfMemory → SimState → Type 0
+AnswersAllocation old size t (Ok name) new =
     (cause_now old Allocate ≡ None) × IsMade old name (new_object old.properties size t) new
-Answers old size t (Err error) new = IsRefusal (cause_now old Allocate) error × (new ≡ old)
+AnswersAllocation old size t (Err error) new = IsRefusal (cause_now old Allocate) error × (new ≡ old)
 
 -- only the objects change, and they change so
 abbrev pub WithObjects : SimState → (FinMap nat_cmp Object → Type 0) → SimState → Type 0
 WithObjects old P new = (objects : FinMap nat_cmp Object) × P objects × (new ≡ record old { objects = objects })
 
 -- the mapped range of the object of that name is this one, or none
-abbrev pub Maps : SimState → ℕ → Option (ℕ × ℕ) → SimState → Type 0
-Maps old name range new = WithObjects old (ChangesAt (HasBytes range) (mapped_as range) old.objects name) new
+abbrev pub SetsMapped : SimState → ℕ → Option (ℕ × ℕ) → SimState → Type 0
+SetsMapped old name range new = WithObjects old (ChangesAt (HasBytes range) (mapped_as range) old.objects name) new
 
 -- the answer to a counted question to map: a refusal exactly where one was planned
 abbrev pub MapAnswers : SimState → Range → Result (Unit {0}) DeviceMapError → SimState → Type 0
 MapAnswers old range (Ok _) new =
-    (cause_now old Map ≡ None) × Maps old range.object (Some (range.offset, range.size)) new
+    (cause_now old Map ≡ None) × SetsMapped old range.object (Some (range.offset, range.size)) new
 MapAnswers old range (Err error) new = (option_map map_refusal_of (cause_now old Map) ≡ Some error) × (new ≡ old)
 
 -- The answer to a counted question to flush or to invalidate: a refusal exactly where one was planned, after the first
@@ -141,22 +141,22 @@ Puts old name offset bytes new =
     (ChangesAt (HasRange offset (length bytes)) (put_by_host old.properties offset bytes) old.objects name) new
 
 -- What a call does. What it does not name is unchanged.
-abbrev pub Does : SimState → Event → SimState → Type 0
-Does old (Allocated size t flags answer) new = Answers (asked_to_allocate old size t flags) size t answer new
-Does old (Deallocated name) new = new ≡ record old { objects = map.remove old.objects name }
-Does old (Mapped range answer) new = MapAnswers (asked_to_map old range) range answer new
-Does old (Unmapped name) new = Maps old name None new
-Does old (Flushed ranges answer) new =
+abbrev pub DoesCall : SimState → Event → SimState → Type 0
+DoesCall old (Allocated size t flags answer) new = AnswersAllocation (asked_to_allocate old size t flags) size t answer new
+DoesCall old (Deallocated name) new = new ≡ record old { objects = map.remove old.objects name }
+DoesCall old (Mapped range answer) new = MapAnswers (asked_to_map old range) range answer new
+DoesCall old (Unmapped name) new = SetsMapped old name None new
+DoesCall old (Flushed ranges answer) new =
     CopyAnswers ToDevice Flush (asked_to_copy old Flush ranges) ranges answer new
-Does old (Invalidated ranges answer) new =
+DoesCall old (Invalidated ranges answer) new =
     CopyAnswers ToHost Invalidate (asked_to_copy old Invalidate ranges) ranges answer new
-Does old (BytesPut name offset bytes) new = Puts old name offset bytes new
-Does old (BytesGot name offset bytes) new =
+DoesCall old (BytesPut name offset bytes) new = Puts old name offset bytes new
+DoesCall old (BytesGot name offset bytes) new =
     (new ≡ old) × HeldWith (map.get old.objects) name (λ o. bytes ≡ take (length bytes) (drop offset o.host_bytes))
 
 -- what a call does to a simulated device
 abbrev pub SimStep : SimState → Event → SimState → Type 0
-SimStep old e new = IsSound old.last_name old.properties old.objects × Does old e new
+SimStep old e new = IsSoundSim old.last_name old.properties old.objects × DoesCall old e new
 
 -- the objects, as every device shows them
 abbrev pub objects_of : SimState → ℕ → Option Object
@@ -170,6 +170,6 @@ pub record IsWritable (p : Properties) (offset size : ℕ) (o : Object) : Type 0
 -- what a command of the graphics device writes into an object
 abbrev pub CommandWrites : SimState → (object offset : ℕ) → List ℕ → SimState → Type 0
 CommandWrites old object offset bytes new =
-    IsSound old.last_name old.properties old.objects
+    IsSoundSim old.last_name old.properties old.objects
     × WithObjects old
     (ChangesAt (HasRange offset (length bytes)) (put_by_device old.properties offset bytes) old.objects object) new

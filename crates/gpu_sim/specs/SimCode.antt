@@ -20,8 +20,8 @@ by_kind_code {T} code =
     (λ c. record { allocate = c.0.0; map = c.0.1; flush = c.1.0; invalidate = c.1.1 })
     (λ _. refl)
 
-abbrev pub state_code : Coded SimState
-state_code =
+abbrev pub sim_code : Coded SimState
+sim_code =
     code_by (Properties ×
     ((ByKind (FinMap nat_cmp Cause) × ByKind ℕ)
     × ((Option (ℕ × (ℕ × ℕ)) × Option Range) × (ℕ × FinMap nat_cmp Object))))

@@ -12,7 +12,7 @@ use Rattle.gpu_alloc_types.specs.Device.Event.{Allocated, Deallocated, Mapped, U
 use Rattle.gpu_alloc_types.specs.Device.Event.{BytesGot}
 use Rattle.gpu_alloc_types.specs.declared.types.OutOfMemory.{OutOfMemory}
 use Rattle.gpu_sim.specs.ByteLaws.{is_copied, is_partly_copied, is_written, slice_get-read}
-use Rattle.gpu_sim.specs.Bytes.{written, size_of_part}
+use Rattle.gpu_sim.specs.Bytes.{bytes_written, size_of_part}
 use Rattle.gpu_sim.specs.ObjectLaws.{alike, decides_well_formed, new_is_whole, mapped_is_whole, copied_is_whole}
 use Rattle.gpu_sim.specs.ObjectLaws.{put_by_device_is_whole, put_by_host_is_whole, whole_at, whole-insert}
 use Rattle.gpu_sim.specs.ObjectLaws.{shown-insert, shown-remove, shown_once_held, shown_passes}
@@ -90,7 +90,7 @@ module _ (p : Properties) where
         (_, is_partly_copied r.offset (r.size / 2) o.device_bytes o.host_bytes same r.size (omega arith), refl)
 
   put_device : (coherent : Bool) (offset : ℕ) (bytes to : List ℕ) → offset + length bytes ≤ length to
-      → IsPutDevice coherent offset bytes to (cond coherent (written offset bytes to) to)
+      → IsPutDevice coherent offset bytes to (cond coherent (bytes_written offset bytes to) to)
   put_device true offset bytes to fits = is_written offset bytes to fits
   put_device false offset bytes to fits = refl
 

@@ -47,12 +47,12 @@ pub struct Sim<A: Allocator + Copy = Global> {
 
 impl<A: Allocator + Copy> Model for Sim<A> {
     ghost use Rattle.std.specs.Prelude.{option_map};
-    ghost use Rattle.gpu_sim.specs.Sim.{SimState, as_numbers, as_range, IsSound};
-    ghost use Rattle.gpu_sim.specs.SimCode.{state_code};
+    ghost use Rattle.gpu_sim.specs.Sim.{SimState, as_numbers, as_range, IsSoundSim};
+    ghost use Rattle.gpu_sim.specs.SimCode.{sim_code};
 
     ghost Value = { SimState };
 
-    ghost coded = { state_code };
+    ghost coded = { sim_code };
 
     ghost view = { λ sim. record {
       properties = sim.properties;
@@ -64,7 +64,7 @@ impl<A: Allocator + Copy> Model for Sim<A> {
       objects = sim.objects;
     } };
 
-    ghost invariant = { λ sim. IsSound sim.last_name sim.properties sim.objects };
+    ghost invariant = { λ sim. IsSoundSim sim.last_name sim.properties sim.objects };
 }
 
 impl<A: Allocator + Copy> Sim<A> {

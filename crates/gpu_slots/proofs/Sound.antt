@@ -9,7 +9,7 @@ use Rattle.std.specs.Option.{IsSome, OnSome, is_some}
 use Rattle.std.specs.FinMap as finite
 use Rattle.gpu_slots.specs.declared.slot_map.Place.{Place}
 use Rattle.gpu_slots.specs.SlotMap.{SlotState, IsGiven, IsGone, StaysGone}
-use Rattle.gpu_slots.specs.Places.{live_in, place_at, IsFree, IsSound}
+use Rattle.gpu_slots.specs.Places.{live_in, place_at, IsFree, AreSoundPlaces}
 use Rattle.gpu_slots.proofs.Lookups.{IsLiveAt, live_at, place_in, Changes, changes_push, changes_set, one_or_two, key_parts, parts_of, generation_at, no_value, either, key_test, same, other, live_put, live_over, live_out, get_none, get_put, get_out}
 
 -- The last of the free places is taken off them.
@@ -59,7 +59,7 @@ module _ {T : Type 0} where
   none_past : (i : ℕ) → (place_at {T = T} [] i).value ≡ None
   none_past i = ap (λ (p : Place T). p.value) {x = place_at {T = T} [] i} {y = record { generation = 0; value = None }} (get_or_past [] i _ (omega arith))
 
-  pub sound_new : (capacity : ℕ) → IsSound {T = T} [] [] 0 capacity
+  pub sound_new : (capacity : ℕ) → AreSoundPlaces {T = T} [] [] 0 capacity
   sound_new capacity = record {
     few = omega arith;
     counted = sym (finite.len-empty nat_cmp T);
@@ -101,9 +101,9 @@ module _ {T : Type 0} where
     le : length new ≤ 2 ^ 32
     le = omega (arith, few)
 
-    pub sound_put : (free left : List ℕ) (len capacity : ℕ) → IsSound old free len capacity → 0 < g → g < 2 ^ 32 → length old ≤ length new → ((j : ℕ) → j < length new → j ≢ i → j < length old)
+    pub sound_put : (free left : List ℕ) (len capacity : ℕ) → AreSoundPlaces old free len capacity → 0 < g → g < 2 ^ 32 → length old ≤ length new → ((j : ℕ) → j < length new → j ≢ i → j < length old)
         → ((k : ℕ) → k < length left → (k < length free) × (get_or left k 0 ≡ get_or free k 0)) → ((k : ℕ) → k < length left → get_or left k 0 ≢ i)
-        → length left + (len + 1) ≤ capacity → IsSound new left (len + 1) capacity
+        → length left + (len + 1) ≤ capacity → AreSoundPlaces new left (len + 1) capacity
     sound_put free left len capacity s begins few_times longer others within apart room = record {
       few = few;
       counted =
@@ -211,7 +211,7 @@ module _ {T : Type 0} where
     last_fits : length old < 2 ^ 32
     last_fits = omega (arith, few)
 
-    pub sound_push : (free left : List ℕ) (len capacity : ℕ) → IsSound old free len capacity → length left ≡ 0 → len + 1 ≤ capacity → IsSound new left (len + 1) capacity
+    pub sound_push : (free left : List ℕ) (len capacity : ℕ) → AreSoundPlaces old free len capacity → length left ≡ 0 → len + 1 ≤ capacity → AreSoundPlaces new left (len + 1) capacity
     sound_push free left len capacity s none room =
         sound_put old new (length old) 1 v added past_empty few_old few_new last_fits free left len capacity s (omega arith) (omega arith) (omega (arith, one_more))
         (λ j below ne. omega (arith, below, ne, one_more)) (λ k below. absurd (omega (arith, below, none))) (λ k below. absurd (omega (arith, below, none))) (omega (arith, none, room))
@@ -227,11 +227,11 @@ module _ {T : Type 0} where
         ↔ (IsGiven (state old) q ⊎ (q ≡ 2 ^ 32 + length old))
     push_given = put_given old new (length old) 1 v added past_empty few_old few_new last_fits (omega (arith, past_unused)) (λ x some less. absurd (omega (arith, some, less)))
 
-  pub last_free : (old : List (Place T)) (free left : List ℕ) (len capacity i : ℕ) → IsSound old free len capacity → TakesLast free left i → IsFree old i
+  pub last_free : (old : List (Place T)) (free left : List ℕ) (len capacity i : ℕ) → AreSoundPlaces old free len capacity → TakesLast free left i → IsFree old i
   last_free old free left len capacity i s t = subst (IsFree old) (sym t.last) (s.all_free t.count (let one_less = t.one_less in omega (arith, one_less)))
 
   -- A value goes into that place.
-  module _ (old : List (Place T)) (free left : List ℕ) (len capacity i : ℕ) (p : Place T) (v : T) (s : IsSound old free len capacity) (t : TakesLast free left i) (is : i < length old → p ≡ place_at old i) where
+  module _ (old : List (Place T)) (free left : List ℕ) (len capacity i : ℕ) (p : Place T) (v : T) (s : AreSoundPlaces old free len capacity) (t : TakesLast free left i) (is : i < length old → p ≡ place_at old i) where
     abbrev pub refilled : List (Place T)
     refilled = set old i (record { generation = p.generation; value = Some v })
 
@@ -284,7 +284,7 @@ module _ {T : Type 0} where
         let short = length-take-le t.count free (omega (arith, one_less)) in
         omega (arith, taken, short, one_less)
 
-    pub sound_fill : IsSound refilled left (len + 1) capacity
+    pub sound_fill : AreSoundPlaces refilled left (len + 1) capacity
     sound_fill =
         sound_put old _ i p.generation v filled fill_empty le_old few_filled place_fits free left len capacity s fill_begun fill_unspent (omega (arith, as_long))
         (λ j below ne. omega (arith, below, as_long)) within apart (let fits = s.fits in omega (arith, fits, one_less))
@@ -317,7 +317,7 @@ module _ {T : Type 0} where
     not_free : IsFree old i → ⊥
     not_free f = no_value _ (get_none old new i g old_le new_le fits f.empty) live
 
-    module _ (free : List ℕ) (len capacity : ℕ) (s : IsSound old free len capacity) where
+    module _ (free : List ℕ) (len capacity : ℕ) (s : AreSoundPlaces old free len capacity) where
       apart : (k : ℕ) → k < length free → get_or free k 0 ≢ i
       apart k below e = not_free (subst (IsFree old) e (s.all_free k below))
 
@@ -339,7 +339,7 @@ module _ {T : Type 0} where
       begun_now = begun_kept old new i _ c (λ j below ne. omega (arith, below, as_long)) (omega (arith, up)) s.begun
 
       -- its generations are used up
-      pub sound_retired : IsSound new free (len - 1) capacity
+      pub sound_retired : AreSoundPlaces new free (len - 1) capacity
       sound_retired = record {
         few = few_now;
         counted = let less = less_counted in omega (arith, less);
@@ -351,7 +351,7 @@ module _ {T : Type 0} where
       }
 
       -- it is free from now on
-      pub sound_freed : h < 2 ^ 32 → i < length old → IsSound new (free ++ i ∷ []) (len - 1) capacity
+      pub sound_freed : h < 2 ^ 32 → i < length old → AreSoundPlaces new (free ++ i ∷ []) (len - 1) capacity
       sound_freed unspent within = record {
         few = few_now;
         counted = let less = less_counted in omega (arith, less);
@@ -445,7 +445,7 @@ module _ {T : Type 0} where
         ]
 
   -- A live key.
-  module _ (old : List (Place T)) (free : List ℕ) (len capacity : ℕ) (s : IsSound old free len capacity) (key : ℕ) (live : IsSome (finite.get (live_in old) key)) where
+  module _ (old : List (Place T)) (free : List ℕ) (len capacity : ℕ) (s : AreSoundPlaces old free len capacity) (key : ℕ) (live : IsSome (finite.get (live_in old) key)) where
     pub live_within : key % 2 ^ 32 < length old
     live_within = (live_at old key (let few = s.few in omega (arith, few)) live).within
 
@@ -453,7 +453,7 @@ module _ {T : Type 0} where
     live_counted = let some = some_live (live_in old) key live in let counted = s.counted in omega (arith, some, counted)
 
   -- A live key's value is taken out of its place, whose generation rises.
-  module _ (old : List (Place T)) (free : List ℕ) (len capacity : ℕ) (s : IsSound old free len capacity) (key : ℕ) (p : Place T) (live : IsSome (finite.get (live_in old) key)) (is : key % 2 ^ 32 < length old → p ≡ place_at old (key % 2 ^ 32)) where
+  module _ (old : List (Place T)) (free : List ℕ) (len capacity : ℕ) (s : AreSoundPlaces old free len capacity) (key : ℕ) (p : Place T) (live : IsSome (finite.get (live_in old) key)) (is : key % 2 ^ 32 < length old → p ≡ place_at old (key % 2 ^ 32)) where
     abbrev pub vacated : List (Place T)
     vacated = set old (key % 2 ^ 32) (record { generation = p.generation + 1; value = None })
 
@@ -493,10 +493,10 @@ module _ {T : Type 0} where
     live_by_parts : IsSome (finite.get (live_in old) (key / 2 ^ 32 * 2 ^ 32 + key % 2 ^ 32))
     live_by_parts = subst (λ n. IsSome (finite.get (live_in old) n)) (key_parts key) live
 
-    pub take_retired : IsSound vacated free (len - 1) capacity
+    pub take_retired : AreSoundPlaces vacated free (len - 1) capacity
     take_retired = sound_retired old _ (key % 2 ^ 32) (key / 2 ^ 32) (p.generation + 1) taken here.of_it up as_many few_placed (place_in key) live_by_parts free len capacity s
 
-    pub take_freed : p.generation + 1 < 2 ^ 32 → IsSound vacated (free ++ key % 2 ^ 32 ∷ []) (len - 1) capacity
+    pub take_freed : p.generation + 1 < 2 ^ 32 → AreSoundPlaces vacated (free ++ key % 2 ^ 32 ∷ []) (len - 1) capacity
     take_freed unspent = sound_freed old _ (key % 2 ^ 32) (key / 2 ^ 32) (p.generation + 1) taken here.of_it up as_many few_placed (place_in key) live_by_parts free len capacity s unspent take_within
 
     pub take_live : live_in vacated ≡ finite.remove (live_in old) key
@@ -513,7 +513,7 @@ module _ {T : Type 0} where
         out_given old _ (key % 2 ^ 32) (key / 2 ^ 32) (p.generation + 1) taken here.of_it up as_many few_placed (place_in key) live_by_parts (omega (arith, begun, of_it))
 
   -- A live key's value is changed.
-  module _ (old : List (Place T)) (free : List ℕ) (len capacity : ℕ) (s : IsSound old free len capacity) (key : ℕ) (p : Place T) (live : IsSome (finite.get (live_in old) key)) (is : key % 2 ^ 32 < length old → p ≡ place_at old (key % 2 ^ 32)) (v : T) where
+  module _ (old : List (Place T)) (free : List ℕ) (len capacity : ℕ) (s : AreSoundPlaces old free len capacity) (key : ℕ) (p : Place T) (live : IsSome (finite.get (live_in old) key)) (is : key % 2 ^ 32 < length old → p ≡ place_at old (key % 2 ^ 32)) (v : T) where
     abbrev pub changed_at : List (Place T)
     changed_at = set old (key % 2 ^ 32) (record { generation = p.generation; value = Some v })
 
@@ -551,7 +551,7 @@ module _ {T : Type 0} where
     few_times : key / 2 ^ 32 < 2 ^ 32
     few_times = subst (λ n. n < 2 ^ 32) place.of_it (s.unspent (key % 2 ^ 32) (subst IsSome place.value live))
 
-    pub change_sound : IsSound changed_at free len capacity
+    pub change_sound : AreSoundPlaces changed_at free len capacity
     change_sound = record {
       few = let few = s.few in omega (arith, few, same_length);
       counted =

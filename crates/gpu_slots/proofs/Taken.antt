@@ -7,7 +7,7 @@ use Rattle.std.specs.Option.{IsSome, IfSome}
 use Rattle.std.specs.Ordering.{nat_cmp}
 use Rattle.gpu_slots.specs.declared.slot_map.Place.{Place}
 use Rattle.gpu_slots.specs.Places.{live_in, place_at}
-use Rattle.gpu_slots.specs.SlotMap.{SlotState, IsGiven, HasNone, PutsAt, TakesAt}
+use Rattle.gpu_slots.specs.SlotMap.{SlotState, IsGiven, HasNoValues, PutsAt, TakesAt}
 use Rattle.gpu_slots.proofs.Lookups.{Changes, changes_push, live_put, live_out, get_none, remove_none, same, other, key_test, no_value}
 use Rattle.gpu_slots.proofs.Sound.{len_put, len_out}
 
@@ -49,7 +49,7 @@ free_key {T} s key new = by (finite.get s.live key) refl
     by (Some v) is = absurd (new (inr (subst IsSome (sym is) refl)))
 
 -- at first no key has a value, and none was given
-pub has_none : {T : Type 0} (live : finite.FinMap nat_cmp T) → live ≡ finite.empty → HasNone live
+pub has_none : {T : Type 0} (live : finite.FinMap nat_cmp T) → live ≡ finite.empty → HasNoValues live
 has_none {T} live is = rw is (record { none = finite.get-empty nat_cmp; count = finite.len-empty nat_cmp T })
 
 pub none_given : {T : Type 0} (s : SlotState T) → s.live ≡ finite.empty → s.generations ≡ [] → (key : ℕ) → IsGiven s key → ⊥

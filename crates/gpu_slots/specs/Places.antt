@@ -38,7 +38,7 @@ module _ {T : Type 0} where
     pub unspent : (place_at places i).generation < 2 ^ 32
 
   -- What always holds. There is room among the free places for the place of each value.
-  pub record IsSound (places : List (Place T)) (free : List ℕ) (len free_capacity : ℕ) : Type 0 where
+  pub record AreSoundPlaces (places : List (Place T)) (free : List ℕ) (len free_capacity : ℕ) : Type 0 where
     pub few : length places < 2 ^ 32
     pub counted : len ≡ map.len (live_in places)
     pub begun : (i : ℕ) → i < length places → 0 < (place_at places i).generation

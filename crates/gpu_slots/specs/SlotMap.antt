@@ -60,7 +60,7 @@ pub record TakesAt {T : Type 0} (old : FinMap nat_cmp T) (key : ℕ) (value : T)
   pub count : map.len new + 1 ≡ map.len old
 
 -- no key has a value
-pub record HasNone {T : Type 0} (live : FinMap nat_cmp T) : Type 0 where
+pub record HasNoValues {T : Type 0} (live : FinMap nat_cmp T) : Type 0 where
   pub none : (key : ℕ) → map.get live key ≡ None
   pub count : map.len live ≡ 0
 

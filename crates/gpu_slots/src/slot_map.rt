@@ -5,7 +5,7 @@ ghost use Rattle.std.specs.Option.{option_copied_mut};
 ghost use Rattle.std.specs.Borrow.{sem};
 ghost use Rattle.std.specs.FinMap as map;
 ghost use Rattle.gpu_slots.specs.SlotMap.{generation_of, IsGiven, IsGone, StaysGone};
-ghost use Rattle.gpu_slots.specs.SlotMap.{HasNone, PutsAt, TakesAt};
+ghost use Rattle.gpu_slots.specs.SlotMap.{HasNoValues, PutsAt, TakesAt};
 ghost use Rattle.gpu_slots.specs.SlotMap.{ArePlaced, HasNoneFrom, IsFirstFrom, TakesPlace};
 
 use std::alloc::{AllocError, Allocator, Global};
@@ -59,7 +59,7 @@ impl<T, A: Allocator> Model for SlotMap<T, A> {
     ghost coded = { slots_code T.code };
 
     ghost use Rattle.std.specs.Prelude.{map, vec_len, vec_capacity};
-    ghost use Rattle.gpu_slots.specs.Places.{live_in, room_in, IsSound};
+    ghost use Rattle.gpu_slots.specs.Places.{live_in, room_in, AreSoundPlaces};
 
     ghost view = { λ s. record {
       live = live_in s.places.items;
@@ -67,7 +67,7 @@ impl<T, A: Allocator> Model for SlotMap<T, A> {
       room = room_in (vec_len s.places) (vec_capacity s.places) (vec_len s.free) s.len (vec_capacity s.free);
     } };
 
-    ghost invariant = { λ s. IsSound s.places.items s.free.items s.len (vec_capacity s.free) };
+    ghost invariant = { λ s. AreSoundPlaces s.places.items s.free.items s.len (vec_capacity s.free) };
 }
 
 impl<T, A: Allocator + Copy> SlotMap<T, A> {
@@ -75,7 +75,7 @@ impl<T, A: Allocator + Copy> SlotMap<T, A> {
     pub fn new(alloc: A) -> SlotMap<T, A>
         ensures live { result.live ≡ map.empty }
         ensures generations { result.generations ≡ [] }
-        ensures none { HasNone result.live }
+        ensures none { HasNoValues result.live }
         ensures unused { (key : ℕ) → IsGiven result key → ⊥ }
     {
         SlotMap {

@@ -6,7 +6,7 @@ use gpu_alloc::{GpuAllocator, MemoryBlock};
 use gpu_alloc_types::{MemoryDevice, MemoryObject};
 
 /// Returns a block, or hands it back where another allocator must take it.
-pub fn give_back<M: MemoryObject, D: MemoryDevice<M>>(
+pub fn dealloc_if_owned<M: MemoryObject, D: MemoryDevice<M>>(
     allocator: &mut GpuAllocator<M>,
     device: &mut D,
     block: MemoryBlock<M>,

@@ -6,7 +6,7 @@ ghost use Rattle.std.specs.Int.{bit_at};
 ghost use Rattle.gpu_alloc_types.specs.Flags.{has_bit, host_visible};
 ghost use Rattle.gpu_alloc_types.specs.Properties.{props_at, atom_of};
 ghost use Rattle.gpu_alloc.specs.Agreement.{Agrees};
-ghost use Rattle.gpu_alloc.specs.State.{span_of, AreApart, IsOwned};
+ghost use Rattle.gpu_alloc.specs.State.{span_of, AreSpansApart, IsOwned};
 
 use gpu_alloc::laws::{candidates_serve_the_request, owned_blocks_are_apart};
 use gpu_alloc::{GpuAllocator, MemoryBlock, Request, UsageFlags};
@@ -53,7 +53,7 @@ pub fn may_copy<M: MemoryObject>(
     from: &MemoryBlock<M>,
     to: &MemoryBlock<M>,
 ) -> bool
-    ensures { IsTrue result → AreApart (span_of from.now) (span_of to.now) }
+    ensures { IsTrue result → AreSpansApart (span_of from.now) (span_of to.now) }
 {
     if !allocator.owns(from) {
         return false;

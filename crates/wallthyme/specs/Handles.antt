@@ -1,8 +1,8 @@
 -- What C keeps.
 use Rattle.std.specs.Prelude.{◌≡◌, ℕ, Option, Some, None}
 use Rattle.std.specs.FinMap as map
-use Rattle.gpu_desk.specs.Calls.{Keeps}
-use Rattle.gpu_desk.specs.Desk.{DeskState, IsSound}
+use Rattle.gpu_desk.specs.Calls.{KeepsDesk}
+use Rattle.gpu_desk.specs.Desk.{DeskState, IsSoundDesk}
 use Rattle.wallthyme.specs.declared.handle.Handle.{Handle}
 
 -- the desk that a handle has, where it is open
@@ -26,5 +26,5 @@ NoBlock s key = map.get s.blocks.live key ≡ None
 
 -- what was given stays, live blocks share no memory, and no name of an object comes twice
 pub record KeepsSound (old new : DeskState) : Type 0 where
-  pub keeps : Keeps old new
-  pub sound : IsSound new
+  pub keeps : KeepsDesk old new
+  pub sound : IsSoundDesk new

@@ -38,13 +38,13 @@ use Rattle.wallthyme.specs.declared.layout.Request.{Request}
 abbrev pub memory_type_of : MemoryType → desk_type.MemoryType
 memory_type_of t = record { heap = t.heap; props = record { bits = bit_and t.props named_property_bits } }
 
-abbrev pub heap_of : ℕ → MemoryHeap
-heap_of size = record { size = size }
+abbrev pub heap_of_size : ℕ → MemoryHeap
+heap_of_size size = record { size = size }
 
-abbrev pub properties_of : List MemoryType → List ℕ → Limits → Properties
-properties_of types heap_sizes limits = record {
+abbrev pub properties_from : List MemoryType → List ℕ → Limits → Properties
+properties_from types heap_sizes limits = record {
   memory_types = map memory_type_of types;
-  memory_heaps = map heap_of heap_sizes;
+  memory_heaps = map heap_of_size heap_sizes;
   max_memory_allocation_count = limits.max_memory_allocation_count;
   max_memory_allocation_size = limits.max_memory_allocation_size;
   non_coherent_atom_size = limits.non_coherent_atom_size;
@@ -91,8 +91,8 @@ abbrev pub desk_flags_of : Question → ℕ
 desk_flags_of q = if nat_lt q.flags number.ALLOCATE_OWN then q.flags else q.flags - number.ALLOCATE_OWN
 
 -- the question is for an object that will hold only the request's block
-abbrev pub is_own : Question → Bool
-is_own q = q.kind == number.ALLOCATE && not (nat_lt q.flags number.ALLOCATE_OWN)
+abbrev pub asks_own_object : Question → Bool
+asks_own_object q = q.kind == number.ALLOCATE && not (nat_lt q.flags number.ALLOCATE_OWN)
 
 -- a question; any other kind is refused
 abbrev pub question_of : Question → desk_question.Question
@@ -125,8 +125,8 @@ grant_of b = record {
   optimal = b.flags == number.OPTIMAL;
 }
 
-abbrev pub range_of : Range → ObjectRange
-range_of r = record { object = r.object; offset = r.offset; size = r.size }
+abbrev pub object_range_of : Range → ObjectRange
+object_range_of r = record { object = r.object; offset = r.offset; size = r.size }
 
 -- a free range, as C gets it
 abbrev pub free_range_of : FreeRange → Range

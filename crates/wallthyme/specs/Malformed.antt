@@ -48,7 +48,7 @@ abbrev pub AreAnswered : List Question → Type 0
 AreAnswered asked = All (λ q. is_answered q ≡ true) asked
 
 -- the request and its answers are valid
-pub record IsWellFormed (r : Request) (asked : List Question) : Type 0 where
+pub record IsWellFormedRequest (r : Request) (asked : List Question) : Type 0 where
   pub request : HasNames r
   pub answers : AreAnswered asked
 

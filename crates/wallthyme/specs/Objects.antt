@@ -12,5 +12,5 @@ pub record Reads (old : DeskState) (names : List ℕ) (new : DeskState) : Type 0
   pub only : OnlyReads old new
 
 -- the free ranges are written in their order, as many as there is room for
-abbrev pub AreTold : List FreeRange → List Range → Type 0
-AreTold found told = take (length found) told ≡ take (length told) (map free_range_of found)
+abbrev pub AreRangesTold : List FreeRange → List Range → Type 0
+AreRangesTold found told = take (length found) told ≡ take (length told) (map free_range_of found)

@@ -8,7 +8,7 @@ use Rattle.gpu_alloc_block.specs.declared.sharing.Sharing.{Sharing}
 use Rattle.gpu_desk.specs.Desk.{DeskState, IsEmpty, page_of}
 
 -- a desk with nothing held, for this device, with this granularity of buffers and images and this way to share objects
-pub record IsOpened (sharing : Sharing) (config : Config) (properties : Properties) (granularity : ℕ) (s : DeskState)
+pub record IsOpenedDesk (sharing : Sharing) (config : Config) (properties : Properties) (granularity : ℕ) (s : DeskState)
     : Type 0 where
   pub allocator : s.allocator ≡ opened_by sharing config properties
   pub page : s.granularity ≡ page_of granularity

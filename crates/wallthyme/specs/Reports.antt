@@ -4,7 +4,7 @@ use Rattle.gpu_desk.specs.Desk.{DeskState}
 use Rattle.gpu_report.specs.DeskReport.{IsDeskReport, user_of}
 use Rattle.gpu_report.specs.Statistics.{AreStatistics}
 use Rattle.gpu_report.specs.Text.{report_text}
-use Rattle.gpu_report.specs.Writing.{IsWritten}
+use Rattle.gpu_report.specs.Writing.{IsTextWritten}
 use Rattle.gpu_report.specs.declared.report.KindReport.{KindReport}
 use Rattle.gpu_report.specs.declared.report.Report.{Report}
 use Rattle.gpu_report.specs.declared.statistics.Statistics.{Statistics}
@@ -34,4 +34,4 @@ SumsUp s t told = (a : Statistics) × AreStatistics s.allocator t a × AreTypeSu
 -- a report of the desk was written, as much of it as there was room for, and the number is its length
 unfoldable pub Reports : DeskState → (before now : List ℕ) → ℕ → Type 0
 Reports s before now at =
-    (r : Report) × IsDeskReport s r × IsWritten (report_text (user_of s) s.allocator.properties.memory_types r) before now at
+    (r : Report) × IsDeskReport s r × IsTextWritten (report_text (user_of s) s.allocator.properties.memory_types r) before now at

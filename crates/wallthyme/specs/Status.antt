@@ -10,7 +10,7 @@ use Rattle.gpu_desk.specs.declared.denial.OpenError.{OpenError}
 use Rattle.gpu_desk.specs.declared.denial.OpenError.TheVariants.{BadProperties, OutOfHostMemory}
 use Rattle.gpu_session.specs.declared.command.Fault as faults
 use Rattle.gpu_session.specs.declared.command.Fault.TheVariants as fault
-use Rattle.wallthyme.specs.Layout.{is_own, question_of}
+use Rattle.wallthyme.specs.Layout.{asks_own_object, question_of}
 use Rattle.wallthyme.specs.declared.layout.TheConstants as number
 use Rattle.wallthyme.specs.declared.layout.Question.{Question}
 use Rattle.wallthyme.specs.declared.status.TheConstants as status
@@ -56,11 +56,11 @@ status_of_opening OutOfHostMemory = status.OUT_OF_HOST_MEMORY
 
 -- the question is the one that a denial leaves open
 abbrev pub IsQuestionOf : Denial → Question → Type 0
-IsQuestionOf d q = (own : Bool) × (d ≡ Open (question_of q) own) × (q.kind ≡ number.ALLOCATE → own ≡ is_own q)
+IsQuestionOf d q = (own : Bool) × (d ≡ Open (question_of q) own) × (q.kind ≡ number.ALLOCATE → own ≡ asks_own_object q)
 
 -- such a denial leaves the question open
-abbrev pub Asks : (Denial → Type 0) → Question → Type 0
-Asks P q = (d : Denial) × P d × IsQuestionOf d q
+abbrev pub LeavesOpen : (Denial → Type 0) → Question → Type 0
+LeavesOpen P q = (d : Denial) × P d × IsQuestionOf d q
 
 -- the status is that of such a denial
 abbrev pub Denies : (Denial → Type 0) → ℕ → Type 0

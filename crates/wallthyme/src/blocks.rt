@@ -1,13 +1,13 @@
 //! The calls that allocate, import and free blocks.
 
 ghost use Rattle.std.specs.Prelude.{◌≡◌, ◌≢◌, ◌↔◌, ◌⊎◌, ◌<◌, IsNone, length, true};
-ghost use Rattle.gpu_desk.specs.Calls.{AllocatedHeld, HeldDenied, ImportDenied, Imported, IsAsBefore, Keeps, Returns, SetsUser, Told};
-ghost use Rattle.gpu_desk.specs.Desk.{IsSound};
+ghost use Rattle.gpu_desk.specs.Calls.{AllocatedHeld, HeldDenied, ImportDenied, Imported, IsAsBefore, KeepsDesk, Returns, SetsUser, Told};
+ghost use Rattle.gpu_desk.specs.Desk.{IsSoundDesk};
 ghost use Rattle.wallthyme.specs.Allocating.{IsAllocated, IsDenied};
 ghost use Rattle.wallthyme.specs.Handles.{KeepsSound, NoBlock, OnDesks, desk_of};
-ghost use Rattle.wallthyme.specs.Malformed.{HasFlags, IsAsked, IsMalformed, IsWellFormed};
-ghost use Rattle.wallthyme.specs.Status.{Asks, Denies};
-ghost use Rattle.wallthyme.specs.Layout.{grant_of, is_held_only, is_own};
+ghost use Rattle.wallthyme.specs.Malformed.{HasFlags, IsAsked, IsMalformed, IsWellFormedRequest};
+ghost use Rattle.wallthyme.specs.Status.{Denies, LeavesOpen};
+ghost use Rattle.wallthyme.specs.Layout.{asks_own_object, grant_of, is_held_only};
 
 use crate::answers::{answers_of, denied_or_asked};
 use crate::handle::Handle;
@@ -29,15 +29,15 @@ pub extern "C" fn wt_alloc(
     ensures closed { (result ≡ NOT_OPEN) ↔ IsNone (desk_of handle.old) }
     ensures granted { result ≡ OK → OnDesks (IsAllocated request.now asked.now block.new) handle.old handle.new }
     ensures asks { result ≡ ASK
-        → OnDesks (λ old _. Asks (IsDenied request.now asked.now old) question.new) handle.old handle.new }
+        → OnDesks (λ old _. LeavesOpen (IsDenied request.now asked.now old) question.new) handle.old handle.new }
     ensures denied { result ≢ OK → result ≢ NOT_OPEN → result ≢ OUT_OF_HOST_MEMORY
         → IsMalformed request.now asked.now result ⊎ OnDesks (λ old _.
         Denies (IsDenied request.now asked.now old) result) handle.old handle.new }
     ensures unasked { is_held_only request.now ≡ true → result ≢ ASK }
-    ensures formed { (result ≡ OK) ⊎ (result ≡ ASK) → IsWellFormed request.now asked.now }
+    ensures formed { (result ≡ OK) ⊎ (result ≡ ASK) → IsWellFormedRequest request.now asked.now }
     ensures flags { result ≡ OK → HasFlags block.new }
     ensures unanswered { result ≡ ASK → IsAsked question.new }
-    ensures own { result ≡ ASK → is_own question.new ≡ true → question.new.size ≡ request.now.size }
+    ensures own { result ≡ ASK → asks_own_object question.new ≡ true → question.new.size ≡ request.now.size }
     ensures limit { result ≡ ASK → length asked.now < 64 }
     ensures unchanged { result ≢ OK → OnDesks IsAsBefore handle.old handle.new }
     ensures keeps { OnDesks KeepsSound handle.old handle.new }
@@ -69,17 +69,17 @@ fn allocate(
 ) -> u32
     ensures is_open { result ≢ NOT_OPEN }
     ensures granted { result ≡ OK → IsAllocated request.now asked.now block.new desk.old desk.new }
-    ensures asks { result ≡ ASK → Asks (IsDenied request.now asked.now desk.old) question.new }
+    ensures asks { result ≡ ASK → LeavesOpen (IsDenied request.now asked.now desk.old) question.new }
     ensures denied { result ≢ OK → result ≢ OUT_OF_HOST_MEMORY → IsMalformed request.now asked.now result
         ⊎ Denies (IsDenied request.now asked.now desk.old) result }
     ensures unasked { is_held_only request.now ≡ true → result ≢ ASK }
-    ensures formed { (result ≡ OK) ⊎ (result ≡ ASK) → IsWellFormed request.now asked.now }
+    ensures formed { (result ≡ OK) ⊎ (result ≡ ASK) → IsWellFormedRequest request.now asked.now }
     ensures flags { result ≡ OK → HasFlags block.new }
     ensures unanswered { result ≡ ASK → IsAsked question.new }
-    ensures own { result ≡ ASK → is_own question.new ≡ true → question.new.size ≡ request.now.size }
+    ensures own { result ≡ ASK → asks_own_object question.new ≡ true → question.new.size ≡ request.now.size }
     ensures limit { result ≡ ASK → length asked.now < 64 }
     ensures unchanged { result ≢ OK → IsAsBefore desk.old desk.new }
-    ensures keeps { Keeps desk.old desk.new }
+    ensures keeps { KeepsDesk desk.old desk.new }
 {
     let is_held_only = request.is_held_only();
     let (request, wish) = match request.to_parts() {
@@ -109,7 +109,7 @@ fn allocate_held(desk: &mut Desk, request: Request, wish: Wish, block: &mut layo
     ensures flags { result ≡ OK → HasFlags block.new }
     ensures unasked { result ≢ ASK }
     ensures unchanged { result ≢ OK → IsAsBefore desk.old desk.new }
-    ensures keeps { Keeps desk.old desk.new }
+    ensures keeps { KeepsDesk desk.old desk.new }
 {
     match desk.alloc_held(request, wish) {
         Ok(grant) => {
@@ -190,7 +190,7 @@ pub extern "C" fn wt_set_user(alloc: Global, handle: &mut Handle, key: u64, user
     ensures set { result ≡ OK → OnDesks (λ old new. SetsUser old key user new) handle.old handle.new }
     ensures unknown { result ≢ OK → OnDesks (λ old _. NoBlock old key) handle.old handle.new }
     ensures unchanged { result ≢ OK → desk_of handle.new ≡ desk_of handle.old }
-    ensures sound { OnDesks (λ _ new. IsSound new) handle.old handle.new }
+    ensures sound { OnDesks (λ _ new. IsSoundDesk new) handle.old handle.new }
 {
     let Some(mut kept) = handle.take(alloc) else {
         return NOT_OPEN;

@@ -19,7 +19,7 @@ pub struct Handle {
 }
 
 impl Handle {
-    ghost use Rattle.gpu_desk.specs.Desk.{IsSound};
+    ghost use Rattle.gpu_desk.specs.Desk.{IsSoundDesk};
     ghost use Rattle.wallthyme.specs.Handles.{desk_of};
 
     fn empty(alloc: Global) -> Handle
@@ -53,7 +53,7 @@ impl Handle {
     pub(crate) fn put(&mut self, desk: Box<KeptDesk>)
         requires { IsNone (desk_of self.old) }
         ensures held { desk_of self.new ≡ Some desk.value }
-        ensures sound { IsSound desk.value }
+        ensures sound { IsSoundDesk desk.value }
     {
         may_change_threads(&desk);
         desk.desk.keeps_sound();

@@ -298,14 +298,14 @@ impl Request {
 
 impl Question {
     ghost use Rattle.std.specs.Prelude.{nat_lt};
-    ghost use Rattle.wallthyme.specs.Layout.{answered_of, desk_flags_of, is_own, question_of};
+    ghost use Rattle.wallthyme.specs.Layout.{answered_of, asks_own_object, desk_flags_of, question_of};
     ghost use Rattle.wallthyme.specs.Malformed.{IsAsked, is_answered, is_question};
 
     /// A question as C sees it; `own` says whether the object to allocate will hold only the request's block.
     pub(crate) fn asked(question: gpu_desk::Question, own: bool) -> Question
         ensures question { question_of result ≡ question }
         ensures asked { IsAsked result }
-        ensures own { result.kind ≡ ALLOCATE → own ≡ is_own result }
+        ensures own { result.kind ≡ ALLOCATE → own ≡ asks_own_object result }
     {
         let (kind, object, offset, size) = match question {
             gpu_desk::Question::Allocate { size, .. } => (ALLOCATE, 0, 0, size),
@@ -417,9 +417,9 @@ impl From<Grant> for Block {
 }
 
 impl From<ObjectRange> for Range {
-    ghost use Rattle.wallthyme.specs.Layout.{range_of};
+    ghost use Rattle.wallthyme.specs.Layout.{object_range_of};
 
-    ghost from_gives = { λ range told. range_of told ≡ range };
+    ghost from_gives = { λ range told. object_range_of told ≡ range };
 
     fn from(range: ObjectRange) -> Range {
         Range {

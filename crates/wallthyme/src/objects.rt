@@ -3,11 +3,11 @@
 ghost use Rattle.std.specs.Prelude.{◌≡◌, ◌≢◌, ◌↔◌, ◌⊎◌, ◌<◌, ◌≤◌, ◌+◌, ◌^◌, [], IsNone, List, drop, length, take};
 ghost use Rattle.std.specs.FinMap as map;
 ghost use Rattle.gpu_desk.specs.Calls.{CleansUp, CountsOf, HeapCountsOf, LimitsHeap};
-ghost use Rattle.gpu_desk.specs.Desk.{IsSound};
+ghost use Rattle.gpu_desk.specs.Desk.{IsSoundDesk};
 ghost use Rattle.gpu_alloc_types.specs.declared.types.FreeRange.{FreeRange};
 ghost use Rattle.gpu_session.specs.Does.{IsEachFreeRange};
 ghost use Rattle.wallthyme.specs.Handles.{KeepsSound, OnDesks, desk_of};
-ghost use Rattle.wallthyme.specs.Objects.{AreTold, Reads};
+ghost use Rattle.wallthyme.specs.Objects.{AreRangesTold, Reads};
 ghost use Rattle.wallthyme.specs.Layout.{counts_of, heap_counts_of};
 
 use crate::handle::Handle;
@@ -133,7 +133,7 @@ pub extern "C" fn wt_set_heap_limit(
     ensures known { result ≡ OK → OnDesks (λ old _. heap < length old.allocator.properties.memory_heaps)
         handle.old handle.new }
     ensures unchanged { result ≢ OK → desk_of handle.new ≡ desk_of handle.old }
-    ensures sound { OnDesks (λ _ new. IsSound new) handle.old handle.new }
+    ensures sound { OnDesks (λ _ new. IsSoundDesk new) handle.old handle.new }
 {
     let Some(mut kept) = handle.take(alloc) else {
         return NOT_OPEN;
@@ -180,7 +180,7 @@ pub extern "C" fn wt_free_ranges(
     ensures status { (result ≡ OK) ⊎ ((result ≡ NOT_OPEN) ⊎ ((result ≡ BAD_MEMORY_TYPE) ⊎ (result ≡ OUT_OF_HOST_MEMORY))) }
     ensures told { result ≡ OK → OnDesks (λ old _. (found : List FreeRange)
         × IsEachFreeRange old.allocator memory_type found × (count.new ≡ length found)
-        × AreTold (drop first found) ranges.new) handle.old handle.new }
+        × AreRangesTold (drop first found) ranges.new) handle.old handle.new }
     ensures bad { result ≡ BAD_MEMORY_TYPE → OnDesks (λ old _.
         length old.allocator.properties.memory_types ≤ memory_type) handle.old handle.new }
     ensures known { result ≢ BAD_MEMORY_TYPE → OnDesks (λ old _.
@@ -214,7 +214,7 @@ fn rest_from(first: usize, found: &[FreeRange]) -> &[FreeRange]
 
 /// Writes free ranges to C's array, as many as fit.
 fn tell(found: &[FreeRange], ranges: &mut [layout::Range])
-    ensures { AreTold found.now ranges.new }
+    ensures { AreRangesTold found.now ranges.new }
 {
     for (index, place) in ranges.iter_mut().enumerate() {
         let Some(range) = found.get(index) else {

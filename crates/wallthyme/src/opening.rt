@@ -6,9 +6,9 @@ ghost use Rattle.gpu_alloc_types.specs.Properties.{IsUsable};
 ghost use Rattle.gpu_alloc.specs.Request.{IsGranularity};
 ghost use Rattle.gpu_desk.specs.Desk.{IsEmpty, page_of};
 ghost use Rattle.wallthyme.specs.Handles.{desk_of};
-ghost use Rattle.wallthyme.specs.Layout.{config_of, heap_of, memory_type_of, properties_of, sharing_of as sharing_by};
+ghost use Rattle.wallthyme.specs.Layout.{config_of, heap_of_size, memory_type_of, properties_from, sharing_of as sharing_by};
 ghost use Rattle.wallthyme.specs.Malformed.{IsSharing};
-ghost use Rattle.wallthyme.specs.Opening.{HasNothing, IsOpened};
+ghost use Rattle.wallthyme.specs.Opening.{HasNothing, IsOpenedDesk};
 
 use crate::handle::Handle;
 use crate::kept::KeptDesk;
@@ -41,13 +41,13 @@ pub extern "C" fn wt_open(
 ) -> u32
     ensures already { (result ≡ ALREADY_OPEN) ↔ IsSome (desk_of handle.old) }
     ensures opened { result ≡ OK → IsSomeAnd (desk_of handle.new)
-        (IsOpened (sharing_by config.now.sharing) (config_of config.now)
-        (properties_of types.now heap_sizes.now limits.now) limits.now.buffer_image_granularity) }
-    ensures usable { result ≡ OK → IsUsable (properties_of types.now heap_sizes.now limits.now) }
+        (IsOpenedDesk (sharing_by config.now.sharing) (config_of config.now)
+        (properties_from types.now heap_sizes.now limits.now) limits.now.buffer_image_granularity) }
+    ensures usable { result ≡ OK → IsUsable (properties_from types.now heap_sizes.now limits.now) }
     ensures page { result ≡ OK → IsGranularity (page_of limits.now.buffer_image_granularity) }
     ensures sharing { result ≡ OK → IsSharing config.now.sharing }
     ensures status { (result ≡ OK) ⊎ ((result ≡ ALREADY_OPEN) ⊎ ((result ≡ BAD_PROPERTIES) ⊎ (result ≡ OUT_OF_HOST_MEMORY))) }
-    ensures bad { result ≡ BAD_PROPERTIES → IsUsable (properties_of types.now heap_sizes.now limits.now)
+    ensures bad { result ≡ BAD_PROPERTIES → IsUsable (properties_from types.now heap_sizes.now limits.now)
         → IsGranularity (page_of limits.now.buffer_image_granularity) → IsSharing config.now.sharing → ⊥ }
     ensures host { result ≡ OUT_OF_HOST_MEMORY → IsSharing config.now.sharing }
     ensures refused { result ≢ OK → desk_of handle.new ≡ desk_of handle.old }
@@ -71,13 +71,13 @@ fn opened(
     limits: &layout::Limits,
     config: &layout::Config,
 ) -> Result<Box<KeptDesk>, OpenError>
-    ensures opened { IfOk result (λ kept. IsOpened (sharing_by config.now.sharing) (config_of config.now)
-        (properties_of types.now heap_sizes.now limits.now) limits.now.buffer_image_granularity kept.value) }
-    ensures usable { OnOk result (IsUsable (properties_of types.now heap_sizes.now limits.now)) }
+    ensures opened { IfOk result (λ kept. IsOpenedDesk (sharing_by config.now.sharing) (config_of config.now)
+        (properties_from types.now heap_sizes.now limits.now) limits.now.buffer_image_granularity kept.value) }
+    ensures usable { OnOk result (IsUsable (properties_from types.now heap_sizes.now limits.now)) }
     ensures page { OnOk result (IsGranularity (page_of limits.now.buffer_image_granularity)) }
     ensures sharing { OnOk result (IsSharing config.now.sharing) }
     ensures bad { result ≡ Err OpenError.BadProperties
-        → IsUsable (properties_of types.now heap_sizes.now limits.now)
+        → IsUsable (properties_from types.now heap_sizes.now limits.now)
         → IsGranularity (page_of limits.now.buffer_image_granularity) → IsSharing config.now.sharing → ⊥ }
     ensures host { result ≡ Err OpenError.OutOfHostMemory → IsSharing config.now.sharing }
 {
@@ -130,7 +130,7 @@ fn memory_types(alloc: Global, types: &[layout::MemoryType]) -> Result<Vec<Memor
 }
 
 fn memory_heaps(alloc: Global, heap_sizes: &[u64]) -> Result<Vec<MemoryHeap>, AllocError>
-    ensures { IfOk result (λ made. made.items ≡ map heap_of heap_sizes.now) }
+    ensures { IfOk result (λ made. made.items ≡ map heap_of_size heap_sizes.now) }
 {
     heap_sizes
         .iter()

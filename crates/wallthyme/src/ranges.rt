@@ -1,11 +1,11 @@
 //! The calls that map blocks, and that say what to flush.
 
 ghost use Rattle.std.specs.Prelude.{◌≡◌, ◌≢◌, ◌↔◌, ◌⊎◌, IsNone, None, Some, length, map};
-ghost use Rattle.gpu_desk.specs.Calls.{IsAsBefore, Keeps, MapDenied, Maps, RangeDenied, RangeTold, Unmaps};
+ghost use Rattle.gpu_desk.specs.Calls.{IsAsBefore, KeepsDesk, MapDenied, Maps, RangeDenied, RangeTold, Unmaps};
 ghost use Rattle.wallthyme.specs.Handles.{KeepsSound, NoBlock, OnDesks, desk_of};
 ghost use Rattle.wallthyme.specs.Malformed.{AreAnswered, HasNoAnswer, IsAsked};
-ghost use Rattle.wallthyme.specs.Status.{Asks, Denies};
-ghost use Rattle.wallthyme.specs.Layout.{answered_of, range_of};
+ghost use Rattle.wallthyme.specs.Status.{Denies, LeavesOpen};
+ghost use Rattle.wallthyme.specs.Layout.{answered_of, object_range_of};
 
 use crate::answers::{answers_of, denied_or_asked};
 use crate::handle::Handle;
@@ -31,8 +31,8 @@ pub extern "C" fn wt_map(
 ) -> u32
     ensures closed { (result ≡ NOT_OPEN) ↔ IsNone (desk_of handle.old) }
     ensures mapped { result ≡ OK → OnDesks (λ old new.
-        Maps old key offset size (map answered_of asked.now) new (range_of mapped.new)) handle.old handle.new }
-    ensures asks { result ≡ ASK → OnDesks (λ old _. Asks (MapDenied old key offset size (map answered_of asked.now))
+        Maps old key offset size (map answered_of asked.now) new (object_range_of mapped.new)) handle.old handle.new }
+    ensures asks { result ≡ ASK → OnDesks (λ old _. LeavesOpen (MapDenied old key offset size (map answered_of asked.now))
         question.new) handle.old handle.new }
     ensures denied { result ≢ OK → result ≢ NOT_OPEN → result ≢ OUT_OF_HOST_MEMORY
         → ((result ≡ BAD_ANSWER) × HasNoAnswer asked.now) ⊎ OnDesks (λ old _.
@@ -81,8 +81,8 @@ fn map_part(
 ) -> u32
     ensures is_open { result ≢ NOT_OPEN }
     ensures mapped { result ≡ OK → Maps desk.old part.key part.offset part.size (map answered_of asked.now) desk.new
-        (range_of mapped.new) }
-    ensures asks { result ≡ ASK → Asks (MapDenied desk.old part.key part.offset part.size (map answered_of asked.now))
+        (object_range_of mapped.new) }
+    ensures asks { result ≡ ASK → LeavesOpen (MapDenied desk.old part.key part.offset part.size (map answered_of asked.now))
         question.new }
     ensures denied { result ≢ OK → result ≢ OUT_OF_HOST_MEMORY → ((result ≡ BAD_ANSWER) × HasNoAnswer asked.now)
         ⊎ Denies (MapDenied desk.old part.key part.offset part.size (map answered_of asked.now)) result }
@@ -90,7 +90,7 @@ fn map_part(
     ensures unanswered { result ≡ ASK → IsAsked question.new }
     ensures limit { result ≡ ASK → length asked.now ≡ 0 }
     ensures unchanged { result ≢ OK → IsAsBefore desk.old desk.new }
-    ensures keeps { Keeps desk.old desk.new }
+    ensures keeps { KeepsDesk desk.old desk.new }
 {
     if let Err(status) = answers_of(answers, asked) {
         return status;
@@ -143,7 +143,7 @@ pub extern "C" fn wt_range_of(
     range: &mut layout::Range,
 ) -> u32
     ensures closed { (result ≡ NOT_OPEN) ↔ IsNone (desk_of handle.old) }
-    ensures told { result ≡ OK → OnDesks (λ old _. RangeTold old key offset size (range_of range.new))
+    ensures told { result ≡ OK → OnDesks (λ old _. RangeTold old key offset size (object_range_of range.new))
         handle.old handle.new }
     ensures denied { result ≢ OK → result ≢ NOT_OPEN → OnDesks (λ old _.
         Denies (RangeDenied old key offset size) result) handle.old handle.new }

@@ -11,8 +11,8 @@ use Rattle.gpu_alloc_base.specs.Case.{Answers, GivesInPlace, GivesInNewObject}
 use Rattle.gpu_alloc_base.specs.NewObject.{HasOneMore}
 use Rattle.gpu_alloc.specs.Allocation.{ObjectsWith}
 use Rattle.gpu_alloc.specs.Candidates.{buddy_candidate}
-use Rattle.gpu_alloc_buddy.specs.Buddy.{buddy_case, question, BeginsChunk, IsFront, ObjectsAfter, with_leaf, with_chunk, chunk_size, sees_chunks}
-use Rattle.gpu_alloc_buddy.specs.BuddySound.{IsSound}
+use Rattle.gpu_alloc_buddy.specs.Buddy.{buddy_case, question, BeginsBuddyChunk, IsBuddyFront, ObjectsAfter, buddy_with_leaf, buddy_with_chunk, chunk_size, sees_chunks}
+use Rattle.gpu_alloc_buddy.specs.BuddySound.{IsSoundBuddy}
 use Rattle.gpu_alloc_buddy.specs.BuddyState.{Buddy}
 use Rattle.gpu_alloc_base.specs.Chunks.{Chunk, IsNew}
 use Rattle.gpu_alloc_freelist.specs.FreeListState.{Listing}
@@ -23,7 +23,7 @@ use Rattle.gpu_alloc.proofs.Linked.{IsRecorded}
 use Rattle.gpu_alloc_base.specs.NewChunk.{made}
 use Rattle.gpu_alloc.specs.BuddySharing.{buddy_question, buddy_block, with_span, with_buddy_chunk}
 use Rattle.gpu_alloc.specs.Spans.{Table}
-use Rattle.gpu_alloc.specs.Whole.{whole, AreWhole}
+use Rattle.gpu_alloc.specs.Whole.{whole, AreOneWhole}
 use Rattle.gpu_alloc.proofs.Wholes.{at_read, leaf_comes, buddy_chunk_comes}
 use Rattle.gpu_alloc_block.specs.State.{Block, HeldObject, State}
 use Rattle.gpu_alloc_block.specs.declared.block.Kind.TheVariants.{BuddyChunk}
@@ -50,7 +50,7 @@ use Rattle.gpu_alloc_fit.specs.Fit.{Fitting}
 -- A request to a buddy allocator among the fields, and the block that it gave.
 
 module _ {A : Type 0} {l : Limits A} {heaps : List Heap} {buddies : List Buddy} {lists : List Listing} {fits : List Fitting} {remaining index i : ℕ} {b : Buddy} {heap : Heap} {flags : ℕ} {leaf : Leaf} {q : Properties} {old : ℕ → Option Object}
-    (own : OwnTable) (given : Given l heaps buddies lists fits (whole own buddies lists fits) remaining index i buddies b heap flags q old) (apart : AreWhole own buddies lists fits) (choice : l.sharing ≡ BuddiesChosen) (new : ℕ → Option Object) (size : ℕ) (es : List Event) (after : Account Buddy)
+    (own : OwnTable) (given : Given l heaps buddies lists fits (whole own buddies lists fits) remaining index i buddies b heap flags q old) (apart : AreOneWhole own buddies lists fits) (choice : l.sharing ≡ BuddiesChosen) (new : ℕ → Option Object) (size : ℕ) (es : List Event) (after : Account Buddy)
     (answers : Answers (buddy_case (account b heap remaining) size flags) es (Ok leaf) after) (objects : ObjectsAfter b (Ok leaf) after.allocator old new) (nonempty : 0 < leaf.size) where
   abbrev t : Table
   t = whole own buddies lists fits
@@ -83,7 +83,7 @@ module _ {A : Type 0} {l : Limits A} {heaps : List Heap} {buddies : List Buddy} 
   abbrev block : Block
   block = buddy_block before index (span_of_leaf leaf)
 
-  there : (front : IsFront b size leaf) → finite.get t.held leaf.object ≡ Some (chunk_object b front.chunk)
+  there : (front : IsBuddyFront b size leaf) → finite.get t.held leaf.object ≡ Some (chunk_object b front.chunk)
   there front =
       let chunk_found = buddy_of l heaps buddies lists fits t remaining index b given.is given.known given.at in
       ap (finite.get t.held) front.object ∙ chunk_found.linked.chunks leaf.chunk front.chunk front.held
@@ -95,7 +95,7 @@ module _ {A : Type 0} {l : Limits A} {heaps : List Heap} {buddies : List Buddy} 
   in_range = omega (arith, given.known, given.is.shared.count)
 
   -- What the fields are with another buddy allocator.
-  module _ (sound : IsSound after.allocator) where
+  module _ (sound : IsSoundBuddy after.allocator) where
     abbrev now : Account Buddy → Table
     now a = whole own (set buddies index a.allocator) lists fits
 
@@ -105,19 +105,19 @@ module _ {A : Type 0} {l : Limits A} {heaps : List Heap} {buddies : List Buddy} 
     -- what is left of it
     pub record IsServed (a : Account Buddy) : Type 0 where
       pub recorded : IsRecorded l.sharing l.config (properties_in l (set heaps i a.heap)) (set heaps i a.heap) (set buddies index a.allocator) lists fits (now a) a.remaining
-      pub parts : AreWhole own (set buddies index a.allocator) lists fits
+      pub parts : AreOneWhole own (set buddies index a.allocator) lists fits
       pub gives : GivesInPlace (buddy_candidate before size index) es block (state_of a) ⊎ GivesInNewObject (buddy_candidate before size index) es block (state_of a)
       pub objects_are : ObjectsWith before block (state_of a) old new
 
     -- in a chunk that was held
-    in_chunk : (front : IsFront b size leaf) → new ≡ old → after ≡ account (with_leaf b leaf) heap remaining
+    in_chunk : (front : IsBuddyFront b size leaf) → new ≡ old → after ≡ account (buddy_with_leaf b leaf) heap remaining
         → GivesInPlace (buddy_candidate before size index) es block (with_span before (span_of_leaf leaf)) → IsServed after
     in_chunk front same_objects after_is gives =
-        let buddy_now : Buddy = with_leaf b leaf in
+        let buddy_now : Buddy = buddy_with_leaf b leaf in
         let made = leaf_comes own buddies lists fits apart index b stands in_range serving.of.sound serving.of.for_type.memory_type buddy_now refl leaf front.chunk front.held front.object refl refl in
         let now_is : Table = whole own (set buddies index buddy_now) lists fits in
         let more : HasLeafMore t now_is leaf = record { free = span_is_free; live = made.live_is } in
-        let sound_now = subst IsSound (ap (λ (a : Account Buddy). a.allocator) after_is) sound in
+        let sound_now = subst IsSoundBuddy (ap (λ (a : Account Buddy). a.allocator) after_is) sound in
         let state = state_with_leaf l heaps buddies lists fits t remaining index b given.is given.known given.at i heap given.here given.at_heap leaf front.chunk now_is front.held front.object sound_now made.held_is more in
         subst IsServed (sym after_is) (record {
           recorded = recorded_with_leaf l heaps buddies lists fits t remaining index b given.is given.known given.at i heap given.here given.at_heap leaf front.chunk now_is front.held front.object sound_now made.held_is more;
@@ -127,8 +127,8 @@ module _ {A : Type 0} {l : Limits A} {heaps : List Heap} {buddies : List Buddy} 
         })
 
     -- in a new chunk
-    in_new_chunk : BeginsChunk b size leaf → finite.get t.held leaf.object ≡ None → 0 < remaining → heap.used + chunk_size b size ≤ heap.limit
-        → after ≡ account (with_leaf (with_chunk b leaf (chunk_size b size)) leaf) (record heap { used = heap.used + chunk_size b size }) (remaining - 1)
+    in_new_chunk : BeginsBuddyChunk b size leaf → finite.get t.held leaf.object ≡ None → 0 < remaining → heap.used + chunk_size b size ≤ heap.limit
+        → after ≡ account (buddy_with_leaf (buddy_with_chunk b leaf (chunk_size b size)) leaf) (record heap { used = heap.used + chunk_size b size }) (remaining - 1)
         → HasOneMore (IsNew b.memory_type (sees_chunks b)) (finite.get after.allocator.chunks leaf.chunk) leaf.object old new
         → GivesInNewObject (buddy_candidate before size index) es block (with_span (with_buddy_chunk before index leaf.object (buddy_question before index size).size) (span_of_leaf leaf))
         → IsServed after
@@ -137,7 +137,7 @@ module _ {A : Type 0} {l : Limits A} {heaps : List Heap} {buddies : List Buddy} 
         let n : ℕ = chunk_size b size in
         let chunk : Chunk = record { object = leaf.object; size = n } in
         let changed : Heap = record heap { used = heap.used + n } in
-        let buddy_now : Buddy = with_leaf (with_chunk b leaf n) leaf in
+        let buddy_now : Buddy = buddy_with_leaf (buddy_with_chunk b leaf n) leaf in
         let after_buddy : after.allocator ≡ buddy_now = ap (λ (a : Account Buddy). a.allocator) after_is in
         let chunk_now : finite.get after.allocator.chunks leaf.chunk ≡ Some chunk = ap (λ (x : Buddy). finite.get x.chunks leaf.chunk) after_buddy ∙ own_inserted b.chunks leaf.chunk chunk in
         let row : HeldObject = record { memory_type = index; counted = n; kind = BuddyChunk } in
@@ -148,7 +148,7 @@ module _ {A : Type 0} {l : Limits A} {heaps : List Heap} {buddies : List Buddy} 
         let more : HasLeafMore t now_is leaf = record { free = span_is_free; live = made.live_is } in
         let power = sound.space.powers leaf.chunk chunk chunk_now in
         let small : n < 2 ^ 64 = omega (arith, power.1.1, pow-le power.0 63 power.1.0) in
-        let sound_now = subst IsSound after_buddy sound in
+        let sound_now = subst IsSoundBuddy after_buddy sound in
         let state = state_with_chunk l heaps buddies lists fits t remaining index b given.is given.known given.at i heap given.here given.at_heap leaf n now_is changed free some small sound_now held_now more refl within choice in
         let asked = asked_size l heaps buddies lists fits t remaining index b given.is given.known given.at i heap given.here given.at_heap size in
         let state_asked = state ∙ ap (λ m. with_span (with_buddy_chunk before index leaf.object m) (span_of_leaf leaf)) asked in

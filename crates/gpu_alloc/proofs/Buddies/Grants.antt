@@ -8,9 +8,9 @@ use Rattle.std.specs.FinMap as finite
 use Rattle.std.specs.List.{slice_get}
 use Rattle.gpu_alloc_types.specs.Properties.{Properties, heap_at}
 use Rattle.gpu_alloc_base.specs.Accounts.{IsCounted}
-use Rattle.gpu_alloc_buddy.specs.Buddy.{with_leaf, with_chunk, chunk_size}
-use Rattle.gpu_alloc_buddy.specs.BuddySound.{IsSound}
-use Rattle.gpu_alloc_buddy.specs.BuddyState.{Buddy, IsLiveLeaf}
+use Rattle.gpu_alloc_buddy.specs.Buddy.{buddy_with_leaf, buddy_with_chunk, chunk_size}
+use Rattle.gpu_alloc_buddy.specs.BuddySound.{IsSoundBuddy}
+use Rattle.gpu_alloc_buddy.specs.BuddyState.{Buddy, IsLiveBuddyLeaf}
 use Rattle.gpu_alloc_base.specs.Chunks.{Chunk}
 use Rattle.gpu_alloc_freelist.specs.FreeListState.{Listing}
 use Rattle.gpu_alloc.specs.Inside.{fits_in, state_in, properties_in, types_in, lists_in, chunk_object, span_of_leaf, IsBuddyFor, IsForType}
@@ -37,7 +37,7 @@ use Rattle.gpu_alloc.proofs.Buddies.States.{HasLeafMore, next_at, types_set, typ
 use Rattle.gpu_alloc_fit.specs.Fit.{Fitting}
 
 -- a live block is not empty
-some_bytes : (b : Buddy) (leaf : Leaf) → IsSound b → IsLiveLeaf b leaf → 0 < leaf.size
+some_bytes : (b : Buddy) (leaf : Leaf) → IsSoundBuddy b → IsLiveBuddyLeaf b leaf → 0 < leaf.size
 some_bytes b leaf sound live = let lies = sound.space.inside leaf live in omega (arith, lies.power.1, pow_pos lies.power.0)
 
 -- a list with its own element put in its place
@@ -96,61 +96,61 @@ module _ {A : Type 0} (l : Limits A) (heaps : List Heap) (buddies : List Buddy) 
 
     -- A block more in a held chunk.
 
-    module _ (leaf : Leaf) (chunk : Chunk) (now : Table) (found : finite.get b.chunks leaf.chunk ≡ Some chunk) (object : leaf.object ≡ chunk.object) (sound : IsSound (with_leaf b leaf))
+    module _ (leaf : Leaf) (chunk : Chunk) (now : Table) (found : finite.get b.chunks leaf.chunk ≡ Some chunk) (object : leaf.object ≡ chunk.object) (sound : IsSoundBuddy (buddy_with_leaf b leaf))
         (held : now.held ≡ t.held) (more : HasLeafMore t now leaf) where
       chunk_held : finite.get t.held leaf.object ≡ Some (chunk_object b chunk)
       chunk_held = ap (finite.get t.held) object ∙ buddy_of.linked.chunks leaf.chunk chunk found
 
-      buddy_with_leaf : IsBuddyFor l.config p index (with_leaf b leaf)
-      buddy_with_leaf = record { for_type = same_for (with_leaf b leaf) refl refl refl refl; sound = sound }
+      sound_with_leaf : IsBuddyFor l.config p index (buddy_with_leaf b leaf)
+      sound_with_leaf = record { for_type = same_for (buddy_with_leaf b leaf) refl refl refl refl; sound = sound }
 
-      pub recorded_with_leaf : IsRecordedWith (with_leaf b leaf) heap now remaining
+      pub recorded_with_leaf : IsRecordedWith (buddy_with_leaf b leaf) heap now remaining
       recorded_with_leaf =
-          subst (λ (hs : List Heap). IsRecorded l.sharing l.config (properties_in l hs) hs (set buddies index (with_leaf b leaf)) lists fits now remaining) (sym (same_set heaps i heap heap at_heap refl)) (record {
-            books = booked-span p heaps t remaining is.books refl now (chunk_object b chunk) (span_of_leaf leaf) chunk_held refl held (some_bytes (with_leaf b leaf) leaf sound (now_live b.live leaf)) more.live;
-            shared = buddies_set l.config p buddies index (with_leaf b leaf) (buddies_for l.config p t buddies is.shared) buddy_with_leaf;
+          subst (λ (hs : List Heap). IsRecorded l.sharing l.config (properties_in l hs) hs (set buddies index (buddy_with_leaf b leaf)) lists fits now remaining) (sym (same_set heaps i heap heap at_heap refl)) (record {
+            books = booked-span p heaps t remaining is.books refl now (chunk_object b chunk) (span_of_leaf leaf) chunk_held refl held (some_bytes (buddy_with_leaf b leaf) leaf sound (now_live b.live leaf)) more.live;
+            shared = buddies_set l.config p buddies index (buddy_with_leaf b leaf) (buddies_for l.config p t buddies is.shared) sound_with_leaf;
             listed = lists_for l.config p t lists is.listed;
             fitted = fits_for l.config p t fits is.fitted;
             chosen = chosen_same l.sharing t now is.chosen held;
           })
 
-      pub state_with_leaf : state_with (with_leaf b leaf) heap now remaining ≡ with_span s (span_of_leaf leaf)
+      pub state_with_leaf : state_with (buddy_with_leaf b leaf) heap now remaining ≡ with_span s (span_of_leaf leaf)
       state_with_leaf =
-          ap (λ (hs : List Heap). state_in l hs (set buddies index (with_leaf b leaf)) lists fits now remaining) (same_set heaps i heap heap at_heap refl)
-          ∙ (λ k. record s { held = held k; live = more.live k; types = fits_in (lists_in (types_kept (first_types l.config p) buddies index (with_leaf b leaf) b at refl k) lists) fits })
+          ap (λ (hs : List Heap). state_in l hs (set buddies index (buddy_with_leaf b leaf)) lists fits now remaining) (same_set heaps i heap heap at_heap refl)
+          ∙ (λ k. record s { held = held k; live = more.live k; types = fits_in (lists_in (types_kept (first_types l.config p) buddies index (buddy_with_leaf b leaf) b at refl k) lists) fits })
 
     -- A chunk more with a block in it.
 
     module _ (leaf : Leaf) (size : ℕ) (now : Table) (changed : Heap) (free : finite.get t.held leaf.object ≡ None) (some : 0 < remaining) (small : size < 2 ^ 64)
-        (sound : IsSound (with_leaf (with_chunk b leaf size) leaf)) (held : now.held ≡ finite.insert t.held leaf.object (record { memory_type = index; counted = size; kind = BuddyChunk })) (more : HasLeafMore t now leaf)
+        (sound : IsSoundBuddy (buddy_with_leaf (buddy_with_chunk b leaf size) leaf)) (held : now.held ≡ finite.insert t.held leaf.object (record { memory_type = index; counted = size; kind = BuddyChunk })) (more : HasLeafMore t now leaf)
         (counts : changed ≡ record heap { used = heap.used + size }) (within : heap.used + size ≤ heap.limit) (choice : l.sharing ≡ BuddiesChosen) where
       abbrev object_of : HeldObject
       object_of = record { memory_type = index; counted = size; kind = BuddyChunk }
 
-      buddy_with_chunk : IsBuddyFor l.config p index (with_leaf (with_chunk b leaf size) leaf)
-      buddy_with_chunk = record { for_type = same_for (with_leaf (with_chunk b leaf size) leaf) refl refl refl refl; sound = sound }
+      sound_with_chunk : IsBuddyFor l.config p index (buddy_with_leaf (buddy_with_chunk b leaf size) leaf)
+      sound_with_chunk = record { for_type = same_for (buddy_with_leaf (buddy_with_chunk b leaf size) leaf) refl refl refl refl; sound = sound }
 
-      pub recorded_with_chunk : IsRecordedWith (with_leaf (with_chunk b leaf size) leaf) changed now (remaining - 1)
+      pub recorded_with_chunk : IsRecordedWith (buddy_with_leaf (buddy_with_chunk b leaf size) leaf) changed now (remaining - 1)
       recorded_with_chunk =
-          subst (λ (q : Properties). IsRecorded l.sharing l.config q (set heaps i changed) (set buddies index (with_leaf (with_chunk b leaf size) leaf)) lists fits now (remaining - 1))
+          subst (λ (q : Properties). IsRecorded l.sharing l.config q (set heaps i changed) (set buddies index (buddy_with_leaf (buddy_with_chunk b leaf size) leaf)) lists fits now (remaining - 1))
           (sym (properties_kept l heaps i changed heap at_heap (ap (λ (h : Heap). h.size) counts))) (record {
             books = booked-held p heaps t remaining is.books refl now object_of (span_of_leaf leaf)
-                (record { with = record { nonempty = some_bytes (with_leaf (with_chunk b leaf size) leaf) leaf sound (now_live b.live leaf); small = small; known = known; lies = λ own. absurd (cc) }; free = free; held = held; live = more.live })
+                (record { with = record { nonempty = some_bytes (buddy_with_leaf (buddy_with_chunk b leaf size) leaf) leaf sound (now_live b.live leaf); small = small; known = known; lies = λ own. absurd (cc) }; free = free; held = held; live = more.live })
                 heap changed i some here at_heap counts (λ asked. within);
-            shared = buddies_set l.config p buddies index (with_leaf (with_chunk b leaf size) leaf) (buddies_for l.config p t buddies is.shared) buddy_with_chunk;
+            shared = buddies_set l.config p buddies index (buddy_with_leaf (buddy_with_chunk b leaf size) leaf) (buddies_for l.config p t buddies is.shared) sound_with_chunk;
             listed = lists_for l.config p t lists is.listed;
             fitted = fits_for l.config p t fits is.fitted;
             chosen = chosen_more l.sharing t now leaf.object object_of is.chosen (ap (λ c. is_chosen c BuddyChunk) choice) held;
           })
 
-      types_now : fits_in (lists_in (types_in (first_types l.config p) (set buddies index (with_leaf (with_chunk b leaf size) leaf))) lists) fits ≡ with_next_chunk s.types index size
+      types_now : fits_in (lists_in (types_in (first_types l.config p) (set buddies index (buddy_with_leaf (buddy_with_chunk b leaf size) leaf))) lists) fits ≡ with_next_chunk s.types index size
       types_now =
-          ap (λ types. fits_in (lists_in types lists) fits) (types_set (first_types l.config p) buddies index (with_leaf (with_chunk b leaf size) leaf) inside typed)
+          ap (λ types. fits_in (lists_in types lists) fits) (types_set (first_types l.config p) buddies index (buddy_with_leaf (buddy_with_chunk b leaf size) leaf) inside typed)
           ∙ ap (λ types. fits_in types fits) (lists_next (types_in (first_types l.config p) buddies) lists index size) ∙ fits_next (lists_in (types_in (first_types l.config p) buddies) lists) fits index size
 
-      pub state_with_chunk : state_with (with_leaf (with_chunk b leaf size) leaf) changed now (remaining - 1) ≡ with_span (with_buddy_chunk s index leaf.object size) (span_of_leaf leaf)
+      pub state_with_chunk : state_with (buddy_with_leaf (buddy_with_chunk b leaf size) leaf) changed now (remaining - 1) ≡ with_span (with_buddy_chunk s index leaf.object size) (span_of_leaf leaf)
       state_with_chunk =
-          state_kept l heaps (set buddies index (with_leaf (with_chunk b leaf size) leaf)) lists fits i changed heap now (remaining - 1) at_heap (ap (λ (h : Heap). h.size) counts) (ap (λ (h : Heap). h.limit) counts)
+          state_kept l heaps (set buddies index (buddy_with_leaf (buddy_with_chunk b leaf size) leaf)) lists fits i changed heap now (remaining - 1) at_heap (ap (λ (h : Heap). h.size) counts) (ap (λ (h : Heap). h.limit) counts)
           ∙ (λ k. record s { held = held k; live = more.live k; remaining = remaining - 1; types = types_now k })
 
     -- the size of the chunk is the question's

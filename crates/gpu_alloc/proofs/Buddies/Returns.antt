@@ -9,10 +9,10 @@ use Rattle.gpu_alloc_types.specs.Device.Event.{Deallocated}
 use Rattle.gpu_alloc_types.specs.Properties.{Properties, heap_at}
 use Rattle.gpu_alloc_block.specs.Agreement as agreement
 use Rattle.gpu_alloc_base.specs.Accounts.{Account, account, IsCounted}
-use Rattle.gpu_alloc_buddy.specs.Buddy.{without_leaf, IsUnusedChunk}
+use Rattle.gpu_alloc_buddy.specs.Buddy.{buddy_without_leaf, IsUnusedBuddyChunk}
 use Rattle.gpu_alloc_buddy.specs.Buddy as buddy
-use Rattle.gpu_alloc_buddy.specs.BuddySound.{LiesInChunk, IsSound}
-use Rattle.gpu_alloc_buddy.specs.BuddyState.{Buddy, IsLiveLeaf, IsLiveSpan, IsNoLiveSpan}
+use Rattle.gpu_alloc_buddy.specs.BuddySound.{LiesInBuddyChunk, IsSoundBuddy}
+use Rattle.gpu_alloc_buddy.specs.BuddyState.{Buddy, IsLiveBuddyLeaf, IsLiveBuddySpan, IsNoLiveBuddySpan}
 use Rattle.gpu_alloc_base.proofs.Leaves.{leaf_same_or_left}
 use Rattle.gpu_alloc_base.specs.Chunks.{Chunk}
 use Rattle.gpu_alloc_freelist.specs.FreeListState.{Listing}
@@ -56,7 +56,7 @@ pub record Given {A : Type 0} (l : Limits A) (heaps : List Heap) (buddies : List
   pub at : b ≡ get_or buddies index b
   pub here : i ≡ heap_at (properties_in l heaps) index
   pub at_heap : heap ≡ get_or heaps i heap
-  pub live : IsLiveLeaf b leaf
+  pub live : IsLiveBuddyLeaf b leaf
   pub span : ◌≡◌ {A = Span} (span_of block) (span_of_leaf leaf)
   pub shared : block.kind ≡ BuddyChunk
 
@@ -67,14 +67,14 @@ module _ {A : Type 0} (l : Limits A) {heaps : List Heap} {buddies : List Buddy} 
   pub known_type : index < length (properties_in l heaps).memory_types
   known_type = omega (arith, typed, owned.held.2, (known_object (properties_in l heaps) heaps (whole own buddies lists fits) remaining kept.books refl block.object owned.held.0 owned.held.1).of_type)
 
-  pub leaf_found : IsNoLiveSpan b block.object block.offset block.size → ⊥
+  pub leaf_found : IsNoLiveBuddySpan b block.object block.offset block.size → ⊥
   leaf_found none =
       let of = buddy_of l heaps buddies lists fits (whole own buddies lists fits) remaining index b (consistent l.sharing l.config (properties_in l heaps) heaps own buddies lists fits remaining kept) known_type at in
       let there = of.linked.spans (span_of block) owned.held.0 owned.live (record { held = owned.held.1; of_kind = owned.held.3 ∙ shared; of_type = owned.held.2 ∙ sym typed ∙ sym of.for_type.memory_type }) in
       none (leaf_at (span_of block) there.0) (record { live = there.1; of_object = refl; starts = refl; of_size = refl })
 
-  pub given_back : {leaf : Leaf} {i : ℕ} {heap : Heap} → i ≡ heap_at (properties_in l heaps) index → heap ≡ get_or heaps i heap → IsLiveSpan b block.object block.offset block.size leaf → Given l heaps buddies lists fits own remaining index i b heap leaf block
-  given_back here at_heap of = record {
+  pub put_back_given : {leaf : Leaf} {i : ℕ} {heap : Heap} → i ≡ heap_at (properties_in l heaps) index → heap ≡ get_or heaps i heap → IsLiveBuddySpan b block.object block.offset block.size leaf → Given l heaps buddies lists fits own remaining index i b heap leaf block
+  put_back_given here at_heap of = record {
     kept = kept;
     known = known_type;
     at = at;
@@ -107,7 +107,7 @@ module _ {A : Type 0} {l : Limits A} {heaps : List Heap} {buddies : List Buddy} 
   in_range : index < length buddies
   in_range = omega (arith, given.known, given.kept.shared.count)
 
-  lies : LiesInChunk b leaf
+  lies : LiesInBuddyChunk b leaf
   lies = of.sound.space.inside leaf given.live
 
   -- What the buddy allocator asks.
@@ -130,20 +130,20 @@ module _ {A : Type 0} {l : Limits A} {heaps : List Heap} {buddies : List Buddy} 
   found = ap (finite.get t.held) lies.object ∙ of.linked.chunks leaf.chunk lies.chunk lies.held
 
   -- its object is left unused exactly where its chunk is
-  unused_now : IsUnusedChunk (without_leaf b leaf) leaf.chunk → IsUnused (without_span before block) block.object
+  unused_now : IsUnusedBuddyChunk (buddy_without_leaf b leaf) leaf.chunk → IsUnused (without_span before block) block.object
   unused_now unused = subst (IsUnused (without_span before block)) (sym object_is) (unused_is before index b serving leaf block given.live given.span unused)
 
-  used_now : (IsUnusedChunk (without_leaf b leaf) leaf.chunk → ⊥) → IsUnused (without_span before block) block.object → ⊥
+  used_now : (IsUnusedBuddyChunk (buddy_without_leaf b leaf) leaf.chunk → ⊥) → IsUnused (without_span before block) block.object → ⊥
   used_now used unused = used (unused_was before index b serving leaf block given.live given.span (subst (IsUnused (without_span before block)) object_is unused))
 
   -- where its chunk goes, no other span of it is live
-  last_of : IsUnusedChunk (without_leaf b leaf) leaf.chunk → (other : Span) → IsTrue (set_of.contains t.live other) → other.object ≡ leaf.object → other ≡ span_of_leaf leaf
+  last_of : IsUnusedBuddyChunk (buddy_without_leaf b leaf) leaf.chunk → (other : Span) → IsTrue (set_of.contains t.live other) → other.object ≡ leaf.object → other ≡ span_of_leaf leaf
   last_of unused other was of_it =
       only_span t.live (span_of_leaf leaf) other
       (λ left still. unused_is before index b serving leaf block given.live given.span unused left (subst (λ x. IsTrue (set_of.contains (set_of.remove t.live x) left)) (sym given.span) still)) was of_it
 
   -- nor another block
-  last_leaf : IsUnusedChunk (without_leaf b leaf) leaf.chunk → (other : Leaf) → IsLiveLeaf b other → other.chunk ≡ leaf.chunk → other ≡ leaf
+  last_leaf : IsUnusedBuddyChunk (buddy_without_leaf b leaf) leaf.chunk → (other : Leaf) → IsLiveBuddyLeaf b other → other.chunk ≡ leaf.chunk → other ≡ leaf
   last_leaf unused other was named = elim (leaf_same_or_left b.live leaf other was) [
     | inl same ↦ same
     | inr left ↦ absurd (unused other left named)
@@ -155,9 +155,9 @@ module _ {A : Type 0} {l : Limits A} {heaps : List Heap} {buddies : List Buddy} 
   With a s = StandFor l (set heaps i a.heap) (set buddies index a.allocator) lists fits own a.remaining s
 
   -- with a block fewer in a chunk that stays
-  stays : IsSound (without_leaf b leaf) → With (account (without_leaf b leaf) heap remaining) (without_span before block)
+  stays : IsSoundBuddy (buddy_without_leaf b leaf) → With (account (buddy_without_leaf b leaf) heap remaining) (without_span before block)
   stays sound =
-      let after : Buddy = without_leaf b leaf in
+      let after : Buddy = buddy_without_leaf b leaf in
       let made = leaf_goes own buddies lists fits given.kept.apart index b (at_read buddies index b in_range given.at) in_range of.sound of.for_type.memory_type after refl leaf given.live refl refl in
       subst (λ (hs : List Heap). StandFor l hs (set buddies index after) lists fits own remaining (without_span before block)) (sym (same_set heaps i heap heap given.at_heap refl)) (
         record {
@@ -176,10 +176,10 @@ module _ {A : Type 0} {l : Limits A} {heaps : List Heap} {buddies : List Buddy} 
       )
 
   -- with a chunk fewer, which goes with its last block
-  goes : IsUnusedChunk (without_leaf b leaf) leaf.chunk → IsSound (record (without_leaf b leaf) { chunks = finite.remove b.chunks leaf.chunk })
-      → With (account (record (without_leaf b leaf) { chunks = finite.remove b.chunks leaf.chunk }) (record heap { used = heap.used - lies.chunk.size }) (remaining + 1)) (returned before block)
+  goes : IsUnusedBuddyChunk (buddy_without_leaf b leaf) leaf.chunk → IsSoundBuddy (record (buddy_without_leaf b leaf) { chunks = finite.remove b.chunks leaf.chunk })
+      → With (account (record (buddy_without_leaf b leaf) { chunks = finite.remove b.chunks leaf.chunk }) (record heap { used = heap.used - lies.chunk.size }) (remaining + 1)) (returned before block)
   goes unused sound =
-      let after : Buddy = record (without_leaf b leaf) { chunks = finite.remove b.chunks leaf.chunk } in
+      let after : Buddy = record (buddy_without_leaf b leaf) { chunks = finite.remove b.chunks leaf.chunk } in
       let changed : Heap = record heap { used = heap.used - lies.chunk.size } in
       let made = last_leaf_goes own buddies lists fits given.kept.apart index b (at_read buddies index b in_range given.at) in_range of.sound of.for_type.memory_type after refl leaf given.live (last_leaf unused) refl refl in
       let now : Table = whole own (set buddies index after) lists fits in (
@@ -212,28 +212,28 @@ module _ {A : Type 0} {l : Limits A} {heaps : List Heap} {buddies : List Buddy} 
     pub freed : ObjectsFreed before block old new
     pub agreed : agreement.Agrees (state_with after) r new
 
-  module _ {after : Account Buddy} {es : List Event} {q r : Properties} {old new : ℕ → Option Object} (sound : IsSound after.allocator) (agrees : agreement.Agrees before q old) (properties : r ≡ q) where
+  module _ {after : Account Buddy} {es : List Event} {q r : Properties} {old new : ℕ → Option Object} (sound : IsSoundBuddy after.allocator) (agrees : agreement.Agrees before q old) (properties : r ≡ q) where
     -- these objects went with it
     left : (s : State) (names : List ℕ) → With after s → GoesWith block.kind (without_span before block) block.object names → es ≡ map Deallocated names
         → s ≡ record (without_span before block) { held = without_all before.held names; remaining = remaining + length names } → new ≡ without_objects old names → agreement.Agrees s r new → IsReturned after es r old new
     left s names fields with_it told lets objects agreed =
         record { kept = fields.0; frees = (names, with_it, (told, fields.1 ∙ lets)); freed = (names, with_it, objects); agreed = subst (λ x. agreement.Agrees x r new) (sym fields.1) agreed }
 
-    chunk_stays : (IsUnusedChunk (without_leaf b leaf) leaf.chunk → ⊥) → es ≡ [] → after ≡ account (without_leaf b leaf) heap remaining → new ≡ old → IsReturned after es r old new
+    chunk_stays : (IsUnusedBuddyChunk (buddy_without_leaf b leaf) leaf.chunk → ⊥) → es ≡ [] → after ≡ account (buddy_without_leaf b leaf) heap remaining → new ≡ old → IsReturned after es r old new
     chunk_stays used none after_is same_objects =
-        let fields = stays (subst IsSound (ap (λ (a : Account Buddy). a.allocator) after_is) sound) in
+        let fields = stays (subst IsSoundBuddy (ap (λ (a : Account Buddy). a.allocator) after_is) sound) in
         left (without_span before block) [] (subst (λ a. With a (without_span before block)) (sym after_is) fields) (subst (λ k. GoesWith k (without_span before block) block.object []) (sym given.shared) (inr (used_now used, refl))) none
         (λ k. record (without_span before block) { remaining = zero k }) same_objects (subst (agreement.Agrees (without_span before block) r) (sym same_objects) (agrees_without_span before q r old block agrees properties))
       where
         zero : remaining ≡ remaining + 0
         zero = omega arith
 
-    chunk_goes : IsUnusedChunk (without_leaf b leaf) leaf.chunk → (chunk : Chunk) → finite.get b.chunks leaf.chunk ≡ Some chunk → es ≡ Deallocated leaf.object ∷ []
-        → after ≡ account (record (without_leaf b leaf) { chunks = finite.remove b.chunks leaf.chunk }) (record heap { used = heap.used - chunk.size }) (remaining + 1) → new ≡ put old leaf.object None → IsReturned after es r old new
+    chunk_goes : IsUnusedBuddyChunk (buddy_without_leaf b leaf) leaf.chunk → (chunk : Chunk) → finite.get b.chunks leaf.chunk ≡ Some chunk → es ≡ Deallocated leaf.object ∷ []
+        → after ≡ account (record (buddy_without_leaf b leaf) { chunks = finite.remove b.chunks leaf.chunk }) (record heap { used = heap.used - chunk.size }) (remaining + 1) → new ≡ put old leaf.object None → IsReturned after es r old new
     chunk_goes unused chunk chunk_is told after_is gone_object =
         let one : chunk ≡ lies.chunk = one_value _ chunk lies.chunk chunk_is lies.held in
-        let same = after_is ∙ (λ k. account (record (without_leaf b leaf) { chunks = finite.remove b.chunks leaf.chunk }) (record heap { used = heap.used - (one k).size }) (remaining + 1)) in
-        let fields = goes unused (subst IsSound (ap (λ (a : Account Buddy). a.allocator) same) sound) in
+        let same = after_is ∙ (λ k. account (record (buddy_without_leaf b leaf) { chunks = finite.remove b.chunks leaf.chunk }) (record heap { used = heap.used - (one k).size }) (remaining + 1)) in
+        let fields = goes unused (subst IsSoundBuddy (ap (λ (a : Account Buddy). a.allocator) same) sound) in
         let object_gone : new ≡ put old block.object None = gone_object ∙ ap (λ n. put old n None) (sym object_is) in
         left (returned before block) (block.object ∷ []) (subst (λ a. With a (returned before block)) (sym same) fields) (subst (λ k. GoesWith k (without_span before block) block.object (block.object ∷ [])) (sym given.shared) (inl (unused_now unused, refl)))
         (told ∙ ap (λ n. Deallocated n ∷ []) (sym object_is)) refl object_gone (agrees_returned before (returned before block) q r old new block agrees properties object_gone refl refl (λ span live. (live_other t.live (span_of block) span live).1))

@@ -7,10 +7,10 @@ use Rattle.gpu_alloc_types.specs.Flags.{has_bit}
 use Rattle.gpu_alloc_types.specs.Properties.{Properties, heap_at, props_at, is_host_visible}
 use Rattle.gpu_alloc_block.specs.Agreement as agreement
 use Rattle.gpu_alloc_base.specs.Accounts.{IsCounted, chunk_bytes}
-use Rattle.gpu_alloc_buddy.specs.Buddy.{IsFront, BeginsChunk, IsUnusedChunk, without_leaf, sees_chunks}
+use Rattle.gpu_alloc_buddy.specs.Buddy.{IsBuddyFront, BeginsBuddyChunk, IsUnusedBuddyChunk, buddy_without_leaf, sees_chunks}
 use Rattle.gpu_alloc_buddy.specs.Buddy as buddy
 use Rattle.gpu_alloc_base.specs.Chunks as chunks
-use Rattle.gpu_alloc_buddy.specs.BuddyState.{Buddy, IsLiveLeaf, space_of}
+use Rattle.gpu_alloc_buddy.specs.BuddyState.{Buddy, IsLiveBuddyLeaf, space_of}
 use Rattle.gpu_alloc_pairs.proofs.LiveSpans.{one_leaf}
 use Rattle.gpu_alloc_base.specs.Chunks.{Chunk}
 use Rattle.gpu_alloc.specs.Inside.{IsChunkOf, IsBooked, chunk_object, span_of_leaf, leaf_at}
@@ -34,7 +34,7 @@ module _ (s : State) (index : ℕ) (b : Buddy) (serves : Serves s index b) where
 
   -- a live span of a chunk's object is a live block of the chunk
   span_is_leaf : (key : ℕ) (c : Chunk) (span : Span) → map.get b.chunks key ≡ Some c → span.object ≡ c.object → IsLive s span
-      → (leaf : Leaf) × (span_of_leaf leaf ≡ span) × IsLiveLeaf b leaf × (leaf.chunk ≡ key)
+      → (leaf : Leaf) × (span_of_leaf leaf ≡ span) × IsLiveBuddyLeaf b leaf × (leaf.chunk ≡ key)
   span_is_leaf key c span is named live =
       let held = subst (λ o. IsChunkOf (table_of s) b.memory_type o (chunk_object b c)) (sym named) (chunk_held key c is) in
       let l = serves.of.linked.spans span (chunk_object b c) live held in
@@ -42,14 +42,14 @@ module _ (s : State) (index : ℕ) (b : Buddy) (serves : Serves s index b) where
       (leaf_at span l.0, refl, l.1, serves.of.sound.space.one_object l.0.chunk key lies.chunk c lies.held is (sym lies.object ∙ named))
 
   -- live blocks of the same span are one
-  one_place : (x y : Leaf) → IsLiveLeaf b x → IsLiveLeaf b y → span_of_leaf x ≡ span_of_leaf y → x ≡ y
+  one_place : (x y : Leaf) → IsLiveBuddyLeaf b x → IsLiveBuddyLeaf b y → span_of_leaf x ≡ span_of_leaf y → x ≡ y
   one_place x y live also same =
       one_leaf (space_of b) serves.of.sound.space x y live also (ap (λ (span : Span). span.object) same) (ap (λ (span : Span). span.offset) same)
 
   -- Returns.
 
   -- a chunk is left unused exactly where its object is
-  pub unused_is : (leaf : Leaf) (block : Block) → IsLiveLeaf b leaf → span_of block ≡ span_of_leaf leaf → IsUnusedChunk (without_leaf b leaf) leaf.chunk → IsUnused (without_span s block) leaf.object
+  pub unused_is : (leaf : Leaf) (block : Block) → IsLiveBuddyLeaf b leaf → span_of block ≡ span_of_leaf leaf → IsUnusedBuddyChunk (buddy_without_leaf b leaf) leaf.chunk → IsUnused (without_span s block) leaf.object
   unused_is leaf block live is unused span still named =
       let was = live_other s.live (span_of block) span still in
       let lies = serves.of.sound.space.inside leaf live in
@@ -57,7 +57,7 @@ module _ (s : State) (index : ℕ) (b : Buddy) (serves : Serves s index b) where
       let other : of.0 ≡ leaf → ⊥ = λ same. was.0 (sym of.1 ∙ ap span_of_leaf same ∙ sym is) in
       unused of.0 ((leaf_removed b.live leaf of.0).1 (other, of.2)) of.3
 
-  pub unused_was : (leaf : Leaf) (block : Block) → IsLiveLeaf b leaf → span_of block ≡ span_of_leaf leaf → IsUnused (without_span s block) leaf.object → IsUnusedChunk (without_leaf b leaf) leaf.chunk
+  pub unused_was : (leaf : Leaf) (block : Block) → IsLiveBuddyLeaf b leaf → span_of block ≡ span_of_leaf leaf → IsUnused (without_span s block) leaf.object → IsUnusedBuddyChunk (buddy_without_leaf b leaf) leaf.chunk
   unused_was leaf block live is unused other still named =
       let was = (leaf_removed b.live leaf other).0 still in
       let of = serves.of.linked.leaves other was.1 in
@@ -85,7 +85,7 @@ module _ (s : State) (index : ℕ) (b : Buddy) (serves : Serves s index b) where
       held : (key : ℕ) (v : Option Chunk) → map.get b.chunks key ≡ v → IfSome v (λ chunk. HeldWith objects chunk.object (chunks.IsThere b.memory_type (sees_chunks b) chunk))
       held key None none = tt
       held key (Some c) is =
-          let h = subst (λ (v : Option HeldObject). IfSome v (λ h. HeldWith objects c.object (agreement.IsThere s c.object h))) (serves.of.linked.chunks key c is) (agrees.holds c.object) in (
+          let h = subst (λ (v : Option HeldObject). IfSome v (λ h. HeldWith objects c.object (agreement.IsHeldThere s c.object h))) (serves.of.linked.chunks key c is) (agrees.holds c.object) in (
             h.0,
             h.1,
             record {

@@ -6,9 +6,9 @@ use Rattle.std.specs.FinMap as map
 use Rattle.gpu_alloc_types.specs.Flags.{has_bit}
 use Rattle.gpu_alloc_types.specs.Properties.{heap_at, props_at}
 use Rattle.gpu_alloc_base.specs.Accounts.{account}
-use Rattle.gpu_alloc_buddy.specs.Buddy.{rounded, question, HasPlace, IsFront, buddy_case, case_of}
+use Rattle.gpu_alloc_buddy.specs.Buddy.{rounded, question, HasPlace, IsBuddyFront, buddy_case, case_of}
 use Rattle.gpu_alloc_base.specs.Wanted.{wanted}
-use Rattle.gpu_alloc_buddy.specs.BuddyState.{Buddy, IsFreeAt}
+use Rattle.gpu_alloc_buddy.specs.BuddyState.{Buddy, IsFreeInBuddy}
 use Rattle.gpu_alloc_base.specs.Chunks.{Chunk}
 use Rattle.gpu_alloc_base.specs.FreeSpace.{IsPlace, IsFreePiece}
 use Rattle.gpu_alloc.specs.FreeBytes.{IsFreeByte}
@@ -58,7 +58,7 @@ first_byte F x start length place =
 module _ (s : State) (index : ℕ) (b : Buddy) (serves : Serves s index b) where
   -- Bytes and pieces.
 
-  pub free_byte : (key at : ℕ) (chunk : Chunk) → map.get b.chunks key ≡ Some chunk → IsFreeAt b key at → IsFreeByte s index BuddyChunk chunk.object at
+  pub free_byte : (key at : ℕ) (chunk : Chunk) → map.get b.chunks key ≡ Some chunk → IsFreeInBuddy b key at → IsFreeByte s index BuddyChunk chunk.object at
   free_byte key at chunk is free =
       let linked = serves.of.linked in
       let sound = serves.of.sound in
@@ -78,7 +78,7 @@ module _ (s : State) (index : ℕ) (b : Buddy) (serves : Serves s index b) where
             free.unused leaf there.1 (sound.space.one_object leaf.chunk key lies.chunk chunk lies.held is (sym lies.object ∙ of_it)) i;
       }
 
-  pub free_at : (key at : ℕ) (chunk : Chunk) → map.get b.chunks key ≡ Some chunk → IsFreeByte s index BuddyChunk chunk.object at → IsFreeAt b key at
+  pub free_at : (key at : ℕ) (chunk : Chunk) → map.get b.chunks key ≡ Some chunk → IsFreeByte s index BuddyChunk chunk.object at → IsFreeInBuddy b key at
   free_at key at chunk is free =
       let linked = serves.of.linked in
       let held : map.get s.held chunk.object ≡ Some (chunk_object b chunk) = linked.chunks key chunk is in
@@ -95,17 +95,17 @@ module _ (s : State) (index : ℕ) (b : Buddy) (serves : Serves s index b) where
       }
 
   -- a place or a piece in a chunk is one in its object
-  place_in_object : (key start length : ℕ) (chunk : Chunk) → map.get b.chunks key ≡ Some chunk → IsPlace (IsFreeAt b) key start length → IsPlace (IsFreeByte s index BuddyChunk) chunk.object start length
-  place_in_object key start length chunk is = place_to (IsFreeAt b) (IsFreeByte s index BuddyChunk) key chunk.object (λ at. free_byte key at chunk is) start length
+  place_in_object : (key start length : ℕ) (chunk : Chunk) → map.get b.chunks key ≡ Some chunk → IsPlace (IsFreeInBuddy b) key start length → IsPlace (IsFreeByte s index BuddyChunk) chunk.object start length
+  place_in_object key start length chunk is = place_to (IsFreeInBuddy b) (IsFreeByte s index BuddyChunk) key chunk.object (λ at. free_byte key at chunk is) start length
 
-  place_in_chunk : (key start length : ℕ) (chunk : Chunk) → map.get b.chunks key ≡ Some chunk → IsPlace (IsFreeByte s index BuddyChunk) chunk.object start length → IsPlace (IsFreeAt b) key start length
-  place_in_chunk key start length chunk is = place_to (IsFreeByte s index BuddyChunk) (IsFreeAt b) chunk.object key (λ at. free_at key at chunk is) start length
+  place_in_chunk : (key start length : ℕ) (chunk : Chunk) → map.get b.chunks key ≡ Some chunk → IsPlace (IsFreeByte s index BuddyChunk) chunk.object start length → IsPlace (IsFreeInBuddy b) key start length
+  place_in_chunk key start length chunk is = place_to (IsFreeByte s index BuddyChunk) (IsFreeInBuddy b) chunk.object key (λ at. free_at key at chunk is) start length
 
-  pub piece_in_object : (key start length : ℕ) (chunk : Chunk) → map.get b.chunks key ≡ Some chunk → IsFreePiece (IsFreeAt b) key start length → IsFreePiece (IsFreeByte s index BuddyChunk) chunk.object start length
-  piece_in_object key start length chunk is = piece_to (IsFreeAt b) (IsFreeByte s index BuddyChunk) key chunk.object (λ at. free_byte key at chunk is) (λ at. free_at key at chunk is) start length
+  pub piece_in_object : (key start length : ℕ) (chunk : Chunk) → map.get b.chunks key ≡ Some chunk → IsFreePiece (IsFreeInBuddy b) key start length → IsFreePiece (IsFreeByte s index BuddyChunk) chunk.object start length
+  piece_in_object key start length chunk is = piece_to (IsFreeInBuddy b) (IsFreeByte s index BuddyChunk) key chunk.object (λ at. free_byte key at chunk is) (λ at. free_at key at chunk is) start length
 
-  pub piece_in_chunk : (key start length : ℕ) (chunk : Chunk) → map.get b.chunks key ≡ Some chunk → IsFreePiece (IsFreeByte s index BuddyChunk) chunk.object start length → IsFreePiece (IsFreeAt b) key start length
-  piece_in_chunk key start length chunk is = piece_to (IsFreeByte s index BuddyChunk) (IsFreeAt b) chunk.object key (λ at. free_at key at chunk is) (λ at. free_byte key at chunk is) start length
+  pub piece_in_chunk : (key start length : ℕ) (chunk : Chunk) → map.get b.chunks key ≡ Some chunk → IsFreePiece (IsFreeByte s index BuddyChunk) chunk.object start length → IsFreePiece (IsFreeInBuddy b) key start length
+  piece_in_chunk key start length chunk is = piece_to (IsFreeByte s index BuddyChunk) (IsFreeInBuddy b) chunk.object key (λ at. free_at key at chunk is) (λ at. free_byte key at chunk is) start length
 
   -- an object with a free byte is a chunk
   pub chunk_with : (object at : ℕ) → IsFreeByte s index BuddyChunk object at → (key : ℕ) × (chunk : Chunk) × ((map.get b.chunks key ≡ Some chunk) × (object ≡ chunk.object))
@@ -116,7 +116,7 @@ module _ (s : State) (index : ℕ) (b : Buddy) (serves : Serves s index b) where
   -- a place is a place
   pub place_is : (size : ℕ) → HasPlace b size → HasBuddyPlace s index size
   place_is size (key, start, place) =
-      let free = first_byte (IsFreeAt b) key start size place in
+      let free = first_byte (IsFreeInBuddy b) key start size place in
       (free.held.object, start, place_in_object key start size free.held free.is place)
 
   pub place_was : (size : ℕ) → HasBuddyPlace s index size → HasPlace b size
@@ -125,7 +125,7 @@ module _ (s : State) (index : ℕ) (b : Buddy) (serves : Serves s index b) where
       (w.0, start, place_in_chunk w.0 start size w.1 w.2.0 (subst (λ n. IsPlace (IsFreeByte s index BuddyChunk) n start size) w.2.1 place))
 
   -- the front of a piece is the front of a piece
-  pub front_is : (size : ℕ) (leaf : Leaf) → IsFront b size leaf → IsPieceFront s index size (span_of_leaf leaf)
+  pub front_is : (size : ℕ) (leaf : Leaf) → IsBuddyFront b size leaf → IsPieceFront s index size (span_of_leaf leaf)
   front_is size leaf front = record {
     of_size = front.of_size;
     length = front.length;

@@ -23,8 +23,8 @@ use Rattle.gpu_alloc_block.specs.declared.sharing.Sharing.TheVariants.{Fit as Fi
 use Rattle.gpu_alloc_block.proofs.LiveSpans.{not_live}
 use Rattle.gpu_alloc_buddy.specs.BuddyState.{Buddy}
 use Rattle.gpu_alloc_fit.specs.Fit.{Fitting, ObjectsAfter, chunk_size, fit_case, fitting_in_new_chunk, fitting_with_slot, question, sees_chunks}
-use Rattle.gpu_alloc_fit.specs.FitSound.{IsSound}
-use Rattle.gpu_alloc_fits.specs.Space.{BeginsChunk, IsFitting}
+use Rattle.gpu_alloc_fit.specs.FitSound.{IsSoundFitting}
+use Rattle.gpu_alloc_fits.specs.Space.{BeginsFitChunk, IsFitting}
 use Rattle.gpu_alloc_freelist.specs.FreeListState.{Listing}
 use Rattle.gpu_alloc.specs.Allocation.{ObjectsWith}
 use Rattle.gpu_alloc.specs.BuddySharing.{with_span}
@@ -33,7 +33,7 @@ use Rattle.gpu_alloc.specs.FitSharing.{fit_block, fit_question, with_fit_chunk}
 use Rattle.gpu_alloc.specs.Inside.{state_in, properties_in, fit_object, span_of_slot}
 use Rattle.gpu_alloc.specs.Own.{OwnTable}
 use Rattle.gpu_alloc.specs.Spans.{Table}
-use Rattle.gpu_alloc.specs.Whole.{whole, AreWhole}
+use Rattle.gpu_alloc.specs.Whole.{whole, AreOneWhole}
 use Rattle.gpu_alloc.specs.declared.limits.Limits.{Limits}
 use Rattle.gpu_alloc.proofs.Agreeing.{not_held}
 use Rattle.gpu_alloc.proofs.Fits.Grants.{asked_size, fit_of, recorded_with_fit, recorded_with_fit_chunk, serves_fits, state_with_fit, state_with_fit_chunk}
@@ -50,7 +50,7 @@ use Rattle.gpu_alloc.proofs.Wholes.{at_read, fit_comes, fit_chunk_comes}
 -- A request to an allocator of fit chunks among the fields, and the block that it gave.
 
 module _ {A : Type 0} {limits : Limits A} {heaps : List Heap} {buddies : List Buddy} {lists : List Listing} {fits : List Fitting} {remaining index i : ℕ} {f : Fitting} {heap : Heap} {flags : ℕ} {slot : Slot} {q : Properties} {old : ℕ → Option Object}
-    (own : OwnTable) (given : Given limits heaps buddies lists fits (whole own buddies lists fits) remaining index i fits f heap flags q old) (apart : AreWhole own buddies lists fits) (choice : limits.sharing ≡ FitsChosen) (new : ℕ → Option Object) (size alignment : ℕ) (es : List Event) (after : Account Fitting)
+    (own : OwnTable) (given : Given limits heaps buddies lists fits (whole own buddies lists fits) remaining index i fits f heap flags q old) (apart : AreOneWhole own buddies lists fits) (choice : limits.sharing ≡ FitsChosen) (new : ℕ → Option Object) (size alignment : ℕ) (es : List Event) (after : Account Fitting)
     (answers : Answers (fit_case (account f heap remaining) size alignment flags) es (Ok slot) after) (objects : ObjectsAfter f (Ok slot) after.allocator old new) (nonempty : 0 < slot.size) where
   abbrev t : Table
   t = whole own buddies lists fits
@@ -91,7 +91,7 @@ module _ {A : Type 0} {limits : Limits A} {heaps : List Heap} {buddies : List Bu
   stands = at_read fits index f (omega (arith, given.known, given.is.fitted.count)) given.at
 
   -- What the fields are with another one.
-  module _ (sound : IsSound after.allocator) where
+  module _ (sound : IsSoundFitting after.allocator) where
     abbrev now : Account Fitting → Table
     now a = whole own buddies lists (set fits index a.allocator)
 
@@ -101,7 +101,7 @@ module _ {A : Type 0} {limits : Limits A} {heaps : List Heap} {buddies : List Bu
     -- what is left of it
     pub record IsServed (a : Account Fitting) : Type 0 where
       pub recorded : IsRecorded limits.sharing limits.config (properties_in limits (set heaps i a.heap)) (set heaps i a.heap) buddies lists (set fits index a.allocator) (now a) a.remaining
-      pub parts : AreWhole own buddies lists (set fits index a.allocator)
+      pub parts : AreOneWhole own buddies lists (set fits index a.allocator)
       pub gives : GivesInPlace (fit_candidate before size alignment index) es block (state_of a) ⊎ GivesInNewObject (fit_candidate before size alignment index) es block (state_of a)
       pub objects_are : ObjectsWith before block (state_of a) old new
 
@@ -115,7 +115,7 @@ module _ {A : Type 0} {limits : Limits A} {heaps : List Heap} {buddies : List Bu
         let made = fit_comes own buddies lists fits apart index f stands serving.of.sound serving.of.for_type.memory_type fit_now refl slot chunk found fitting.object refl refl in
         let now_is : Table = whole own buddies lists (set fits index fit_now) in
         let more : HasSlotMore t now_is slot = record { free = slot_is_free; live = made.live_is } in
-        let sound_now = subst IsSound (ap (λ (a : Account Fitting). a.allocator) after_is) sound in
+        let sound_now = subst IsSoundFitting (ap (λ (a : Account Fitting). a.allocator) after_is) sound in
         let state = state_with_fit limits heaps buddies lists fits t remaining index f given.is given.known given.at i heap given.here given.at_heap slot chunk now_is found fitting.object sound_now made.held_is more in
         subst IsServed (sym after_is) (record {
           recorded = recorded_with_fit limits heaps buddies lists fits t remaining index f given.is given.known given.at i heap given.here given.at_heap slot chunk now_is found fitting.object sound_now made.held_is more;
@@ -125,7 +125,7 @@ module _ {A : Type 0} {limits : Limits A} {heaps : List Heap} {buddies : List Bu
         })
 
     -- in a new chunk
-    in_new_run : BeginsChunk f.space size slot → finite.get t.held slot.object ≡ None → 0 < remaining → heap.used + chunk_size f size ≤ heap.limit
+    in_new_run : BeginsFitChunk f.space size slot → finite.get t.held slot.object ≡ None → 0 < remaining → heap.used + chunk_size f size ≤ heap.limit
         → after ≡ account (fitting_in_new_chunk f slot (chunk_size f size)) (record heap { used = heap.used + chunk_size f size }) (remaining - 1)
         → HasOneMore (IsNew f.memory_type (sees_chunks f)) (finite.get after.allocator.space.chunks slot.chunk) slot.object old new
         → GivesInNewObject (fit_candidate before size alignment index) es block (with_span (with_fit_chunk before index slot.object (fit_question before index size).size) (span_of_slot slot))
@@ -146,7 +146,7 @@ module _ {A : Type 0} {limits : Limits A} {heaps : List Heap} {buddies : List Bu
         let held_now : now_is.held ≡ finite.insert t.held slot.object row = made.held_is ∙ ap (finite.insert t.held slot.object) row_is in
         let more : HasSlotMore t now_is slot = record { free = slot_is_free; live = made.live_is } in
         let small : n < 2 ^ 64 = (sound.space.sizes slot.chunk chunk chunk_now).1 in
-        let sound_now = subst IsSound after_fit sound in
+        let sound_now = subst IsSoundFitting after_fit sound in
         let state = state_with_fit_chunk limits heaps buddies lists fits t remaining index f given.is given.known given.at i heap given.here given.at_heap slot n now_is changed free some small sound_now held_now more refl within choice in
         let asked = asked_size limits heaps buddies lists fits t remaining index f given.is given.known given.at size in
         let state_asked = state ∙ ap (λ m. with_span (with_fit_chunk before index slot.object m) (span_of_slot slot)) asked in

@@ -16,15 +16,15 @@ use Rattle.gpu_alloc_block.specs.State.{State, total}
 use Rattle.gpu_alloc_buddy.specs.BuddyState.{Buddy}
 use Rattle.gpu_alloc_fit.specs.Fit as fit
 use Rattle.gpu_alloc_fit.specs.Fit.{Fitting}
-use Rattle.gpu_alloc_fit.specs.FitSound.{IsSound}
+use Rattle.gpu_alloc_fit.specs.FitSound.{IsSoundFitting}
 use Rattle.gpu_alloc_fits.specs.Space.{IsWhollyFree, without_chunk}
 use Rattle.gpu_alloc_freelist.specs.FreeListState.{Listing}
 use Rattle.gpu_alloc.specs.FirstTypes.{first_types}
 use Rattle.gpu_alloc.specs.Inside.{fit_object, fits_in, lists_in, properties_in, state_in, types_in, AreFits}
 use Rattle.gpu_alloc.specs.Own.{OwnTable}
-use Rattle.gpu_alloc.specs.Release.{AreFitsGone, GivesFitsBack, IsUnusedFit, without_objects}
+use Rattle.gpu_alloc.specs.Release.{AreFitsGone, IsUnusedFit, LetsFitsGo, without_objects}
 use Rattle.gpu_alloc.specs.Spans.{Table}
-use Rattle.gpu_alloc.specs.Whole.{parts_of, whole, IsKept, IsPlace}
+use Rattle.gpu_alloc.specs.Whole.{parts_of, whole, IsKept, IsPartFor}
 use Rattle.gpu_alloc.specs.declared.limits.Limits.{Limits}
 use Rattle.gpu_alloc.proofs.Buddies.Grants.{same_set}
 use Rattle.gpu_alloc.proofs.Consistency.{heap_there, booked-let_go}
@@ -93,7 +93,7 @@ module _ {A : Type 0} {l : Limits A} {heaps : List Heap} {buddies : List Buddy} 
   abbrev pub state_with : Account Fitting → State
   state_with a = state_in l (set heaps i a.heap) buddies lists (set fits index a.allocator) (whole own buddies lists (set fits index a.allocator)) a.remaining
 
-  pub fitted_with : (after : Fitting) → after.memory_type ≡ f.memory_type → after.props ≡ f.props → after.atom ≡ f.atom → after.final_chunk ≡ f.final_chunk → IsSound after → AreFits l.config p (set fits index after)
+  pub fitted_with : (after : Fitting) → after.memory_type ≡ f.memory_type → after.props ≡ f.props → after.atom ≡ f.atom → after.final_chunk ≡ f.final_chunk → IsSoundFitting after → AreFits l.config p (set fits index after)
   fitted_with after memory_type props atom final sound =
       fits_set l.config p fits index after h.kept.fitted (record { for_type = same_fit_for l heaps buddies lists fits t remaining index f is h.known h.at after memory_type props atom final; sound = sound })
 
@@ -119,10 +119,10 @@ module _ {A : Type 0} {l : Limits A} {heaps : List Heap} {buddies : List Buddy} 
     abbrev now : Table
     now = whole own buddies lists (set fits index less)
 
-    made : Makes (IsPlace (length buddies) (length lists)) (parts_of own buddies lists (set fits index less)) (finite.remove t.held chunk.object) t.live
+    made : Makes (IsPartFor (length buddies) (length lists)) (parts_of own buddies lists (set fits index less)) (finite.remove t.held chunk.object) t.live
     made = fit_chunk_goes own buddies lists fits h.kept.apart index f (at_read fits index f in_range h.at) of.sound of.for_type.memory_type less refl key chunk found free.unused refl refl
 
-    chunk_goes : IsSound less → With (account less changed (remaining + 1)) (without_these state (chunk.object ∷ []))
+    chunk_goes : IsSoundFitting less → With (account less changed (remaining + 1)) (without_these state (chunk.object ∷ []))
     chunk_goes sound = (
       subst (λ (q : Properties). IsKept l.sharing l.config q (set heaps i changed) buddies lists (set fits index less) own (remaining + 1)) (sym (properties_kept l heaps i changed heap h.at_heap refl)) (record {
         books = booked-let_go p heaps t remaining h.kept.books refl now (fit_object f chunk) chunk.object
@@ -169,11 +169,11 @@ module _ {A : Type 0} {l : Limits A} {heaps : List Heap} {buddies : List Buddy} 
   pub record IsCleaned (after : Account Fitting) (es : List Event) (r : Properties) (old new : ℕ → Option Object) : Type 0 where
     pub kept : IsKept l.sharing l.config (properties_in l (set heaps i after.heap)) (set heaps i after.heap) buddies lists (set fits index after.allocator) own after.remaining
     pub names : List ℕ
-    pub gives : GivesFitsBack state index names es (state_with after) old new
+    pub gives : LetsFitsGo state index names es (state_with after) old new
     pub agreed : Agrees (state_with after) r new
     pub whole : total (state_with after) ≡ total state
 
-  module _ {after : Account Fitting} {es : List Event} {q r : Properties} {old new : ℕ → Option Object} (sound : IsSound after.allocator) (agrees : Agrees state q old) (properties : r ≡ q) where
+  module _ {after : Account Fitting} {es : List Event} {q r : Properties} {old new : ℕ → Option Object} (sound : IsSoundFitting after.allocator) (agrees : Agrees state q old) (properties : r ≡ q) where
     -- these objects went
     left : (names : List ℕ) → AreFitsGone state index names → With after (without_these state names) → es ≡ map Deallocated names → new ≡ without_objects old names → Agrees (without_these state names) q (without_objects old names)
         → IsCleaned after es r old new
@@ -200,7 +200,7 @@ module _ {A : Type 0} {l : Limits A} {heaps : List Heap} {buddies : List Buddy} 
         → after ≡ account (less key chunk found free) (changed key chunk found free) (remaining + 1) → new ≡ put old chunk.object None → IsCleaned after es r old new
     one_goes key chunk free found told after_is objects =
         left (chunk.object ∷ []) (only_gone key chunk found free)
-        (subst (λ a. With a (without_these state (chunk.object ∷ []))) (sym after_is) (chunk_goes key chunk found free (subst IsSound (ap (λ (a : Account Fitting). a.allocator) after_is) sound)))
+        (subst (λ a. With a (without_these state (chunk.object ∷ []))) (sym after_is) (chunk_goes key chunk found free (subst IsSoundFitting (ap (λ (a : Account Fitting). a.allocator) after_is) sound)))
         told objects (agrees_without_list_chunk state q old chunk.object (remaining + 1) agrees)
 
     pub cleaned : fit.Cleans (account f heap remaining) es after → fit.ObjectsCleaned f old new → IsCleaned after es r old new

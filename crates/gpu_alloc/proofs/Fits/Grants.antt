@@ -20,7 +20,7 @@ use Rattle.gpu_alloc_block.specs.declared.block.Kind.TheVariants.{FitChunk}
 use Rattle.gpu_alloc_block.specs.declared.sharing.Sharing.TheVariants.{Fit as FitsChosen}
 use Rattle.gpu_alloc_buddy.specs.BuddyState.{Buddy}
 use Rattle.gpu_alloc_fit.specs.Fit.{Fitting, chunk_size, fitting_in_new_chunk, fitting_with_slot}
-use Rattle.gpu_alloc_fit.specs.FitSound.{IsSound}
+use Rattle.gpu_alloc_fit.specs.FitSound.{IsSoundFitting}
 use Rattle.gpu_alloc_freelist.specs.FreeListState.{Listing}
 use Rattle.gpu_alloc.specs.BuddySharing.{with_span}
 use Rattle.gpu_alloc.specs.FirstTypes.{first_types, first_type_state}
@@ -120,7 +120,7 @@ module _ {A : Type 0} (limits : Limits A) (heaps : List Heap) (buddies : List Bu
 
     -- A block more in a held chunk.
 
-    module _ (slot : Slot) (chunk : Chunk) (now : Table) (found : finite.get f.space.chunks slot.chunk ≡ Some chunk) (object : slot.object ≡ chunk.object) (sound : IsSound (fitting_with_slot f slot))
+    module _ (slot : Slot) (chunk : Chunk) (now : Table) (found : finite.get f.space.chunks slot.chunk ≡ Some chunk) (object : slot.object ≡ chunk.object) (sound : IsSoundFitting (fitting_with_slot f slot))
         (held : now.held ≡ t.held) (more : HasSlotMore t now slot) where
       chunk_held : finite.get t.held slot.object ≡ Some (fit_object f chunk)
       chunk_held = ap (finite.get t.held) object ∙ fit_of.linked.chunks slot.chunk chunk found
@@ -146,7 +146,7 @@ module _ {A : Type 0} (limits : Limits A) (heaps : List Heap) (buddies : List Bu
     -- A chunk more with a block in it.
 
     module _ (slot : Slot) (size : ℕ) (now : Table) (changed : Heap) (free : finite.get t.held slot.object ≡ None) (some : 0 < remaining) (small : size < 2 ^ 64)
-        (sound : IsSound (fitting_in_new_chunk f slot size))
+        (sound : IsSoundFitting (fitting_in_new_chunk f slot size))
         (held : now.held ≡ finite.insert t.held slot.object (record { memory_type = index; counted = size; kind = FitChunk })) (more : HasSlotMore t now slot)
         (counts : changed ≡ record heap { used = heap.used + size }) (within : heap.used + size ≤ heap.limit) (choice : limits.sharing ≡ FitsChosen) where
       abbrev object_of : HeldObject

@@ -19,13 +19,13 @@ use Rattle.gpu_alloc_block.proofs.LiveSpans.{live_kept, live_other}
 use Rattle.gpu_alloc_buddy.specs.BuddyState.{Buddy}
 use Rattle.gpu_alloc_fit.specs.Fit as fit
 use Rattle.gpu_alloc_fit.specs.Fit.{Fitting, account_without}
-use Rattle.gpu_alloc_fit.specs.FitSound.{IsSound}
+use Rattle.gpu_alloc_fit.specs.FitSound.{IsSoundFitting}
 use Rattle.gpu_alloc_fits.specs.Space as fit_space
-use Rattle.gpu_alloc_fits.specs.Space.{IsLiveSlot, IsLiveSpan, IsNoLiveSpan, IsWhollyFree, LiesInChunk, Space, without_chunk, without_slot}
+use Rattle.gpu_alloc_fits.specs.Space.{FitSpace, IsLiveFitSpan, IsLiveSlot, IsNoLiveFitSpan, IsWhollyFree, LiesInChunk, without_chunk, without_slot}
 use Rattle.gpu_alloc_freelist.specs.FreeListState.{Listing}
 use Rattle.gpu_alloc.specs.Inside.{fit_object, properties_in, slot_at, span_of_slot, state_in}
 use Rattle.gpu_alloc.specs.Own.{OwnTable}
-use Rattle.gpu_alloc.specs.Release.{Frees, GoesWith, IsSpare, IsUnused, ObjectsFreed, without_all, without_objects, without_span}
+use Rattle.gpu_alloc.specs.Release.{Frees, GoesWith, IsSpareFit, IsUnused, ObjectsFreed, without_all, without_objects, without_span}
 use Rattle.gpu_alloc.specs.Spans.{Table}
 use Rattle.gpu_alloc.specs.Whole.{whole, IsKept}
 use Rattle.gpu_alloc.specs.declared.limits.Limits.{Limits}
@@ -55,14 +55,14 @@ module _ {A : Type 0} (l : Limits A) {heaps : List Heap} {buddies : List Buddy} 
   pub known_type : index < length (properties_in l heaps).memory_types
   known_type = omega (arith, typed, owned.held.2, (known_object (properties_in l heaps) heaps (whole own buddies lists fits) remaining kept.books refl block.object owned.held.0 owned.held.1).of_type)
 
-  pub slot_found : IsNoLiveSpan f.space block.object block.offset block.size → ⊥
+  pub slot_found : IsNoLiveFitSpan f.space block.object block.offset block.size → ⊥
   slot_found none =
       let own_fit = fit_of l heaps buddies lists fits (whole own buddies lists fits) remaining index f (consistent l.sharing l.config (properties_in l heaps) heaps own buddies lists fits remaining kept) known_type at in
       let there = own_fit.linked.spans (span_of block) owned.held.0 owned.live (record { held = owned.held.1; of_kind = owned.held.3 ∙ shared; of_type = owned.held.2 ∙ sym typed ∙ sym own_fit.for_type.memory_type }) in
       none (slot_at (span_of block) there.0) (record { live = there.1; of_object = refl; starts = refl; of_size = refl })
 
-  pub given_back : {slot : Slot} {i : ℕ} {heap : Heap} → i ≡ heap_at (properties_in l heaps) index → heap ≡ get_or heaps i heap → IsLiveSpan f.space block.object block.offset block.size slot → Given l heaps buddies lists fits own remaining index i f heap slot block
-  given_back here at_heap is = record {
+  pub put_back_given : {slot : Slot} {i : ℕ} {heap : Heap} → i ≡ heap_at (properties_in l heaps) index → heap ≡ get_or heaps i heap → IsLiveFitSpan f.space block.object block.offset block.size slot → Given l heaps buddies lists fits own remaining index i f heap slot block
+  put_back_given here at_heap is = record {
     handed = handed l kept known_type at here at_heap;
     live = is.live;
     span = λ k. record { object = sym is.of_object k; offset = sym is.starts k; size = sym is.of_size k };
@@ -83,7 +83,7 @@ module _ {A : Type 0} {l : Limits A} {heaps : List Heap} {buddies : List Buddy} 
   before = state_in l heaps buddies lists fits t remaining
 
   -- the space with a block fewer
-  abbrev rest : Space
+  abbrev rest : FitSpace
   rest = without_slot f.space slot
 
   lies : LiesInChunk f.space slot
@@ -125,7 +125,7 @@ module _ {A : Type 0} {l : Limits A} {heaps : List Heap} {buddies : List Buddy} 
   }
 
   -- its chunk is spare exactly where its object is
-  spare_then : fit_space.IsSpare rest slot.chunk → IsSpare (without_span before block) block.object
+  spare_then : fit_space.IsSpare rest slot.chunk → IsSpareFit (without_span before block) block.object
   spare_then spare =
       let there = found_value _ spare.other_free.held in
       record {
@@ -140,7 +140,7 @@ module _ {A : Type 0} {l : Limits A} {heaps : List Heap} {buddies : List Buddy} 
         };
       }
 
-  spare_before : IsSpare (without_span before block) block.object → fit_space.IsSpare rest slot.chunk
+  spare_before : IsSpareFit (without_span before block) block.object → fit_space.IsSpare rest slot.chunk
   spare_before spare =
       let same_row : spare.chunk ≡ row = one_value _ spare.chunk row spare.held (ap (finite.get t.held) object_is ∙ found) in
       let is = spare.also.chunk in
@@ -169,7 +169,7 @@ module _ {A : Type 0} {l : Limits A} {heaps : List Heap} {buddies : List Buddy} 
   -- What the fields stand for then.
 
   -- with a block fewer in a chunk that stays
-  stays : IsSound (record f { space = rest }) → With h (account_without (account f heap remaining) slot) (without_span before block)
+  stays : IsSoundFitting (record f { space = rest }) → With h (account_without (account f heap remaining) slot) (without_span before block)
   stays sound =
       let after : Fitting = record f { space = rest } in
       let now : Table = whole own buddies lists (set fits index after) in
@@ -191,7 +191,7 @@ module _ {A : Type 0} {l : Limits A} {heaps : List Heap} {buddies : List Buddy} 
   abbrev less : Fitting
   less = record f { space = without_chunk rest slot.chunk }
 
-  goes : IsWhollyFree rest slot.chunk → IsSound less → With h (account less (record heap { used = heap.used - lies.chunk.size }) (remaining + 1)) (returned before block)
+  goes : IsWhollyFree rest slot.chunk → IsSoundFitting less → With h (account less (record heap { used = heap.used - lies.chunk.size }) (remaining + 1)) (returned before block)
   goes free sound =
       let changed : Heap = record heap { used = heap.used - lies.chunk.size } in
       let now : Table = whole own buddies lists (set fits index less) in
@@ -222,7 +222,7 @@ module _ {A : Type 0} {l : Limits A} {heaps : List Heap} {buddies : List Buddy} 
     pub freed : ObjectsFreed before block old new
     pub agreed : Agrees (state_with h after) r new
 
-  module _ {after : Account Fitting} {es : List Event} {q r : Properties} {old new : ℕ → Option Object} (sound : IsSound after.allocator) (agrees : Agrees before q old) (properties : r ≡ q) where
+  module _ {after : Account Fitting} {es : List Event} {q r : Properties} {old new : ℕ → Option Object} (sound : IsSoundFitting after.allocator) (agrees : Agrees before q old) (properties : r ≡ q) where
     -- these objects went with it
     left : (s : State) (names : List ℕ) → With h after s → GoesWith block.kind (without_span before block) block.object names → es ≡ map Deallocated names
         → s ≡ record (without_span before block) { held = without_all before.held names; remaining = remaining + length names } → new ≡ without_objects old names → Agrees s r new → IsReturned after es r old new
@@ -231,7 +231,7 @@ module _ {A : Type 0} {l : Limits A} {heaps : List Heap} {buddies : List Buddy} 
 
     chunk_stays : (fit_space.IsSpare rest slot.chunk → ⊥) → es ≡ [] → after ≡ account_without (account f heap remaining) slot → new ≡ old → IsReturned after es r old new
     chunk_stays kept none after_is same_objects =
-        let fields = stays (subst IsSound (ap (λ (a : Account Fitting). a.allocator) after_is) sound) in
+        let fields = stays (subst IsSoundFitting (ap (λ (a : Account Fitting). a.allocator) after_is) sound) in
         left (without_span before block) [] (subst (λ a. With h a (without_span before block)) (sym after_is) fields)
         (subst (λ k. GoesWith k (without_span before block) block.object []) (sym given.shared) (inr ((λ spare. kept (spare_before spare)), refl))) none
         (λ k. record (without_span before block) { remaining = zero k }) same_objects (subst (Agrees (without_span before block) r) (sym same_objects) (agrees_without_span before q r old block agrees properties))
@@ -244,7 +244,7 @@ module _ {A : Type 0} {l : Limits A} {heaps : List Heap} {buddies : List Buddy} 
     chunk_goes spare chunk chunk_is told after_is gone_object =
         let one : chunk ≡ lies.chunk = one_value _ chunk lies.chunk chunk_is lies.held in
         let same = after_is ∙ (λ k. account less (record heap { used = heap.used - (one k).size }) (remaining + 1)) in
-        let fields = goes spare.free (subst IsSound (ap (λ (a : Account Fitting). a.allocator) same) sound) in
+        let fields = goes spare.free (subst IsSoundFitting (ap (λ (a : Account Fitting). a.allocator) same) sound) in
         let object_gone : new ≡ put old block.object None = gone_object ∙ ap (λ n. put old n None) (sym object_is) in
         let named : chunk.object ≡ block.object = ap (λ (c : Chunk). c.object) one ∙ sym chunk_object_is in
         left (returned before block) (block.object ∷ []) (subst (λ a. With h a (returned before block)) (sym same) fields)

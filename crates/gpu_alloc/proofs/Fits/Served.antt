@@ -69,7 +69,7 @@ module _ (s : State) (index : ℕ) (f : Fitting) (serves : ServesFits s index f)
       held : (key : ℕ) (v : Option Chunk) → map.get f.space.chunks key ≡ v → IfSome v (λ chunk. HeldWith objects chunk.object (IsThere f.memory_type (sees_chunks f) chunk))
       held key None none = tt
       held key (Some c) is =
-          let h = subst (λ (v : Option HeldObject). IfSome v (λ h. HeldWith objects c.object (agreement.IsThere s c.object h))) (serves.of.linked.chunks key c is) (agrees.holds c.object) in (
+          let h = subst (λ (v : Option HeldObject). IfSome v (λ h. HeldWith objects c.object (agreement.IsHeldThere s c.object h))) (serves.of.linked.chunks key c is) (agrees.holds c.object) in (
             h.0,
             h.1,
             record {

@@ -8,7 +8,7 @@ use Rattle.gpu_alloc_types.specs.Properties.{Properties}
 use Rattle.gpu_alloc.specs.Allocation.{ObjectsWith}
 use Rattle.gpu_alloc_buddy.specs.BuddyState.{Buddy}
 use Rattle.gpu_alloc_base.specs.Chunks.{Chunk, IsNew}
-use Rattle.gpu_alloc_freelist.specs.FreeList.{IsTail, with_slot, with_chunk, first_tail}
+use Rattle.gpu_alloc_freelist.specs.FreeList.{IsTail, with_slot, with_numbered_chunk, first_tail}
 use Rattle.gpu_alloc_base.specs.Accounts.{Account, account}
 use Rattle.gpu_alloc_base.specs.Case.{Answers, GivesInPlace, GivesInNewObject}
 use Rattle.gpu_alloc_base.specs.NewObject.{HasOneMore}
@@ -22,7 +22,7 @@ use Rattle.gpu_alloc_freelist.proofs.Spaces.{next_is_new}
 use Rattle.gpu_alloc.proofs.HandedOn.{Given}
 use Rattle.gpu_alloc_types.specs.Flags.{has_bit}
 use Rattle.gpu_alloc.proofs.NewObjects.{counted_new}
-use Rattle.gpu_alloc_freelist.specs.FreeListSound.{IsSound}
+use Rattle.gpu_alloc_freelist.specs.FreeListSound.{IsSoundListing}
 use Rattle.gpu_alloc_freelist.specs.FreeListState.{Listing}
 use Rattle.gpu_alloc.specs.Inside.{state_in, properties_in, list_object, span_of_slot, slot_at}
 use Rattle.gpu_alloc.specs.Own.{OwnTable}
@@ -32,7 +32,7 @@ use Rattle.gpu_alloc.specs.FreeListSharing.{list_question, list_block, latest_nu
 use Rattle.gpu_alloc_base.specs.NewChunk.{ChunkQuestion, made}
 use Rattle.gpu_alloc.specs.BuddySharing.{with_span}
 use Rattle.gpu_alloc.specs.Spans.{Table}
-use Rattle.gpu_alloc.specs.Whole.{whole, AreWhole}
+use Rattle.gpu_alloc.specs.Whole.{whole, AreOneWhole}
 use Rattle.gpu_alloc.proofs.Wholes.{at_read, slot_comes, list_chunk_comes}
 use Rattle.gpu_alloc_block.specs.State.{HeldObject, Block, State}
 use Rattle.gpu_alloc_block.specs.declared.block.Kind.TheVariants.{FreeListChunk}
@@ -53,7 +53,7 @@ use Rattle.gpu_alloc_fit.specs.Fit.{Fitting}
 -- A request to a free list among the fields, and the block that it gave.
 
 module _ {A : Type 0} {limits : Limits A} {heaps : List Heap} {buddies : List Buddy} {lists : List Listing} {fits : List Fitting} {remaining index i : ℕ} {l : Listing} {heap : Heap} {flags : ℕ} {slot : Slot} {q : Properties} {old : ℕ → Option Object}
-    (own : OwnTable) (given : Given limits heaps buddies lists fits (whole own buddies lists fits) remaining index i lists l heap flags q old) (apart : AreWhole own buddies lists fits) (new : ℕ → Option Object) (size alignment : ℕ) (es : List Event) (after : Account Listing)
+    (own : OwnTable) (given : Given limits heaps buddies lists fits (whole own buddies lists fits) remaining index i lists l heap flags q old) (apart : AreOneWhole own buddies lists fits) (new : ℕ → Option Object) (size alignment : ℕ) (es : List Event) (after : Account Listing)
     (answers : Answers (list_case (account l heap remaining) size alignment flags) es (Ok slot) after) (objects : ObjectsAfter l (Ok slot) after.allocator old new) (nonempty : 0 < slot.size) where
   abbrev t : Table
   t = whole own buddies lists fits
@@ -100,7 +100,7 @@ module _ {A : Type 0} {limits : Limits A} {heaps : List Heap} {buddies : List Bu
   stands = at_read lists index l (omega (arith, given.known, given.is.listed.count)) given.at
 
   -- What the fields are with another free list.
-  module _ (sound : IsSound after.allocator) where
+  module _ (sound : IsSoundListing after.allocator) where
     abbrev now : Account Listing → Table
     now a = whole own buddies (set lists index a.allocator) fits
 
@@ -110,7 +110,7 @@ module _ {A : Type 0} {limits : Limits A} {heaps : List Heap} {buddies : List Bu
     -- what is left of it
     pub record IsServed (a : Account Listing) : Type 0 where
       pub recorded : IsRecorded limits.sharing limits.config (properties_in limits (set heaps i a.heap)) (set heaps i a.heap) buddies (set lists index a.allocator) fits (now a) a.remaining
-      pub parts : AreWhole own buddies (set lists index a.allocator) fits
+      pub parts : AreOneWhole own buddies (set lists index a.allocator) fits
       pub gives : GivesInPlace (list_candidate before size alignment index) es block (state_of a) ⊎ GivesInNewObject (list_candidate before size alignment index) es block (state_of a)
       pub objects_are : ObjectsWith before block (state_of a) old new
 
@@ -124,7 +124,7 @@ module _ {A : Type 0} {limits : Limits A} {heaps : List Heap} {buddies : List Bu
         let made = slot_comes own buddies lists fits apart index l stands serving.of.sound serving.of.for_type.memory_type list_now refl slot chunk found tail.object.2 refl refl in
         let now_is : Table = whole own buddies (set lists index list_now) fits in
         let more : HasSlotMore t now_is slot = record { free = slot_is_free; live = made.live_is } in
-        let sound_now = subst IsSound (ap (λ (a : Account Listing). a.allocator) after_is) sound in
+        let sound_now = subst IsSoundListing (ap (λ (a : Account Listing). a.allocator) after_is) sound in
         let state = state_with_slot limits heaps buddies lists fits t remaining index l given.is given.known given.at i heap given.here given.at_heap slot chunk now_is found tail.object.2 sound_now made.held_is more in
         subst IsServed (sym after_is) (record {
           recorded = recorded_with_slot limits heaps buddies lists fits t remaining index l given.is given.known given.at i heap given.here given.at_heap slot chunk now_is found tail.object.2 sound_now made.held_is more;
@@ -135,7 +135,7 @@ module _ {A : Type 0} {limits : Limits A} {heaps : List Heap} {buddies : List Bu
 
     -- in a new chunk
     in_new_run : slot.chunk ≡ l.space.latest + 1 → finite.get t.held slot.object ≡ None → 0 < remaining → heap.used + chunk_size l size ≤ heap.limit
-        → after ≡ account (record l { space = with_slot (with_chunk l.space slot.object (chunk_size l size)) slot; next_chunk = next_size l (chunk_size l size) }) (record heap { used = heap.used + chunk_size l size }) (remaining - 1)
+        → after ≡ account (record l { space = with_slot (with_numbered_chunk l.space slot.object (chunk_size l size)) slot; next_chunk = next_size l (chunk_size l size) }) (record heap { used = heap.used + chunk_size l size }) (remaining - 1)
         → HasOneMore (IsNew l.memory_type (sees_chunks l)) (finite.get after.allocator.space.chunks slot.chunk) slot.object old new
         → GivesInNewObject (list_candidate before size alignment index) es block (with_span (with_list_chunk before index slot.object (list_question before index size).size) (span_of_slot slot))
         → IsServed after
@@ -144,7 +144,7 @@ module _ {A : Type 0} {limits : Limits A} {heaps : List Heap} {buddies : List Bu
         let n : ℕ = chunk_size l size in
         let chunk : Chunk = record { object = slot.object; size = n } in
         let changed : Heap = record heap { used = heap.used + n } in
-        let list_now : Listing = record l { space = with_slot (with_chunk l.space slot.object n) slot; next_chunk = next_size l n } in
+        let list_now : Listing = record l { space = with_slot (with_numbered_chunk l.space slot.object n) slot; next_chunk = next_size l n } in
         let after_list : after.allocator ≡ list_now = ap (λ (a : Account Listing). a.allocator) after_is in
         let chunk_now : finite.get after.allocator.space.chunks slot.chunk ≡ Some chunk =
         ap (λ (x : Listing). finite.get x.space.chunks slot.chunk) after_list ∙ ap (finite.get (finite.insert l.space.chunks (l.space.latest + 1) chunk)) number
@@ -157,7 +157,7 @@ module _ {A : Type 0} {limits : Limits A} {heaps : List Heap} {buddies : List Bu
         let held_now : now_is.held ≡ finite.insert t.held slot.object row = made.held_is ∙ ap (finite.insert t.held slot.object) row_is in
         let more : HasSlotMore t now_is slot = record { free = slot_is_free; live = made.live_is } in
         let small : n < 2 ^ 64 = (sound.space.sizes slot.chunk chunk chunk_now).1 in
-        let sound_now = subst IsSound after_list sound in
+        let sound_now = subst IsSoundListing after_list sound in
         let state = state_with_list_chunk limits heaps buddies lists fits t remaining index l given.is given.known given.at i heap given.here given.at_heap slot n now_is changed number free some small sound_now held_now more refl within in
         let asked = asked_size limits heaps buddies lists fits t remaining index l given.is given.known given.at size in
         let state_asked = state ∙ ap (λ m. with_span (with_list_chunk before index slot.object m) (span_of_slot slot)) asked in
@@ -176,9 +176,9 @@ module _ {A : Type 0} {limits : Limits A} {heaps : List Heap} {buddies : List Bu
     -- the call's account of a new chunk, with the block as it is
     account_is : slot ≡ first_tail l.space slot.object (chunk_size l size) size alignment
         → in_new_chunk (account l heap remaining) slot.object size alignment
-        ≡ account (record l { space = with_slot (with_chunk l.space slot.object (chunk_size l size)) slot; next_chunk = next_size l (chunk_size l size) }) (record heap { used = heap.used + chunk_size l size }) (remaining - 1)
+        ≡ account (record l { space = with_slot (with_numbered_chunk l.space slot.object (chunk_size l size)) slot; next_chunk = next_size l (chunk_size l size) }) (record heap { used = heap.used + chunk_size l size }) (remaining - 1)
     account_is first =
-        ap (λ (x : Slot). account (record l { space = with_slot (with_chunk l.space slot.object (chunk_size l size)) x; next_chunk = next_size l (chunk_size l size) }) (record heap { used = heap.used + chunk_size l size }) (remaining - 1)) (sym first)
+        ap (λ (x : Slot). account (record l { space = with_slot (with_numbered_chunk l.space slot.object (chunk_size l size)) x; next_chunk = next_size l (chunk_size l size) }) (record heap { used = heap.used + chunk_size l size }) (remaining - 1)) (sym first)
 
     pub list_served : IsServed after
     list_served = elim (answers) [

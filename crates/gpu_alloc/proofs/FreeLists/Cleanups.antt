@@ -17,7 +17,7 @@ use Rattle.gpu_alloc.specs.Inside.{state_in, properties_in}
 use Rattle.gpu_alloc.proofs.Linked.{IsConsistent}
 use Rattle.gpu_alloc.specs.FitSharing.{IsFitChunk}
 use Rattle.gpu_alloc.specs.FreeListSharing.{IsListChunk}
-use Rattle.gpu_alloc.specs.Release.{AreAllGone, AreChunksGone, AreGoneOfType, GivesBack, GivesFitsBack, GivesTypeBack, IsCleanedUp, LetsGo, without_all, without_objects}
+use Rattle.gpu_alloc.specs.Release.{AreAllGone, AreChunksGone, AreGoneOfType, IsCleanedUp, LetsChunksGo, LetsFitsGo, LetsGo, LetsTypeGo, without_all, without_objects}
 use Rattle.gpu_alloc.specs.Sound.{may_be_unused, HasLiveSpan, IsSound}
 use Rattle.gpu_alloc.specs.Spans.{Table}
 use Rattle.gpu_alloc_block.specs.State.{HeldObject, Span, State, IsLive, share, ledger, total}
@@ -61,8 +61,8 @@ fits_stay s now t listed chunks held live = record {
         let kinds : FitChunk ≡ FreeListChunk may.0 = sym is.of_kind ∙ ap (λ (h : HeldObject). h.kind) one ∙ may.1.chunk.of_kind in
         cc
 
-pub type_goes : (s now after : State) (objects objects_now objects_after : ℕ → Option Object) (t : ℕ) (listed fitted : List ℕ) (es fs : List Event) → GivesBack s t false listed es now objects objects_now
-    → GivesFitsBack now t fitted fs after objects_now objects_after → GivesTypeBack s t (listed ++ fitted) (es ++ fs) after objects objects_after
+pub type_goes : (s now after : State) (objects objects_now objects_after : ℕ → Option Object) (t : ℕ) (listed fitted : List ℕ) (es fs : List Event) → LetsChunksGo s t false listed es now objects objects_now
+    → LetsFitsGo now t fitted fs after objects_now objects_after → LetsTypeGo s t (listed ++ fitted) (es ++ fs) after objects objects_after
 type_goes s now after objects objects_now objects_after t listed fitted es fs first then =
     let stay = fits_stay s now t listed first.chunks (ap (λ (x : State). x.held) first.lets.1) (ap (λ (x : State). x.live) first.lets.1) in
     record {
@@ -81,7 +81,7 @@ pub record IsCleaning (s : State) (objects : ℕ → Option Object) (t : ℕ) (g
 
 -- one memory type more
 pub cleaning_goes_on : (s now after : State) (p q : Properties) (objects objects_now objects_after : ℕ → Option Object) (t : ℕ) (gone own : List ℕ) (es fs : List Event) → IsCleaning s objects t gone es now p objects_now
-    → GivesTypeBack now t own fs after objects_now objects_after → Agrees after q objects_after → total after ≡ total now
+    → LetsTypeGo now t own fs after objects_now objects_after → Agrees after q objects_after → total after ≡ total now
     → IsCleaning s objects (t + 1) (gone ++ own) (es ++ fs) after q objects_after
 cleaning_goes_on s now after p q objects objects_now objects_after t gone own es fs w gives agrees whole = record {
   all = subst (λ n. AreAllGone s n (gone ++ own)) (sym (add-one t)) (gone, own, refl, w.all, type_agrees now s t (agree_back s now t same_type) own gives.chunks);

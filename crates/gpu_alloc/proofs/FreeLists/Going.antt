@@ -14,16 +14,16 @@ use Rattle.gpu_alloc_freelist.specs.FreeList.{IsWhollyFree}
 use Rattle.gpu_alloc_base.specs.Accounts.{Account, account, IsCounted}
 use Rattle.gpu_alloc_freelist.specs.FreeListAllocator.{object_of, without_objects_of}
 use Rattle.gpu_alloc_freelist.specs.FreeListAllocator as list
-use Rattle.gpu_alloc_freelist.specs.FreeListSound.{IsSound}
-use Rattle.gpu_alloc_freelist.specs.FreeListState.{Listing, Space}
+use Rattle.gpu_alloc_freelist.specs.FreeListSound.{IsSoundListing}
+use Rattle.gpu_alloc_freelist.specs.FreeListState.{Listing, ListSpace}
 use Rattle.gpu_alloc_freelist.proofs.ForCallers.{account_without_chunk, all_go, sound_without_chunk}
 use Rattle.gpu_alloc.specs.Inside.{state_in, properties_in, fits_in, types_in, list_object, slot_at, IsLiveIn}
 use Rattle.gpu_alloc.specs.Own.{OwnTable}
 use Rattle.gpu_alloc.proofs.Linked.{IsConsistent, IsListOf, StandFor, chosen_less, consistent, lists_set}
-use Rattle.gpu_alloc.specs.Release.{AreChunksGone, GivesBack, LetsGo, without_all, without_objects}
+use Rattle.gpu_alloc.specs.Release.{AreChunksGone, LetsChunksGo, LetsGo, without_all, without_objects}
 use Rattle.gpu_alloc.specs.FirstTypes.{first_types}
 use Rattle.gpu_alloc.specs.Spans.{Table}
-use Rattle.gpu_alloc.specs.Whole.{parts_of, whole, IsKept, IsPlace}
+use Rattle.gpu_alloc.specs.Whole.{parts_of, whole, IsKept, IsPartFor}
 use Rattle.gpu_alloc_block.specs.Parts.{Makes}
 use Rattle.gpu_alloc.proofs.Wholes.{at_read, list_chunk_goes}
 use Rattle.gpu_alloc_block.specs.State.{HeldObject, Span, State, total}
@@ -112,7 +112,7 @@ module _ {A : Type 0} {l : Limits A} {heaps : List Heap} {buddies : List Buddy} 
     unused : (span : Span) → IsLiveIn t span → span.object ≢ chunk.object
     unused span live same = free.unused (slot_at span n) (span_is_slot state index fl serves n chunk span found same live) refl
 
-    made : Makes (IsPlace (length buddies) (length (set lists index after.allocator))) (parts_of own buddies (set lists index after.allocator) fits) (finite.remove t.held chunk.object) t.live
+    made : Makes (IsPartFor (length buddies) (length (set lists index after.allocator))) (parts_of own buddies (set lists index after.allocator) fits) (finite.remove t.held chunk.object) t.live
     made = list_chunk_goes own buddies lists fits h.kept.apart index fl (at_read lists index fl list_in h.at) of.sound of.for_type.memory_type after.allocator refl n chunk found free.unused refl refl
 
     pub chunk_goes : StandFor l (set heaps i after.heap) buddies (set lists index after.allocator) fits own (remaining + 1) (without_object state chunk.object)
@@ -155,16 +155,16 @@ lets_more s now after names more es fs (told, is) (also, then) = (
     count = omega (arith, length-append names more)
 
 -- the same of the device's objects by numbers
-objects_named : (s : Space) (objects : ℕ → Option Object) (gone : List ℕ) → without_objects_of s objects gone ≡ without_objects objects (map (object_of s) gone)
+objects_named : (s : ListSpace) (objects : ℕ → Option Object) (gone : List ℕ) → without_objects_of s objects gone ≡ without_objects objects (map (object_of s) gone)
 objects_named s objects [] = refl
 objects_named s objects (n ∷ gone) = objects_named s (put objects (object_of s n) None) gone
 
 -- All chunks that may go go.
 
 -- what came back, and what is left
-pub record IsGivenBack (index : ℕ) (keep_last : Bool) (s : State) (es : List Event) (now : State) (p : Properties) (old new : ℕ → Option Object) : Type 0 where
+pub record AreLetGo (index : ℕ) (keep_last : Bool) (s : State) (es : List Event) (now : State) (p : Properties) (old new : ℕ → Option Object) : Type 0 where
   pub names : List ℕ
-  pub gives : GivesBack s index keep_last names es now old new
+  pub gives : LetsChunksGo s index keep_last names es now old new
   pub agrees : Agrees now p new
   pub whole : total now ≡ total s
 
@@ -179,7 +179,7 @@ module _ {A : Type 0} {l : Limits A} {heaps : List Heap} {buddies : List Buddy} 
   -- what is left of them
   abbrev pub IsLeft : Bool → State → List Event → Account Listing → Properties → (ℕ → Option Object) → (ℕ → Option Object) → Type 0
   IsLeft keep_last s es new p old now =
-      IsKept l.sharing l.config (properties_in l (set heaps i new.heap)) (set heaps i new.heap) buddies (set lists index new.allocator) fits own new.remaining × IsGivenBack index keep_last s es (state_with new) p old now
+      IsKept l.sharing l.config (properties_in l (set heaps i new.heap)) (set heaps i new.heap) buddies (set lists index new.allocator) fits own new.remaining × AreLetGo index keep_last s es (state_with new) p old now
 
   handed_with : (a : Account Listing) (s : State) → With a s → Handed l (set heaps i a.heap) buddies (set lists index a.allocator) fits own a.remaining index i a.allocator a.heap
   handed_with a s fields = handed l fields.0 h.known (sym (get_or-set_same lists index a.allocator a.allocator (list_in h))) h.here (sym (get_or-set_same heaps i a.heap a.heap (heap_in h)))
@@ -200,7 +200,7 @@ module _ {A : Type 0} {l : Limits A} {heaps : List Heap} {buddies : List Buddy} 
       same : s.remaining ≡ s.remaining + 0
       same = omega arith
 
-  one_goes : (a new : Account Listing) (n : ℕ) (chunk : Chunk) (names : List ℕ) → IsSound a.allocator → finite.get a.allocator.space.chunks n ≡ Some chunk → IsWhollyFree a.allocator.space n → Goes (account_without_chunk a n chunk) names new → Goes a (chunk.object ∷ names) new
+  one_goes : (a new : Account Listing) (n : ℕ) (chunk : Chunk) (names : List ℕ) → IsSoundListing a.allocator → finite.get a.allocator.space.chunks n ≡ Some chunk → IsWhollyFree a.allocator.space n → Goes (account_without_chunk a n chunk) names new → Goes a (chunk.object ∷ names) new
   one_goes a new n chunk names sound found free rest s p objects fields agrees =
       let after = account_without_chunk a n chunk in
       let goes = chunk_goes (handed_with a s fields) n chunk found free in
@@ -216,15 +216,15 @@ module _ {A : Type 0} {l : Limits A} {heaps : List Heap} {buddies : List Buddy} 
       count = omega arith
 
   module _ (a : Account Listing) {keep_last : Bool} {new : Account Listing} {gone : List ℕ} {es : List Event} {s : State} {p : Properties} {objects objects_now : ℕ → Option Object}
-      (gives : list.GivesBack keep_last a gone es new objects objects_now) (fields : With a s) (agrees : Agrees s p objects) where
+      (gives : list.LetsWholeChunksGo keep_last a gone es new objects objects_now) (fields : With a s) (agrees : Agrees s p objects) where
     abbrev names : List ℕ
     names = map (object_of a.allocator.space) gone
 
     went : With new (without_these s names) × Agrees (without_these s names) p (without_objects objects names)
     went = all_go Goes none_goes one_goes a new keep_last gone es (of (handed_with a s fields)).sound gives.0 gives.1.0 s p objects fields agrees
 
-    pub given_back : IsLeft keep_last s es new p objects objects_now
-    given_back =
+    pub let_go_left : IsLeft keep_last s es new p objects objects_now
+    let_go_left =
         let all = subst (λ x. AreChunksGone x index keep_last names) fields.1 (names_gone (handed_with a s fields) keep_last gone gives.0) in
         let told = gives.1.0.0 ∙ sym (map-map Deallocated (object_of a.allocator.space) gone) in
         let left = gives.1.1 ∙ objects_named a.allocator.space objects gone in (

@@ -11,7 +11,7 @@ use Rattle.gpu_alloc_freelist.specs.FreeListState.{Listing}
 use Rattle.gpu_alloc.specs.Inside.{IsNumberedChunk, list_object, span_of_slot, slot_at}
 use Rattle.gpu_alloc.specs.FitSharing.{IsFitChunk}
 use Rattle.gpu_alloc.specs.FreeListSharing.{IsListChunk, IsFreeInChunk}
-use Rattle.gpu_alloc.specs.Release.{IsUnused, IsUnusedFit, HasLastRun, MayGo, AreChunksGone, AreFitsGone, AreGoneOfType, AreAllGone, without_all}
+use Rattle.gpu_alloc.specs.Release.{IsUnused, IsUnusedFit, HasLastListRun, ListChunkMayGo, AreChunksGone, AreFitsGone, AreGoneOfType, AreAllGone, without_all}
 use Rattle.gpu_alloc_block.specs.State.{HeldObject, Span, span_cmp, State, IsLive}
 use Rattle.gpu_alloc_block.specs.declared.block.Kind.{Kind}
 use Rattle.gpu_alloc_block.specs.declared.block.Kind.TheVariants.{Dedicated, Imported, BuddyChunk, FreeListChunk, FitChunk}
@@ -75,20 +75,20 @@ module _ (s : State) (index : ℕ) (l : Listing) (serves : ServesList s index l)
 
   -- the last run
 
-  pub last_is : (number : ℕ) → list.HasLastRun l.space number → HasLastRun s index number
+  pub last_is : (number : ℕ) → list.HasLastRun l.space number → HasLastListRun s index number
   last_is number (r, (last, in_chunk)) = (r, (last_run_same (same_bytes s index l serves) r last, in_chunk))
 
-  pub last_was : (number : ℕ) → HasLastRun s index number → list.HasLastRun l.space number
+  pub last_was : (number : ℕ) → HasLastListRun s index number → list.HasLastRun l.space number
   last_was number (r, (last, in_chunk)) = (r, (last_run_same (same_back (same_bytes s index l serves)) r last, in_chunk))
 
   -- Chunks that may go.
 
-  pub goes_is : (keep_last : Bool) (number : ℕ) → list.MayGo l.space keep_last number → (object : ℕ) × MayGo s index keep_last number object
+  pub goes_is : (keep_last : Bool) (number : ℕ) → list.MayGo l.space keep_last number → (object : ℕ) × ListChunkMayGo s index keep_last number object
   goes_is keep_last number (free, beside) =
       let chunk = unused_is number free in
       (chunk.0, record { chunk = chunk.1.0; unused = chunk.1.1; not_last = λ kept last. beside kept (last_was number last) })
 
-  pub goes_was : (keep_last : Bool) (number object : ℕ) → MayGo s index keep_last number object → list.MayGo l.space keep_last number
+  pub goes_was : (keep_last : Bool) (number object : ℕ) → ListChunkMayGo s index keep_last number object → list.MayGo l.space keep_last number
   goes_was keep_last number object may = (unused_was number (object, (may.chunk, may.unused)), λ kept last. may.not_last kept (last_is number last))
 
   -- the object that a number tells
@@ -120,7 +120,7 @@ module _ (s : State) (index : ℕ) (l : Listing) (serves : ServesList s index l)
             let from = map_contains (object_of l.space) numbers object has in
             let goes = goes_is keep_last from.0 ((gone.all from.0).0 from.1.0) in
             let same : goes.0 ≡ object = sym (object_is from.0 goes.0 goes.1.chunk) ∙ from.1.1 in
-            (from.0, subst (MayGo s index keep_last from.0) same goes.1)),
+            (from.0, subst (ListChunkMayGo s index keep_last from.0) same goes.1)),
         (λ (number, may).
             let has = (gone.all number).1 (goes_was keep_last number object may) in
             subst (Contains objects) (object_is number object may.chunk) (contains_map (object_of l.space) numbers number has)),
@@ -162,7 +162,7 @@ module _ (s s' : State) (t : ℕ) (agree : AgreeOnType s s' t) where
 pub bytes_agree : (s s' : State) (t : ℕ) → AgreeOnType s s' t → AreSameBytes (IsFreeInChunk s t) (IsFreeInChunk s' t)
 bytes_agree s s' t agree = record { to = free_agrees s s' t agree; from = free_agrees s' s t (agree_back s s' t agree) }
 
-goes_agrees : (s s' : State) (t : ℕ) → AgreeOnType s s' t → (keep_last : Bool) (number object : ℕ) → MayGo s t keep_last number object → MayGo s' t keep_last number object
+goes_agrees : (s s' : State) (t : ℕ) → AgreeOnType s s' t → (keep_last : Bool) (number object : ℕ) → ListChunkMayGo s t keep_last number object → ListChunkMayGo s' t keep_last number object
 goes_agrees s s' t agree keep_last number object may = record {
   chunk = chunk_agrees s s' t agree number object may.chunk;
   unused = λ span live. may.unused span (was_live s s' t agree span live);

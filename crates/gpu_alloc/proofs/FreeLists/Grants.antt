@@ -7,10 +7,10 @@ use Rattle.gpu_alloc_types.specs.Properties.{Properties, heap_at}
 use Rattle.gpu_alloc.specs.Allocation.{fits_a_chunk}
 use Rattle.gpu_alloc_buddy.specs.BuddyState.{Buddy}
 use Rattle.gpu_alloc_base.specs.Chunks.{Chunk}
-use Rattle.gpu_alloc_freelist.specs.FreeList.{with_slot, with_chunk}
+use Rattle.gpu_alloc_freelist.specs.FreeList.{with_slot, with_numbered_chunk}
 use Rattle.gpu_alloc_base.specs.Accounts.{IsCounted}
 use Rattle.gpu_alloc_freelist.specs.FreeListAllocator.{listing_with_slot, chunk_size, next_size}
-use Rattle.gpu_alloc_freelist.specs.FreeListSound.{IsSound}
+use Rattle.gpu_alloc_freelist.specs.FreeListSound.{IsSoundListing}
 use Rattle.gpu_alloc_freelist.specs.FreeListState.{Listing}
 use Rattle.gpu_alloc.specs.Inside.{fits_in, state_in, properties_in, types_in, lists_in, list_object, span_of_slot}
 use Rattle.gpu_alloc.specs.Inside.{IsListFor}
@@ -93,7 +93,7 @@ module _ {A : Type 0} (limits : Limits A) (heaps : List Heap) (buddies : List Bu
 
     -- A block more in a held chunk.
 
-    module _ (slot : Slot) (chunk : Chunk) (now : Table) (found : finite.get l.space.chunks slot.chunk ≡ Some chunk) (object : slot.object ≡ chunk.object) (sound : IsSound (listing_with_slot l slot))
+    module _ (slot : Slot) (chunk : Chunk) (now : Table) (found : finite.get l.space.chunks slot.chunk ≡ Some chunk) (object : slot.object ≡ chunk.object) (sound : IsSoundListing (listing_with_slot l slot))
         (held : now.held ≡ t.held) (more : HasSlotMore t now slot) where
       chunk_held : finite.get t.held slot.object ≡ Some (list_object l slot.chunk chunk)
       chunk_held = ap (finite.get t.held) object ∙ of.linked.chunks slot.chunk chunk found
@@ -119,14 +119,14 @@ module _ {A : Type 0} (limits : Limits A) (heaps : List Heap) (buddies : List Bu
     -- A chunk more with a block in it.
 
     module _ (slot : Slot) (size : ℕ) (now : Table) (changed : Heap) (number : slot.chunk ≡ l.space.latest + 1) (free : finite.get t.held slot.object ≡ None) (some : 0 < remaining) (small : size < 2 ^ 64)
-        (sound : IsSound (record l { space = with_slot (with_chunk l.space slot.object size) slot; next_chunk = next_size l size }))
+        (sound : IsSoundListing (record l { space = with_slot (with_numbered_chunk l.space slot.object size) slot; next_chunk = next_size l size }))
         (held : now.held ≡ finite.insert t.held slot.object (record { memory_type = index; counted = size; kind = FreeListChunk slot.chunk })) (more : HasSlotMore t now slot)
         (counts : changed ≡ record heap { used = heap.used + size }) (within : heap.used + size ≤ heap.limit) where
       abbrev object_of : HeldObject
       object_of = record { memory_type = index; counted = size; kind = FreeListChunk slot.chunk }
 
       abbrev pub list_after : Listing
-      list_after = record l { space = with_slot (with_chunk l.space slot.object size) slot; next_chunk = next_size l size }
+      list_after = record l { space = with_slot (with_numbered_chunk l.space slot.object size) slot; next_chunk = next_size l size }
 
       list_with_chunk : IsListFor limits.config p index list_after
       list_with_chunk = record { for_type = same_listing_for limits heaps t index l list_after of refl refl refl refl; sound = sound }

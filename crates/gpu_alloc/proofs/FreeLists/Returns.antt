@@ -9,7 +9,7 @@ use Rattle.gpu_alloc_block.specs.Agreement.{Agrees}
 use Rattle.gpu_alloc_base.specs.Accounts.{Account, account}
 use Rattle.gpu_alloc_buddy.specs.BuddyState.{Buddy}
 use Rattle.gpu_alloc_freelist.specs.FreeList.{without_slot}
-use Rattle.gpu_alloc_freelist.specs.FreeListAllocator.{GivesBack, account_without}
+use Rattle.gpu_alloc_freelist.specs.FreeListAllocator.{LetsWholeChunksGo, account_without}
 use Rattle.gpu_alloc_freelist.specs.FreeListState.{Listing, IsLiveSlot}
 use Rattle.gpu_alloc_freelist.proofs.ForCallers.{sound_without_slot}
 use Rattle.gpu_alloc.specs.Inside.{state_in, properties_in, fits_in, types_in, list_object, span_of_slot, slot_at, IsNumberedChunk}
@@ -18,7 +18,7 @@ use Rattle.gpu_alloc.proofs.Linked.{StandFor, chosen_same, lists_set}
 use Rattle.gpu_alloc.specs.Release.{AreChunksGone, GoesWith, without_span}
 use Rattle.gpu_alloc.specs.FirstTypes.{first_types}
 use Rattle.gpu_alloc.specs.Spans.{Table}
-use Rattle.gpu_alloc.specs.Whole.{parts_of, whole, IsKept, IsPlace}
+use Rattle.gpu_alloc.specs.Whole.{parts_of, whole, IsKept, IsPartFor}
 use Rattle.gpu_alloc_block.specs.Parts.{Makes}
 use Rattle.gpu_alloc.proofs.Wholes.{at_read, slot_goes}
 use Rattle.gpu_alloc_block.specs.State.{span_of, Block, IsOwned, State}
@@ -28,7 +28,7 @@ use Rattle.gpu_alloc_base.specs.declared.heap.Heap.{Heap}
 use Rattle.gpu_alloc.specs.declared.limits.Limits.{Limits}
 use Rattle.gpu_alloc.proofs.Agreeing.{agrees_without_span}
 use Rattle.gpu_alloc.proofs.Consistency.{known_object, booked-span_gone}
-use Rattle.gpu_alloc.proofs.FreeLists.Going.{Handed, IsLeft, given_back, handed, list_in, of, unchanged}
+use Rattle.gpu_alloc.proofs.FreeLists.Going.{Handed, IsLeft, let_go_left, handed, list_in, of, unchanged}
 use Rattle.gpu_alloc.proofs.FreeLists.States.{list_types_kept}
 use Rattle.gpu_alloc.proofs.FreeLists.Types.{same_listing_for}
 use Rattle.gpu_alloc_fit.specs.Fit.{Fitting}
@@ -55,7 +55,7 @@ module _ {A : Type 0} {l : Limits A} {heaps : List Heap} {buddies : List Buddy} 
   abbrev less : Listing
   less = record fl { space = without_slot fl.space slot }
 
-  made : Makes (IsPlace (length buddies) (length (set lists index less))) (parts_of own buddies (set lists index less) fits) t.held (set_of.remove t.live (span_of_slot slot))
+  made : Makes (IsPartFor (length buddies) (length (set lists index less))) (parts_of own buddies (set lists index less) fits) t.held (set_of.remove t.live (span_of_slot slot))
   made = slot_goes own buddies lists fits h.kept.apart index fl (at_read lists index fl (list_in h) h.at) (of h).sound (of h).for_type.memory_type less refl slot slot_live refl refl
 
   -- with it taken back, before any chunk goes
@@ -80,9 +80,9 @@ module _ {A : Type 0} {l : Limits A} {heaps : List Heap} {buddies : List Buddy} 
       )
 
   -- and with the chunks gone
-  pub came_back : {gone : List ℕ} {es : List Event} {new : Account Listing} {p : Properties} {old now : ℕ → Option Object} → GivesBack true (account_without (account fl heap remaining) slot) gone es new old now → Agrees (state_in l heaps buddies lists fits t remaining) p old
+  pub came_back : {gone : List ℕ} {es : List Event} {new : Account Listing} {p : Properties} {old now : ℕ → Option Object} → LetsWholeChunksGo true (account_without (account fl heap remaining) slot) gone es new old now → Agrees (state_in l heaps buddies lists fits t remaining) p old
       → IsLeft h true (without_span (state_in l heaps buddies lists fits t remaining) block) es new p old now
-  came_back {p = p} {old = old} gives agrees = given_back h (account_without (account fl heap remaining) slot) gives (unchanged h freed) (agrees_without_span (state_in l heaps buddies lists fits t remaining) p p old block agrees refl)
+  came_back {p = p} {old = old} gives agrees = let_go_left h (account_without (account fl heap remaining) slot) gives (unchanged h freed) (agrees_without_span (state_in l heaps buddies lists fits t remaining) p p old block agrees refl)
 
 -- what goes with a block of a free list: all chunks of its memory type that may go
 pub goes_with_list : (s : State) (block : Block) (number index : ℕ) (names : List ℕ) → IsOwned s block → block.kind ≡ FreeListChunk number → index ≡ block.memory_type

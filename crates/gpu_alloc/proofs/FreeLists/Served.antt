@@ -58,7 +58,7 @@ module _ (s : State) (index : ℕ) (l : Listing) (serves : ServesList s index l)
       held : (number : ℕ) (v : Option Chunk) → map.get l.space.chunks number ≡ v → IfSome v (λ chunk. HeldWith objects chunk.object (IsThere l.memory_type (sees_chunks l) chunk))
       held number None none = tt
       held number (Some c) is =
-          let h = subst (λ (v : Option HeldObject). IfSome v (λ h. HeldWith objects c.object (agreement.IsThere s c.object h))) (serves.of.linked.chunks number c is) (agrees.holds c.object) in (
+          let h = subst (λ (v : Option HeldObject). IfSome v (λ h. HeldWith objects c.object (agreement.IsHeldThere s c.object h))) (serves.of.linked.chunks number c is) (agrees.holds c.object) in (
             h.0,
             h.1,
             record {

@@ -15,15 +15,15 @@ use Rattle.gpu_alloc_base.proofs.SlabViews.{IsInserted, IsRemoved, once_inserted
 use Rattle.gpu_alloc_block.specs.State.{HeldObject, Span, span_cmp}
 use Rattle.gpu_alloc_block.proofs.LiveSpans.{span_total, span_exact}
 use Rattle.gpu_alloc.specs.Listing.{AreOnce}
-use Rattle.gpu_alloc.specs.Own.{name_in, own_held, own_span, row_of, span_of, IsRowOf, StandsNowhere, StandsUnder}
-use Rattle.gpu_alloc.specs.Spans.{objects_in, span_in}
+use Rattle.gpu_alloc.specs.Own.{own_row_name, own_held, own_span, row_of, live_span_of, IsRowOf, StandsNowhere, StandsUnder}
+use Rattle.gpu_alloc.specs.Spans.{held_objects_in, span_in}
 use Rattle.gpu_alloc.specs.declared.own.OwnRow.{OwnRow}
 use Rattle.gpu_alloc.specs.declared.spans.HeldRow.{HeldRow}
 use Rattle.gpu_alloc_base.specs.declared.buddy_block.Leaf.{Leaf as LiveSpan}
 use Rattle.gpu_alloc.proofs.Tables.Listed.{distinct_named, mapped_twice, once_named, rows_apart}
 
 abbrev pub held_in : Slab OwnRow → finite.FinMap nat_cmp HeldObject
-held_in s = map_by name_in own_held s
+held_in s = map_by own_row_name own_held s
 
 abbrev pub live_in : Slab OwnRow → set.FinSet span_cmp
 live_in s = set_by own_span s
@@ -32,9 +32,9 @@ live_in s = set_by own_span s
 span_row : (s : Slab OwnRow) (span : Span) → set.contains (live_in s) span ≡ true → (key : ℕ) × (row : OwnRow) × (get s key ≡ Some row) × (own_span row ≡ span)
 span_row s span live = (in_set span_total span_exact own_span s span).0 live
 
-module _ (s : Slab OwnRow) (once : HasOneKeyEach name_in s) where
+module _ (s : Slab OwnRow) (once : HasOneKeyEach own_row_name s) where
   row_held : (key : ℕ) (row : OwnRow) → get s key ≡ Some row → finite.get (held_in s) row.object ≡ Some (own_held row)
-  row_held key row at = map_there nat_cmp_total nat_cmp-IsAntisymmetric name_in own_held s key row once at
+  row_held key row at = map_there nat_cmp_total nat_cmp-IsAntisymmetric own_row_name own_held s key row once at
 
   -- what stands under the key is the object's row
   pub is_row : (key object : ℕ) (row : OwnRow) → get s key ≡ Some row → row.object ≡ object → IsRowOf (held_in s) (live_in s) object row
@@ -58,7 +58,7 @@ module _ (s : Slab OwnRow) (once : HasOneKeyEach name_in s) where
       is_row key object row at (ap (λ (r : OwnRow). r.object) same ∙ under.2)
 
   pub nowhere_unheld : (object : ℕ) → StandsNowhere s object → finite.get (held_in s) object ≡ None
-  nowhere_unheld object none = map_absent nat_cmp_total nat_cmp-IsAntisymmetric name_in own_held s object none
+  nowhere_unheld object none = map_absent nat_cmp_total nat_cmp-IsAntisymmetric own_row_name own_held s object none
 
   unheld_nowhere : (object : ℕ) → finite.get (held_in s) object ≡ None → StandsNowhere s object
   unheld_nowhere object none key row at same =
@@ -70,24 +70,24 @@ module _ (s : Slab OwnRow) (once : HasOneKeyEach name_in s) where
   -- As a list.
 
   pub held_len : finite.len (held_in s) ≡ slab_len s
-  held_len = named_len nat_cmp_total nat_cmp-IsAntisymmetric (λ (e : ℕ × OwnRow). e.1.object) (λ e. own_held e.1) (entries s) (rows_apart name_in s once) ∙ length-entries s
+  held_len = named_len nat_cmp_total nat_cmp-IsAntisymmetric (λ (e : ℕ × OwnRow). e.1.object) (λ e. own_held e.1) (entries s) (rows_apart own_row_name s once) ∙ length-entries s
 
   abbrev pub rows_of : List (ℕ × HeldRow)
   rows_of = map (λ (e : ℕ × OwnRow). (e.1.object, row_of e.1)) (entries s)
 
   abbrev pub spans_of : List LiveSpan
-  spans_of = map (λ (e : ℕ × OwnRow). span_of e.1) (entries s)
+  spans_of = map (λ (e : ℕ × OwnRow). live_span_of e.1) (entries s)
 
-  pub rows_are : objects_in rows_of ≡ held_in s
+  pub rows_are : held_objects_in rows_of ≡ held_in s
   rows_are = ap (λ (es : List (ℕ × HeldObject)). finite.from_entries es) (mapped_twice (λ (e : ℕ × OwnRow). (e.1.object, row_of e.1)) _ (λ e. (e.1.object, own_held e.1)) (λ e. refl) (entries s))
 
   pub rows_distinct : IsDistinct nat_eq (keys_of rows_of)
   rows_distinct =
       subst (IsDistinct nat_eq) (sym (mapped_twice (λ (e : ℕ × OwnRow). (e.1.object, row_of e.1)) (λ x. x.0) (λ e. e.1.object) (λ e. refl) (entries s)))
-      (distinct_named (λ (e : ℕ × OwnRow). e.1.object) (entries s) (rows_apart name_in s once))
+      (distinct_named (λ (e : ℕ × OwnRow). e.1.object) (entries s) (rows_apart own_row_name s once))
 
   spans_named : map span_in spans_of ≡ map (λ (e : ℕ × OwnRow). own_span e.1) (entries s)
-  spans_named = mapped_twice (λ (e : ℕ × OwnRow). span_of e.1) span_in (λ e. own_span e.1) (λ e. refl) (entries s)
+  spans_named = mapped_twice (λ (e : ℕ × OwnRow). live_span_of e.1) span_in (λ e. own_span e.1) (λ e. refl) (entries s)
 
   pub spans_are : set.from_list (map span_in spans_of) ≡ live_in s
   spans_are = ap (λ (xs : List Span). set.from_list xs) spans_named
@@ -95,21 +95,21 @@ module _ (s : Slab OwnRow) (once : HasOneKeyEach name_in s) where
   pub spans_listed_once : AreOnce (map span_in spans_of)
   spans_listed_once = subst AreOnce (sym spans_named) (once_named (λ (e : ℕ × OwnRow). own_span e.1) (entries s) (rows_apart own_span s spans_once))
 
-module _ (old new : Slab OwnRow) (key : ℕ) (row : OwnRow) (once : HasOneKeyEach name_in old) where
-  pub once_more : finite.get (held_in old) row.object ≡ None → IsInserted old new key row → HasOneKeyEach name_in new
-  once_more none h = once_inserted name_in old new key row once (unheld_nowhere old once row.object none) h
+module _ (old new : Slab OwnRow) (key : ℕ) (row : OwnRow) (once : HasOneKeyEach own_row_name old) where
+  pub once_more : finite.get (held_in old) row.object ≡ None → IsInserted old new key row → HasOneKeyEach own_row_name new
+  once_more none h = once_inserted own_row_name old new key row once (unheld_nowhere old once row.object none) h
 
   pub held_more : finite.get (held_in old) row.object ≡ None → IsInserted old new key row → held_in new ≡ finite.insert (held_in old) row.object (own_held row)
-  held_more none h = map_inserted nat_cmp_total nat_cmp-IsAntisymmetric name_in own_held old new key row (once_more none h) h
+  held_more none h = map_inserted nat_cmp_total nat_cmp-IsAntisymmetric own_row_name own_held old new key row (once_more none h) h
 
   pub live_more : IsInserted old new key row → live_in new ≡ set.insert (live_in old) (own_span row)
   live_more h = set_inserted span_total span_exact own_span old new key row h
 
-  pub once_less : IsRemoved old new key row → HasOneKeyEach name_in new
-  once_less h = once_removed name_in old new key row once h
+  pub once_less : IsRemoved old new key row → HasOneKeyEach own_row_name new
+  once_less h = once_removed own_row_name old new key row once h
 
   pub held_less : IsRemoved old new key row → held_in new ≡ finite.remove (held_in old) row.object
-  held_less h = map_removed nat_cmp_total nat_cmp-IsAntisymmetric name_in own_held old new key row once h
+  held_less h = map_removed nat_cmp_total nat_cmp-IsAntisymmetric own_row_name own_held old new key row once h
 
   pub live_less : IsRemoved old new key row → live_in new ≡ set.remove (live_in old) (own_span row)
   live_less h = set_removed span_total span_exact own_span old new key row (spans_once old once) h

@@ -5,9 +5,9 @@ ghost use Rattle.std.specs.Prelude.{◌≡◌, ◌<◌, length, map as map_list,
 ghost use Rattle.std.specs.FinMap as map;
 ghost use Rattle.gpu_alloc_types.specs.Properties.{IsUsable, properties_of};
 ghost use Rattle.gpu_alloc_base.specs.Heap.{unused};
-ghost use Rattle.gpu_alloc_buddy.specs.BuddySound.{IsSound};
-ghost use Rattle.gpu_alloc_freelist.specs.FreeListSound.{IsSound as IsSoundListing};
-ghost use Rattle.gpu_alloc_fit.specs.FitSound.{IsSound as IsSoundFitting};
+ghost use Rattle.gpu_alloc_buddy.specs.BuddySound.{IsSoundBuddy};
+ghost use Rattle.gpu_alloc_freelist.specs.FreeListSound.{IsSoundListing};
+ghost use Rattle.gpu_alloc_fit.specs.FitSound.{IsSoundFitting};
 ghost use Rattle.gpu_alloc.specs.Opening.{first_buddy, AreFirstBuddies, first_listing, AreFirstListings};
 ghost use Rattle.gpu_alloc.specs.Opening.{first_fitting, AreFirstFittings};
 
@@ -64,7 +64,7 @@ fn empty_buddy<M: MemoryObject, A: Allocator + Copy>(
     requires usable { IsUsable (properties_of props.now) }
     requires known { memory_type < length (properties_of props.now).memory_types }
     ensures first { IfOk result (λ buddy. buddy ≡ first_buddy config (properties_of props.now) memory_type) }
-    ensures sound { IfOk result IsSound }
+    ensures sound { IfOk result IsSoundBuddy }
 {
     let own = props.memory_types[memory_type];
     let heap = props.memory_heaps[own.heap as usize].size;

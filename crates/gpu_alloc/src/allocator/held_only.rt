@@ -7,7 +7,7 @@ ghost use Rattle.gpu_alloc_usage.specs.Ranking.{implied};
 ghost use Rattle.gpu_alloc_block.specs.Agreement.{Agrees, BlockAgrees, KeepsBlocks};
 ghost use Rattle.gpu_alloc_block.specs.Kept.{LeavesInHand, AddsInHand};
 ghost use Rattle.gpu_alloc_block.specs.State.{is_shared};
-ghost use Rattle.gpu_alloc.specs.Allocation.{IsCandidate, IsExact, IsGranted, IsInPages, ask, asked_of};
+ghost use Rattle.gpu_alloc.specs.Allocation.{IsCandidate, IsExactFit, IsGranted, IsInPages, ask, asked_of};
 ghost use Rattle.gpu_alloc.specs.Allocation.{ObjectsTried, candidates_of, fits_a_chunk, plan_with};
 ghost use Rattle.gpu_alloc.specs.HeldOnly.{AllocatesHeld, HasPlaceBy, HasPlaceFor, IsFirstWithPlace, in_pages_where, plan_held};
 ghost use Rattle.gpu_alloc.specs.Owned.{Leaves, Adds};
@@ -67,7 +67,7 @@ impl<M: MemoryObject, A: Allocator> GpuAllocator<M, A> {
         ensures shared { IfOk result (λ served. IfSome served (λ block. is_shared block.kind ≡ true)) }
         ensures pages { IfOk result (λ served. IfSome served (λ block.
             IfSome granularity (λ page. IsInPages page request.size block))) }
-        ensures exact { IfOk result (λ served. IfSome served (IsExact self.old (in_pages_where granularity request))) }
+        ensures exact { IfOk result (λ served. IfSome served (IsExactFit self.old (in_pages_where granularity request))) }
         ensures ready { IfOk result (λ served. IfSome served (λ block.
             BlockAgrees block (D.properties device.new) (D.objects device.new))) }
         ensures added { IfOk result (λ served. IfSome served (Adds self.old self.new)) }

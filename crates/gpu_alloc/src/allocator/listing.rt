@@ -8,12 +8,12 @@ ghost use Rattle.std.specs.FinSet as set;
 ghost use Rattle.std.specs.Option.{option_map};
 ghost use Rattle.gpu_alloc.specs.Budget.{heap_bytes};
 ghost use Rattle.gpu_alloc.specs.Sound as Sound;
-ghost use Rattle.gpu_alloc.specs.Spans.{held_of, objects_in, span_in};
+ghost use Rattle.gpu_alloc.specs.Spans.{held_objects_in, held_of, span_in};
 ghost use Rattle.gpu_alloc.specs.Listing.{AreOfKnownTypes, AreOnce};
 ghost use Rattle.gpu_alloc.specs.Whole.{buddy_part, fit_part, list_part};
-ghost use Rattle.gpu_alloc_fit.specs.FitSound.{IsSound as IsSoundFit};
-ghost use Rattle.gpu_alloc_block.specs.Parts.{AreNamed};
-ghost use Rattle.gpu_alloc_freelist.specs.FreeListSound.{IsSound as IsSoundList};
+ghost use Rattle.gpu_alloc_fit.specs.FitSound.{IsSoundFitting};
+ghost use Rattle.gpu_alloc_block.specs.Parts.{HaveOwnObjects};
+ghost use Rattle.gpu_alloc_freelist.specs.FreeListSound.{IsSoundListing};
 
 use super::GpuAllocator;
 use crate::spans::{HeldRow, LiveSpan};
@@ -79,7 +79,7 @@ impl<M: MemoryObject, A: Allocator> GpuAllocator<M, A> {
     ///
     /// The list takes its memory from `alloc`, and the only error is want of it. Nothing changes.
     pub fn objects<B: Allocator>(&self, alloc: B) -> Result<Vec<(u64, HeldRow), B>, AllocError>
-        ensures exact { IfOk result (λ rows. objects_in rows.items ≡ self.now.held) }
+        ensures exact { IfOk result (λ rows. held_objects_in rows.items ≡ self.now.held) }
         ensures once { IfOk result (λ rows. IsDistinct nat_eq (keys_of rows.items)) }
         ensures known { AreOfKnownTypes self.now }
     {
@@ -144,7 +144,7 @@ fn buddy_chunk_of<M: MemoryObject, A: Allocator>(
     object: u64,
 ) -> Option<HeldRow>
     requires typed { (buddy.now).memory_type ≡ memory_type }
-    requires named { AreNamed (buddy.now).chunks }
+    requires named { HaveOwnObjects (buddy.now).chunks }
     ensures { option_map held_of result ≡ map.get (buddy_part buddy.now).held object }
 {
     for (_, chunk) in buddy.chunks() {
@@ -165,9 +165,9 @@ fn list_buddy_chunks<M: MemoryObject, A: Allocator, B: Allocator>(
     rows: &mut Vec<(u64, HeldRow), B>,
 ) -> Result<(), AllocError>
     requires typed { (buddy.now).memory_type ≡ memory_type }
-    requires named { AreNamed (buddy.now).chunks }
+    requires named { HaveOwnObjects (buddy.now).chunks }
     ensures { OnOk result ((chunks : List (ℕ × HeldRow)) × (rows.new.items ≡ rows.old.items ++ chunks)
-        × ((objects_in chunks ≡ (buddy_part buddy.now).held) × IsDistinct nat_eq (keys_of chunks))) }
+        × ((held_objects_in chunks ≡ (buddy_part buddy.now).held) × IsDistinct nat_eq (keys_of chunks))) }
 {
     for (_, chunk) in buddy.chunks() {
         rows.push((chunk.object(), buddy_row_of(chunk, memory_type)))?;
@@ -198,7 +198,7 @@ fn chunk_of<M: MemoryObject, A: Allocator>(
     object: u64,
 ) -> Option<HeldRow>
     requires typed { (list.now).memory_type ≡ memory_type }
-    requires named { AreNamed (list.now).space.chunks }
+    requires named { HaveOwnObjects (list.now).space.chunks }
     ensures { option_map held_of result ≡ map.get (list_part list.now).held object }
 {
     for (_, chunk) in list.chunks() {
@@ -218,9 +218,9 @@ fn list_chunks<M: MemoryObject, A: Allocator, B: Allocator>(
     rows: &mut Vec<(u64, HeldRow), B>,
 ) -> Result<(), AllocError>
     requires typed { (list.now).memory_type ≡ memory_type }
-    requires named { AreNamed (list.now).space.chunks }
+    requires named { HaveOwnObjects (list.now).space.chunks }
     ensures { OnOk result ((chunks : List (ℕ × HeldRow)) × (rows.new.items ≡ rows.old.items ++ chunks)
-        × ((objects_in chunks ≡ (list_part list.now).held) × IsDistinct nat_eq (keys_of chunks))) }
+        × ((held_objects_in chunks ≡ (list_part list.now).held) × IsDistinct nat_eq (keys_of chunks))) }
 {
     for (_, chunk) in list.chunks() {
         rows.push((chunk.object(), row_of(chunk, memory_type)))?;
@@ -235,7 +235,7 @@ fn list_slots<M: MemoryObject, A: Allocator, B: Allocator>(
     list: &FreeListAllocator<M, A>,
     rows: &mut Vec<LiveSpan, B>,
 ) -> Result<(), AllocError>
-    requires sound { IsSoundList list.now }
+    requires sound { IsSoundListing list.now }
     ensures { OnOk result ((slots : List LiveSpan) × (rows.new.items ≡ rows.old.items ++ slots)
         × ((set.from_list (mapped span_in slots) ≡ (list_part list.now).live) × AreOnce (mapped span_in slots))) }
 {
@@ -269,7 +269,7 @@ fn fit_chunk_of<M: MemoryObject, A: Allocator>(
     object: u64,
 ) -> Option<HeldRow>
     requires typed { (fit.now).memory_type ≡ memory_type }
-    requires named { AreNamed (fit.now).space.chunks }
+    requires named { HaveOwnObjects (fit.now).space.chunks }
     ensures { option_map held_of result ≡ map.get (fit_part fit.now).held object }
 {
     for (_, chunk) in fit.chunks() {
@@ -289,9 +289,9 @@ fn list_fit_chunks<M: MemoryObject, A: Allocator, B: Allocator>(
     rows: &mut Vec<(u64, HeldRow), B>,
 ) -> Result<(), AllocError>
     requires typed { (fit.now).memory_type ≡ memory_type }
-    requires named { AreNamed (fit.now).space.chunks }
+    requires named { HaveOwnObjects (fit.now).space.chunks }
     ensures { OnOk result ((chunks : List (ℕ × HeldRow)) × (rows.new.items ≡ rows.old.items ++ chunks)
-        × ((objects_in chunks ≡ (fit_part fit.now).held) × IsDistinct nat_eq (keys_of chunks))) }
+        × ((held_objects_in chunks ≡ (fit_part fit.now).held) × IsDistinct nat_eq (keys_of chunks))) }
 {
     for (_, chunk) in fit.chunks() {
         rows.push((chunk.object(), fit_row_of(chunk, memory_type)))?;

@@ -7,7 +7,7 @@ ghost use Rattle.gpu_alloc_block.specs.Kept.{LeavesInHand, AddsInHand};
 ghost use Rattle.gpu_alloc_block.specs.State.{is_shared, total};
 ghost use Rattle.gpu_alloc.specs.Allocation.{AllocatesBy, AllocatesOptimal, ObjectsAfter, ObjectsTried, IsGranted};
 ghost use Rattle.gpu_alloc.specs.Allocation.{IsInPages, TriesAsked};
-ghost use Rattle.gpu_alloc.specs.Allocation.{IsAloneWhereServed, IsExact, ask_in_pages, asked_of, plan_in_pages};
+ghost use Rattle.gpu_alloc.specs.Allocation.{IsAloneWhereServed, IsExactFit, ask_in_pages, asked_of, plan_in_pages};
 ghost use Rattle.gpu_alloc.specs.Allocation.{serves_alone};
 ghost use Rattle.gpu_alloc.specs.Owned.{Leaves, Adds};
 ghost use Rattle.gpu_alloc.specs.Request.{IsAskable, IsGranularity, in_pages};
@@ -54,7 +54,7 @@ impl<M: MemoryObject, A: Allocator> GpuAllocator<M, A> {
         ensures granted { IfOk result (IsGranted self.old request self.new) }
         ensures pages { IfOk result (IsInPages granularity request.size) }
         ensures alone { IfOk result (IsAloneWhereServed self.old (in_pages granularity request) dedicated) }
-        ensures exact { IfOk result (IsExact self.old (in_pages granularity request)) }
+        ensures exact { IfOk result (IsExactFit self.old (in_pages granularity request)) }
         ensures size { IfOk result (λ block. block.kind ≡ Kind.Dedicated → block.size ≡ request.size) }
         ensures own { dedicated ≡ Some Dedicated.Required → IfOk result (λ block. block.kind ≡ Kind.Dedicated) }
         ensures ready { IfOk result (λ block. BlockAgrees block (D.properties device.new) (D.objects device.new)) }

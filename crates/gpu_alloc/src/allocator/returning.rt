@@ -3,7 +3,7 @@
 ghost use Rattle.std.specs.Prelude.{◌≡◌, ℕ, ◌<◌, List, length, false};
 ghost use Rattle.gpu_alloc_types.specs.Device.{Event, Chain};
 ghost use Rattle.gpu_alloc_block.specs.Agreement.{Agrees};
-ghost use Rattle.gpu_alloc.specs.Release.{Frees, ObjectsFreed, GivesBack, GivesFitsBack, GivesTypeBack};
+ghost use Rattle.gpu_alloc.specs.Release.{Frees, ObjectsFreed, LetsChunksGo, LetsFitsGo, LetsTypeGo};
 ghost use Rattle.gpu_alloc.specs.Sound as Sound;
 ghost use Rattle.gpu_alloc_block.specs.State.{IsOwned, is_shared, total};
 
@@ -21,7 +21,7 @@ use std::sync::ledger::Blank;
 
 impl<M: MemoryObject, A: Allocator> GpuAllocator<M, A> {
     /// Returns a block, by what its object is held for.
-    pub(super) fn take_back<D: ObjectDevice<M>>(&mut self, device: &mut D, block: MemoryBlock<M>)
+    pub(super) fn put_back<D: ObjectDevice<M>>(&mut self, device: &mut D, block: MemoryBlock<M>)
         requires owned { IsOwned self.old block }
         requires agrees { Agrees self.old (D.properties device.old) (D.objects device.old) }
         ensures freed { (es : List Event) × Chain D.step device.old es device.new × Frees self.old block es self.new }
@@ -30,15 +30,15 @@ impl<M: MemoryObject, A: Allocator> GpuAllocator<M, A> {
         ensures sound { Sound.IsSound self.new }
     {
         match block.kind() {
-            Kind::Dedicated | Kind::Imported => self.dealloc_object(device, block),
-            Kind::BuddyChunk => self.dealloc_in_chunk(device, block),
-            Kind::FreeListChunk(number) => self.dealloc_in_list(device, block, number),
-            Kind::FitChunk => self.dealloc_in_fit(device, block),
+            Kind::Dedicated | Kind::Imported => self.put_back_object(device, block),
+            Kind::BuddyChunk => self.put_back_in_chunk(device, block),
+            Kind::FreeListChunk(number) => self.put_back_in_list(device, block, number),
+            Kind::FitChunk => self.put_back_in_fit(device, block),
         }
     }
 
     /// Returns the one block of an object, and releases the object.
-    fn dealloc_object<D: ObjectDevice<M>>(&mut self, device: &mut D, block: MemoryBlock<M>)
+    fn put_back_object<D: ObjectDevice<M>>(&mut self, device: &mut D, block: MemoryBlock<M>)
         requires own { is_shared block.kind ≡ false }
         requires owned { IsOwned self.old block }
         requires agrees { Agrees self.old (D.properties device.old) (D.objects device.old) }
@@ -61,7 +61,7 @@ impl<M: MemoryObject, A: Allocator> GpuAllocator<M, A> {
     }
 
     /// Returns a block of a buddy chunk.
-    fn dealloc_in_chunk<D: ObjectDevice<M>>(&mut self, device: &mut D, block: MemoryBlock<M>)
+    fn put_back_in_chunk<D: ObjectDevice<M>>(&mut self, device: &mut D, block: MemoryBlock<M>)
         requires shared { block.kind ≡ Kind.BuddyChunk }
         requires owned { IsOwned self.old block }
         requires agrees { Agrees self.old (D.properties device.old) (D.objects device.old) }
@@ -88,7 +88,7 @@ impl<M: MemoryObject, A: Allocator> GpuAllocator<M, A> {
     }
 
     /// Returns a block of a free list's chunk with this number.
-    fn dealloc_in_list<D: ObjectDevice<M>>(
+    fn put_back_in_list<D: ObjectDevice<M>>(
         &mut self,
         device: &mut D,
         block: MemoryBlock<M>,
@@ -121,7 +121,7 @@ impl<M: MemoryObject, A: Allocator> GpuAllocator<M, A> {
     }
 
     /// Returns a block of a fit chunk.
-    fn dealloc_in_fit<D: ObjectDevice<M>>(&mut self, device: &mut D, block: MemoryBlock<M>)
+    fn put_back_in_fit<D: ObjectDevice<M>>(&mut self, device: &mut D, block: MemoryBlock<M>)
         requires shared { block.kind ≡ Kind.FitChunk }
         requires owned { IsOwned self.old block }
         requires agrees { Agrees self.old (D.properties device.old) (D.objects device.old) }
@@ -155,7 +155,7 @@ impl<M: MemoryObject, A: Allocator> GpuAllocator<M, A> {
         requires known { memory_type < length (self.old.properties).memory_types }
         requires agrees { Agrees self.old (D.properties device.old) (D.objects device.old) }
         ensures gives { (gone : List ℕ) × (es : List Event) × Chain D.step device.old es device.new
-            × GivesTypeBack self.old memory_type gone es self.new (D.objects device.old) (D.objects device.new) }
+            × LetsTypeGo self.old memory_type gone es self.new (D.objects device.old) (D.objects device.new) }
         ensures agrees { Agrees self.new (D.properties device.new) (D.objects device.new) }
         ensures total { total self.new ≡ total self.old }
     {
@@ -168,7 +168,7 @@ impl<M: MemoryObject, A: Allocator> GpuAllocator<M, A> {
         requires known { memory_type < length (self.old.properties).memory_types }
         requires agrees { Agrees self.old (D.properties device.old) (D.objects device.old) }
         ensures gives { (gone : List ℕ) × (es : List Event) × Chain D.step device.old es device.new
-            × GivesFitsBack self.old memory_type gone es self.new (D.objects device.old) (D.objects device.new) }
+            × LetsFitsGo self.old memory_type gone es self.new (D.objects device.old) (D.objects device.new) }
         ensures agrees { Agrees self.new (D.properties device.new) (D.objects device.new) }
         ensures total { total self.new ≡ total self.old }
     {
@@ -185,7 +185,7 @@ impl<M: MemoryObject, A: Allocator> GpuAllocator<M, A> {
         requires known { memory_type < length (self.old.properties).memory_types }
         requires agrees { Agrees self.old (D.properties device.old) (D.objects device.old) }
         ensures gives { (gone : List ℕ) × (es : List Event) × Chain D.step device.old es device.new
-            × GivesBack self.old memory_type false gone es self.new (D.objects device.old) (D.objects device.new) }
+            × LetsChunksGo self.old memory_type false gone es self.new (D.objects device.old) (D.objects device.new) }
         ensures agrees { Agrees self.new (D.properties device.new) (D.objects device.new) }
         ensures total { total self.new ≡ total self.old }
     {

@@ -11,8 +11,8 @@ ghost use Rattle.gpu_alloc_base.specs.Steps.{Begins};
 ghost use Rattle.gpu_alloc_base.specs.Wanted.{requested, wanted};
 ghost use Rattle.gpu_alloc_buddy.specs.Buddy.{Agrees, CallAllocates, case_of, Frees, IsGranted};
 ghost use Rattle.gpu_alloc_buddy.specs.Buddy.{ObjectsAfter, ObjectsFreed};
-ghost use Rattle.gpu_alloc_buddy.specs.BuddySound.{IsSound};
-ghost use Rattle.gpu_alloc_buddy.specs.BuddyState.{IsLiveLeaf};
+ghost use Rattle.gpu_alloc_buddy.specs.BuddySound.{IsSoundBuddy};
+ghost use Rattle.gpu_alloc_buddy.specs.BuddyState.{IsLiveBuddyLeaf};
 ghost use Rattle.gpu_alloc_fit.specs.Fit as fit;
 ghost use Rattle.gpu_alloc_fit.specs.FitSound as fit_sound;
 ghost use Rattle.gpu_alloc_fits.specs.Space.{IsLiveSlot};
@@ -73,7 +73,7 @@ pub(super) fn alloc<M: MemoryObject, A: Allocator, D: ObjectDevice<M>, L: Ledger
     ensures granted { IfOk result (IsGranted buddy.old (requested size align_mask flags) buddy.new) }
     ensures refused { OnErr result
         ((buddy.new ≡ buddy.old) × ((heap.new ≡ heap.old) × (allocations_remains.new ≡ allocations_remains.old))) }
-    ensures sound { IsSound buddy.new }
+    ensures sound { IsSoundBuddy buddy.new }
 {
     buddy.alloc(
         device,
@@ -97,7 +97,7 @@ pub(super) fn dealloc<M: MemoryObject, A: Allocator, D: ObjectDevice<M>, L: Ledg
     blank: Blank,
 )
     requires begins { Begins blank L.name L.parts }
-    requires live { IsLiveLeaf buddy.old block }
+    requires live { IsLiveBuddyLeaf buddy.old block }
     requires agrees { Agrees buddy.old (D.properties device.old) (D.objects device.old) }
     requires counted { IsCounted (buddy.old).chunks heap.old allocations_remains.old }
     ensures frees { Asked D.step device.old device.new
@@ -105,7 +105,7 @@ pub(super) fn dealloc<M: MemoryObject, A: Allocator, D: ObjectDevice<M>, L: Ledg
         (account buddy.new heap.new allocations_remains.new)) }
     ensures objects { ObjectsFreed buddy.old block (D.objects device.old) (D.objects device.new) }
     ensures properties { D.properties device.new ≡ D.properties device.old }
-    ensures sound { IsSound buddy.new }
+    ensures sound { IsSoundBuddy buddy.new }
 {
     let mut releases = Steps::<L>::new(blank);
     buddy.dealloc(device, block, heap, allocations_remains, &mut releases);
@@ -129,7 +129,7 @@ pub(super) fn dealloc_fit<M: MemoryObject, A: Allocator, D: ObjectDevice<M>, L: 
         (account fits.new heap.new allocations_remains.new)) }
     ensures objects { fit.ObjectsFreed fits.old block (D.objects device.old) (D.objects device.new) }
     ensures properties { D.properties device.new ≡ D.properties device.old }
-    ensures sound { fit_sound.IsSound fits.new }
+    ensures sound { fit_sound.IsSoundFitting fits.new }
 {
     let mut looks = Steps::<L>::new(blank);
     fits.dealloc(device, block, heap, allocations_remains, &mut looks);

@@ -12,7 +12,7 @@ use Rattle.gpu_alloc_base.proofs.ListViews.{IsMore, IsLess, IsOneToOne, seek_nam
 use Rattle.gpu_alloc_base.proofs.Maps.{one_value, own_inserted, inserted_cases, inserted_kept, kept_key, kept_other}
 use Rattle.gpu_alloc_block.specs.State.{HeldObject, Span}
 use Rattle.gpu_alloc_block.proofs.LiveSpans.{span_total, span_exact}
-use Rattle.gpu_alloc_block.specs.Parts.{Chunks, by_name, by_span, AreNamed}
+use Rattle.gpu_alloc_block.specs.Parts.{Chunks, by_name, by_span, HaveOwnObjects}
 use Rattle.gpu_alloc_block.proofs.Parts.Entries.{entry_there, there_entry, item_there}
 
 abbrev Entry : Type 0
@@ -43,7 +43,7 @@ entries_less m k c is = record {
 }
 
 -- no two entries have one object
-once_of : (m : Chunks) → AreNamed m → IsOneToOne (λ (e : Entry). e.1.object) (finite.entries m)
+once_of : (m : Chunks) → HaveOwnObjects m → IsOneToOne (λ (e : Entry). e.1.object) (finite.entries m)
 once_of m named a b has_a has_b same =
     let at_a = there_entry m a.0 a.1 has_a in
     let at_b = there_entry m b.0 b.1 has_b in
@@ -52,7 +52,7 @@ once_of m named a b has_a has_b same =
     λ i. (key i, value i)
 
 -- what is held under a name is a chunk's
-pub name_was : (g : ℕ → Chunk → HeldObject) (m : Chunks) → AreNamed m → (name : ℕ) (h : HeldObject) → finite.get (by_name g m) name ≡ Some h → (key : ℕ) × (c : Chunk) × (finite.get m key ≡ Some c) × (c.object ≡ name) × (g key c ≡ h)
+pub name_was : (g : ℕ → Chunk → HeldObject) (m : Chunks) → HaveOwnObjects m → (name : ℕ) (h : HeldObject) → finite.get (by_name g m) name ≡ Some h → (key : ℕ) × (c : Chunk) × (finite.get m key ≡ Some c) × (c.object ≡ name) × (g key c ≡ h)
 name_was g m named name h is = elim (seek_name nat_cmp_total nat_cmp-IsAntisymmetric (λ (e : Entry). e.1.object) (λ e. g e.0 e.1) (finite.entries m) name) [
   | inl found ↦
       let at = there_entry m found.0.0 found.0.1 found.1 in
@@ -63,7 +63,7 @@ name_was g m named name h is = elim (seek_name nat_cmp_total nat_cmp-IsAntisymme
 
 -- names stay apart
 
-pub named_after : (m : Chunks) (k : ℕ) (c : Chunk) → AreNamed m → ((i : ℕ) (a : Chunk) → finite.get m i ≡ Some a → a.object ≢ c.object) → AreNamed (finite.insert m k c)
+pub named_after : (m : Chunks) (k : ℕ) (c : Chunk) → HaveOwnObjects m → ((i : ℕ) (a : Chunk) → finite.get m i ≡ Some a → a.object ≢ c.object) → HaveOwnObjects (finite.insert m k c)
 named_after m k c named fresh i j a b at_i at_j same = elim (inserted_cases m k c i a at_i) [
   | inl x ↦ elim (inserted_cases m k c j b at_j) [
     | inl y ↦ x.0 ∙ sym y.0
@@ -75,7 +75,7 @@ named_after m k c named fresh i j a b at_i at_j same = elim (inserted_cases m k 
   ]
 ]
 
-module _ (g : ℕ → Chunk → HeldObject) (m : Chunks) (named : AreNamed m) where
+module _ (g : ℕ → Chunk → HeldObject) (m : Chunks) (named : HaveOwnObjects m) where
   -- what is held under a name
   pub name_there : (k : ℕ) (c : Chunk) → finite.get m k ≡ Some c → finite.get (by_name g m) c.object ≡ Some (g k c)
   name_there k c is = named_there nat_cmp_total nat_cmp-IsAntisymmetric (λ (e : Entry). e.1.object) (λ e. g e.0 e.1) (finite.entries m) (k, c) (once_of m named) (entry_there m k c is)
@@ -91,7 +91,7 @@ module _ (g : ℕ → Chunk → HeldObject) (m : Chunks) (named : AreNamed m) wh
       named_less nat_cmp_total nat_cmp-IsAntisymmetric (λ (e : Entry). e.1.object) (λ e. g e.0 e.1) (finite.entries m) (finite.entries (finite.remove m k)) (k, c) (once_of m named) (entries_less m k c is)
 
 -- a name that the part does not hold is no chunk's
-pub fresh_name : (g : ℕ → Chunk → HeldObject) (m : Chunks) → AreNamed m → (name : ℕ) → finite.get (by_name g m) name ≡ None → (i : ℕ) (a : Chunk) → finite.get m i ≡ Some a → a.object ≢ name
+pub fresh_name : (g : ℕ → Chunk → HeldObject) (m : Chunks) → HaveOwnObjects m → (name : ℕ) → finite.get (by_name g m) name ≡ None → (i : ℕ) (a : Chunk) → finite.get m i ≡ Some a → a.object ≢ name
 fresh_name g m named name none i a at is = let there : finite.get (by_name g m) name ≡ Some (g i a) = subst (λ n. finite.get (by_name g m) n ≡ Some (g i a)) is (name_there g m named i a at) in absurd (cc)
 
 -- Spans.

@@ -6,17 +6,17 @@ use Rattle.std.specs.FinSet as set_of
 use Rattle.gpu_alloc_base.proofs.Maps.{inserted_cases, own_inserted, inserted_kept, kept_key, kept_other}
 use Rattle.gpu_alloc_block.specs.State.{HeldObject, Span}
 use Rattle.gpu_alloc_block.proofs.LiveSpans.{live_before, live_other, not_live}
-use Rattle.gpu_alloc_block.specs.Parts.{Part, held_in, live_in, IsAt, Holds, HasLive, AreApart, Makes, IsUnused}
+use Rattle.gpu_alloc_block.specs.Parts.{Part, held_in_parts, live_in_parts, IsAt, Holds, HasLive, ArePartsApart, Makes, IsUnusedInPart}
 use Rattle.gpu_alloc_block.proofs.Parts.Unions.{at_once, at_after, held_at, live_at, none_at, IsAlone, IsAloneLive, held_kept, live_kept_at, held_put, held_gone, live_put, live_gone}
 
-module _ (IsPlace : ℕ → HeldObject → Type 0) (ps : List Part) (apart : AreApart IsPlace ps) where
+module _ (IsPlace : ℕ → HeldObject → Type 0) (ps : List Part) (apart : ArePartsApart IsPlace ps) where
   -- Look-ups.
 
   -- what a part holds, the union holds
-  pub holds_of : (i : ℕ) (p : Part) (object : ℕ) (h : HeldObject) → IsAt ps i p → Holds p object h → map.get (held_in ps) object ≡ Some h
-  holds_of i p object h at has = cases (map.get (held_in ps) object) refl
+  pub holds_of : (i : ℕ) (p : Part) (object : ℕ) (h : HeldObject) → IsAt ps i p → Holds p object h → map.get (held_in_parts ps) object ≡ Some h
+  holds_of i p object h at has = cases (map.get (held_in_parts ps) object) refl
     where
-      cases : (o : Option HeldObject) → map.get (held_in ps) object ≡ o → map.get (held_in ps) object ≡ Some h
+      cases : (o : Option HeldObject) → map.get (held_in_parts ps) object ≡ o → map.get (held_in_parts ps) object ≡ Some h
       cases None e = let none = none_at ps object e i p at in absurd (let bad : None ≡ Some h = sym none ∙ has in cc)
       cases (Some k) e =
           let there = held_at ps object k e in
@@ -25,7 +25,7 @@ module _ (IsPlace : ℕ → HeldObject → Type 0) (ps : List Part) (apart : Are
           e ∙ sym there.3 ∙ ap (λ (s : Part). map.get s.held object) same ∙ has
 
   -- and stands in the part where it may be
-  pub own_part : ((i j : ℕ) (h : HeldObject) → IsPlace i h → IsPlace j h → i ≡ j) → (i : ℕ) (p : Part) (object : ℕ) (h : HeldObject) → map.get (held_in ps) object ≡ Some h → IsPlace i h → IsAt ps i p → Holds p object h
+  pub own_part : ((i j : ℕ) (h : HeldObject) → IsPlace i h → IsPlace j h → i ≡ j) → (i : ℕ) (p : Part) (object : ℕ) (h : HeldObject) → map.get (held_in_parts ps) object ≡ Some h → IsPlace i h → IsAt ps i p → Holds p object h
   own_part single i p object h is placed at =
       let there = held_at ps object h is in
       let here : there.0 ≡ i = single there.0 i h (apart.placed there.0 there.1 object h there.2 there.3) placed in
@@ -33,7 +33,7 @@ module _ (IsPlace : ℕ → HeldObject → Type 0) (ps : List Part) (apart : Are
       ap (λ (s : Part). map.get s.held object) (sym same) ∙ there.3
 
   -- and so do its spans
-  pub part_span : (i : ℕ) (p : Part) (span : Span) (h : HeldObject) → IsTrue (set_of.contains (live_in ps) span) → Holds p span.object h → IsAt ps i p → HasLive p span
+  pub part_span : (i : ℕ) (p : Part) (span : Span) (h : HeldObject) → IsTrue (set_of.contains (live_in_parts ps) span) → Holds p span.object h → IsAt ps i p → HasLive p span
   part_span i p span h live has at =
       let there = live_at ps span live in
       let inside = apart.inside there.0 there.1 span there.2 there.3 in
@@ -49,7 +49,7 @@ module _ (IsPlace : ℕ → HeldObject → Type 0) (ps : List Part) (apart : Are
       cases None e = e
       cases (Some k) e = absurd (ne (apart.once j i q p object k h there at e has))
 
-  alone_new : (i object : ℕ) → map.get (held_in ps) object ≡ None → IsAlone ps i object
+  alone_new : (i object : ℕ) → map.get (held_in_parts ps) object ≡ None → IsAlone ps i object
   alone_new i object none j q there ne = none_at ps object none j q there
 
   -- nor are its spans live there
@@ -61,7 +61,7 @@ module _ (IsPlace : ℕ → HeldObject → Type 0) (ps : List Part) (apart : Are
 
   module _ (i : ℕ) (p new : Part) (at : IsAt ps i p) where
     apart_changed : ((object : ℕ) (h : HeldObject) → Holds new object h → IsPlace i h × IsAlone ps i object) → ((span : Span) → HasLive new span → (h : HeldObject) × Holds new span.object h)
-        → AreApart IsPlace (set ps i new)
+        → ArePartsApart IsPlace (set ps i new)
     apart_changed holds inside = record {
       placed = λ j q object h there has. elim (at_after ps i new j q there) [
         | inl is ↦ subst (λ k. IsPlace k h) (sym is.0) (holds object h (subst (λ (s : Part). Holds s object h) (sym is.1) has)).0
@@ -90,7 +90,7 @@ module _ (IsPlace : ℕ → HeldObject → Type 0) (ps : List Part) (apart : Are
 
     -- a span comes, of an object that is held
     pub span_comes : (span : Span) (h : HeldObject) → Holds p span.object h → new.held ≡ p.held → new.live ≡ set_of.insert p.live span
-        → Makes IsPlace (set ps i new) (held_in ps) (set_of.insert (live_in ps) span)
+        → Makes IsPlace (set ps i new) (held_in_parts ps) (set_of.insert (live_in_parts ps) span)
     span_comes span h has held live = record {
       apart = apart_changed (λ object g is. own object g (ap (λ m. map.get m object) (sym held) ∙ is)) (λ s is. elim (live_before p.live span s (subst (λ l. IsTrue (set_of.contains l s)) live is)) [
         | inl same ↦ (h, ap (λ m. map.get m s.object) held ∙ ap (λ (t : Span). map.get p.held t.object) same ∙ has)
@@ -101,8 +101,8 @@ module _ (IsPlace : ℕ → HeldObject → Type 0) (ps : List Part) (apart : Are
     }
 
     -- an object comes, with a span of it
-    pub object_comes : (span : Span) (h : HeldObject) → map.get (held_in ps) span.object ≡ None → IsPlace i h → new.held ≡ map.insert p.held span.object h → new.live ≡ set_of.insert p.live span
-        → Makes IsPlace (set ps i new) (map.insert (held_in ps) span.object h) (set_of.insert (live_in ps) span)
+    pub object_comes : (span : Span) (h : HeldObject) → map.get (held_in_parts ps) span.object ≡ None → IsPlace i h → new.held ≡ map.insert p.held span.object h → new.live ≡ set_of.insert p.live span
+        → Makes IsPlace (set ps i new) (map.insert (held_in_parts ps) span.object h) (set_of.insert (live_in_parts ps) span)
     object_comes span h none placed held live = record {
       apart = apart_changed (λ object g is. elim (inserted_cases p.held span.object h object g (ap (λ m. map.get m object) (sym held) ∙ is)) [
         | inl came ↦ (subst (IsPlace i) came.1 placed, λ j q there ne. ap (map.get q.held) came.0 ∙ alone_new i span.object none j q there ne)
@@ -117,7 +117,7 @@ module _ (IsPlace : ℕ → HeldObject → Type 0) (ps : List Part) (apart : Are
 
     -- a span goes
     pub span_goes : (span : Span) (h : HeldObject) → Holds p span.object h → new.held ≡ p.held → new.live ≡ set_of.remove p.live span
-        → Makes IsPlace (set ps i new) (held_in ps) (set_of.remove (live_in ps) span)
+        → Makes IsPlace (set ps i new) (held_in_parts ps) (set_of.remove (live_in_parts ps) span)
     span_goes span h has held live = record {
       apart = apart_changed (λ object g is. own object g (ap (λ m. map.get m object) (sym held) ∙ is)) (λ s is.
           let inside = apart.inside i p s at (live_other p.live span s (subst (λ l. IsTrue (set_of.contains l s)) live is)).1 in
@@ -127,8 +127,8 @@ module _ (IsPlace : ℕ → HeldObject → Type 0) (ps : List Part) (apart : Are
     }
 
     -- an object goes of which no span is live
-    pub object_goes : (object : ℕ) (h : HeldObject) → Holds p object h → IsUnused p object → new.held ≡ map.remove p.held object → new.live ≡ p.live
-        → Makes IsPlace (set ps i new) (map.remove (held_in ps) object) (live_in ps)
+    pub object_goes : (object : ℕ) (h : HeldObject) → Holds p object h → IsUnusedInPart p object → new.held ≡ map.remove p.held object → new.live ≡ p.live
+        → Makes IsPlace (set ps i new) (map.remove (held_in_parts ps) object) (live_in_parts ps)
     object_goes object h has unused held live = record {
       apart = apart_changed (λ name g is. own name g (kept_key p.held object name g (ap (λ m. map.get m name) (sym held) ∙ is)).1) (λ s is.
           let was : HasLive p s = subst (λ l. IsTrue (set_of.contains l s)) live is in
@@ -141,7 +141,7 @@ module _ (IsPlace : ℕ → HeldObject → Type 0) (ps : List Part) (apart : Are
     -- a span goes, and its object with it, of which no other is live
     pub last_goes : (span : Span) (h : HeldObject) → Holds p span.object h → ((other : Span) → HasLive p other → other.object ≡ span.object → other ≡ span)
         → new.held ≡ map.remove p.held span.object → new.live ≡ set_of.remove p.live span
-        → Makes IsPlace (set ps i new) (map.remove (held_in ps) span.object) (set_of.remove (live_in ps) span)
+        → Makes IsPlace (set ps i new) (map.remove (held_in_parts ps) span.object) (set_of.remove (live_in_parts ps) span)
     last_goes span h has last held live = record {
       apart = apart_changed (λ name g is. own name g (kept_key p.held span.object name g (ap (λ m. map.get m name) (sym held) ∙ is)).1) (λ s is.
           let left = live_other p.live span s (subst (λ l. IsTrue (set_of.contains l s)) live is) in

@@ -2,7 +2,7 @@
 
 ghost use Rattle.std.specs.Prelude.{◌≡◌, ◌↔◌, ◌+◌, ◌<◌, ◌≤◌, ℕ, length, slice_get, Some, IfSome, IsOk, IsSome, IsTrue, OnOk};
 ghost use Rattle.std.specs.FinMap as map;
-ghost use Rattle.gpu_alloc_freelist.specs.Chunks.{AreNumbered, IsWholeChunk, ListsChunks, chunk_of, keys_in};
+ghost use Rattle.gpu_alloc_freelist.specs.Chunks.{AreNumbered, IsWholeChunk, ListsChunks, chunk_of, keys_by_number};
 
 use gpu_alloc_base::FreeListRegion;
 use gpu_alloc_types::MemoryObject;
@@ -70,9 +70,9 @@ impl<M: MemoryObject, A: Allocator> Model for Chunks<M, A> {
     ghost coded = { numbered_chunks_code };
 
     ghost use Rattle.std.specs.Prelude.{◌-◌, length, vec_capacity};
-    ghost use Rattle.gpu_alloc_freelist.specs.Chunks.{AreFiled, chunks_in};
+    ghost use Rattle.gpu_alloc_freelist.specs.Chunks.{AreFiled, numbered_chunks_in};
 
-    ghost view = { λ c. chunks_in M.object c.rows (vec_capacity c.numbers - length c.numbers.items) };
+    ghost view = { λ c. numbered_chunks_in M.object c.rows (vec_capacity c.numbers - length c.numbers.items) };
 
     ghost invariant = { λ c. AreFiled c.rows c.numbers.items };
 }
@@ -167,7 +167,7 @@ impl<M: MemoryObject, A: Allocator> Chunks<M, A> {
 /// Where a number stands among those in rising order.
 fn place_of(numbers: &[NumberedKey], number: u64) -> usize
     requires rising { AreNumbered (λ n. n.number) numbers.now }
-    requires listed { IsSome (map.get (keys_in numbers.now) number) }
+    requires listed { IsSome (map.get (keys_by_number numbers.now) number) }
     ensures within { result < length numbers.now }
     ensures number { IfSome (slice_get numbers.now result) (λ n. n.number ≡ number) }
 {

@@ -8,10 +8,10 @@ ghost use Rattle.std.specs.List.{Contains};
 ghost use Rattle.gpu_alloc_freelist.specs.Chunks.{IsWholeChunk, ListsChunks};
 ghost use Rattle.gpu_alloc_freelist.specs.Live.{ListsSlots};
 ghost use Rattle.gpu_alloc_freelist.specs.FreeList.{TakesTail, IsFirstToGo, MayGo, HasNumber, HasPlace, with_slot};
-ghost use Rattle.gpu_alloc_freelist.specs.FreeList.{without_slot, with_chunk, without_chunk, first_tail, no_space};
+ghost use Rattle.gpu_alloc_freelist.specs.FreeList.{without_slot, with_numbered_chunk, without_chunk, first_tail, no_list_space};
 ghost use Rattle.gpu_alloc_freelist.specs.FreeList.{AddsBlock, LeavesBlocks, RemovesBlock};
 ghost use Rattle.gpu_alloc_freelist.specs.FreeListInside.{MayBeTaken, IsFirstWhole};
-ghost use Rattle.gpu_alloc_freelist.specs.FreeListSound.{IsSoundSpace};
+ghost use Rattle.gpu_alloc_freelist.specs.FreeListSound.{IsSoundListSpace};
 ghost use Rattle.gpu_alloc_freelist.specs.FreeListState.{IsLiveSlot, IsFreeIn};
 ghost use Rattle.gpu_alloc_freelist.specs.Runs.{AreFewComparisons};
 ghost use Rattle.gpu_alloc_freelist.specs.Wholes.{wholes};
@@ -47,20 +47,20 @@ pub struct FreeList<M: MemoryObject, A: Allocator = Global> {
 }
 
 impl<M: MemoryObject, A: Allocator> Model for FreeList<M, A> {
-    ghost use Rattle.gpu_alloc_freelist.specs.FreeListState.{Store};
-    ghost use Rattle.gpu_alloc_freelist.specs.Codes.{store_code};
+    ghost use Rattle.gpu_alloc_freelist.specs.FreeListState.{ListStore};
+    ghost use Rattle.gpu_alloc_freelist.specs.Codes.{list_store_code};
 
-    ghost Value = { Store };
+    ghost Value = { ListStore };
 
-    ghost coded = { store_code };
+    ghost coded = { list_store_code };
 
     ghost use Rattle.std.specs.Prelude.{◌-◌};
-    ghost use Rattle.gpu_alloc_freelist.specs.FreeListInside.{space_in, store_in, room_for, IsListed};
+    ghost use Rattle.gpu_alloc_freelist.specs.FreeListInside.{list_space_in, list_store_in, room_for, IsListed};
 
-    ghost view = { λ l. store_in (space_in (l.chunks).held (l.live).slots l.latest)
+    ghost view = { λ l. list_store_in (list_space_in (l.chunks).held (l.live).slots l.latest)
         (room_for (l.chunks).room (l.live).room ((l.runs).room - (l.live).count)) };
 
-    ghost invariant = { λ l. IsListed (space_in (l.chunks).held (l.live).slots l.latest) (l.runs).regions (l.live).count
+    ghost invariant = { λ l. IsListed (list_space_in (l.chunks).held (l.live).slots l.latest) (l.runs).regions (l.live).count
         (l.runs).room l.whole };
 }
 
@@ -69,10 +69,10 @@ impl<M: MemoryObject, A: Allocator + Copy> FreeList<M, A> {
     ///
     /// No block is live (`live`), and the list may be closed (`held`).
     pub fn new(alloc: A) -> Self
-        ensures empty { result.space ≡ no_space }
+        ensures empty { result.space ≡ no_list_space }
         ensures live { set.len (result.space).live ≡ 0 }
         ensures held { map.len (result.space).chunks ≡ 0 }
-        ensures sound { IsSoundSpace result.space }
+        ensures sound { IsSoundListSpace result.space }
     {
         FreeList {
             chunks: Chunks::new(alloc),
@@ -127,12 +127,12 @@ impl<M: MemoryObject, A: Allocator> FreeList<M, A> {
         ensures block { IfOk result
             (λ slot. slot ≡ first_tail self.old.space (M.object memory) memory_size size (align_mask + 1)) }
         ensures chunk { IfOk result
-            (λ slot. self.new.space ≡ with_slot (with_chunk self.old.space (M.object memory) memory_size) slot) }
+            (λ slot. self.new.space ≡ with_slot (with_numbered_chunk self.old.space (M.object memory) memory_size) slot) }
         ensures added { IfOk result (AddsBlock self.old.space self.new.space) }
         ensures leaves { LeavesBlocks self.old.space self.new.space }
         ensures refused { IfErr result (λ back. (back ≡ memory) × (self.new ≡ self.old)) }
         ensures room { OnOk result (self.old.room ≤ self.new.room + 1) }
-        ensures sound { IsSoundSpace self.new.space }
+        ensures sound { IsSoundListSpace self.new.space }
     {
         self.keeps_sound();
         let handle = match memory.duplicate() {
@@ -144,7 +144,7 @@ impl<M: MemoryObject, A: Allocator> FreeList<M, A> {
 
     /// A lemma about every list: does nothing at run time.
     fn keeps_sound(&self)
-        ensures { IsSoundSpace self.now.space }
+        ensures { IsSoundListSpace self.now.space }
     {
         let _ = &self.runs;
     }
@@ -166,11 +166,11 @@ impl<M: MemoryObject, A: Allocator> FreeList<M, A> {
         requires alignment { IsAlignMask align_mask }
         requires number { HasNumber self.old.space }
         ensures block { result ≡ first_tail self.old.space (M.object memory) memory_size size (align_mask + 1) }
-        ensures chunk { self.new.space ≡ with_slot (with_chunk self.old.space (M.object memory) memory_size) result }
+        ensures chunk { self.new.space ≡ with_slot (with_numbered_chunk self.old.space (M.object memory) memory_size) result }
         ensures added { AddsBlock self.old.space self.new.space result }
         ensures leaves { LeavesBlocks self.old.space self.new.space }
         ensures room { self.old.room ≤ self.new.room + 1 }
-        ensures sound { IsSoundSpace self.new.space }
+        ensures sound { IsSoundListSpace self.new.space }
     {
         let number = self.latest + 1;
         self.latest = number;
@@ -215,7 +215,7 @@ impl<M: MemoryObject, A: Allocator> FreeList<M, A> {
         ensures none { IfOk result (λ block. IfNone block (self.new ≡ self.old)) }
         ensures room { OnOk result (self.old.room ≤ self.new.room + 1) }
         ensures stays { OnErr result (self.old.room ≤ self.new.room) }
-        ensures sound { IsSoundSpace self.new.space }
+        ensures sound { IsSoundListSpace self.new.space }
     {
         let Some(index) = self.runs.last_with_room(size, align_mask) else {
             return Ok(None);
@@ -278,7 +278,7 @@ impl<M: MemoryObject, A: Allocator> FreeList<M, A> {
         ensures back { self.new.space ≡ without_slot self.old.space block }
         ensures removed { RemovesBlock self.old.space block self.new.space }
         ensures room { self.old.room ≤ self.new.room }
-        ensures sound { IsSoundSpace self.new.space }
+        ensures sound { IsSoundListSpace self.new.space }
         ensures few { (runs : List Region)
             → ((r : Region) → Contains runs r ↔ IsFreeRun (IsFreeIn self.old.space) r.chunk r.start r.end)
             → AreRising runs → AreFewComparisons (length runs) steps.old steps.new }
@@ -312,7 +312,7 @@ impl<M: MemoryObject, A: Allocator> FreeList<M, A> {
         ensures rest { IfNone result (keep_last ≡ false → set.len (self.old.space).live ≡ 0
             → map.len (self.new.space).chunks ≡ 0) }
         ensures room { self.old.room ≤ self.new.room }
-        ensures sound { IsSoundSpace self.new.space }
+        ensures sound { IsSoundListSpace self.new.space }
     {
         if none_goes(self.runs.as_slice(), &self.chunks, self.whole, keep_last) {
             return None;

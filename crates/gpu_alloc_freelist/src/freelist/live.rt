@@ -27,9 +27,9 @@ impl<A: Allocator> Model for Live<A> {
     ghost coded = { live_blocks_code };
 
     ghost use Rattle.gpu_alloc_base.specs.SlabViews.{HasOneKeyEach};
-    ghost use Rattle.gpu_alloc_freelist.specs.Live.{live_in};
+    ghost use Rattle.gpu_alloc_freelist.specs.Live.{live_blocks_in};
 
-    ghost view = { λ l. live_in l.slots };
+    ghost view = { λ l. live_blocks_in l.slots };
 
     ghost invariant = { λ l. HasOneKeyEach (λ slot. slot) l.slots };
 }

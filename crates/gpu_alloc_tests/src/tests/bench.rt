@@ -245,14 +245,14 @@ impl<A: Allocator + Copy> Bench<A> {
     }
 
     /// Returns the block at this place of those that are kept. The latest takes its place.
-    pub(super) fn give_back_at(&mut self, rt: &impl Abort, at: usize) {
+    pub(super) fn dealloc_at(&mut self, rt: &impl Abort, at: usize) {
         below(rt, at, self.blocks.len(), "no such block");
         let block = self.blocks.swap_remove(at);
-        give_back(rt, &mut self.allocator, &mut self.device, block);
+        dealloc(rt, &mut self.allocator, &mut self.device, block);
     }
 
     /// Returns the block in an object that has no other.
-    pub(super) fn give_back(&mut self, rt: &impl Abort, object: u64) {
+    pub(super) fn dealloc(&mut self, rt: &impl Abort, object: u64) {
         let mut found = None;
         for (at, block) in self.blocks.iter().enumerate() {
             if block.memory().object() == object {
@@ -260,13 +260,13 @@ impl<A: Allocator + Copy> Bench<A> {
             }
         }
         same_at(rt, "a block is in", &object, &found.is_some(), &true);
-        self.give_back_at(rt, found.unwrap_or(0));
+        self.dealloc_at(rt, found.unwrap_or(0));
     }
 
     /// Returns all blocks.
     pub(super) fn give_all_back(&mut self, rt: &impl Abort) {
         for _ in 0..self.blocks.len() {
-            self.give_back_at(rt, 0);
+            self.dealloc_at(rt, 0);
         }
     }
 
@@ -424,7 +424,7 @@ fn allow<M: MemoryObject, D: MemoryDevice<M>, A: Allocator>(
 }
 
 /// Returns a block, which the allocator must own.
-pub(super) fn give_back<M: MemoryObject, D: MemoryDevice<M>, A: Allocator>(
+pub(super) fn dealloc<M: MemoryObject, D: MemoryDevice<M>, A: Allocator>(
     rt: &impl Abort,
     allocator: &mut GpuAllocator<M, A>,
     device: &mut D,

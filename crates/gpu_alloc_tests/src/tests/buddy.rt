@@ -2,7 +2,7 @@
 
 ghost use Rattle.std.specs.Prelude.{◌≡◌, ◌<◌, IfOk};
 ghost use Rattle.gpu_alloc.specs.Buddy.{Adds, Leaves, Removes};
-ghost use Rattle.gpu_alloc.specs.BuddyState.{IsLiveLeaf};
+ghost use Rattle.gpu_alloc.specs.BuddyState.{IsLiveBuddyLeaf};
 ghost use Rattle.gpu_alloc.specs.AlignMasks.{IsAlignMask};
 ghost use Rattle.gpu_alloc.specs.Steps.{Begins};
 ghost use Rattle.gpu_sim.specs.Question.{CanRefuse};
@@ -185,8 +185,8 @@ impl Chunks {
     }
 
     /// Returns a block, and counts nothing.
-    fn give_back_uncounted<L: Ledger>(&mut self, block: BuddyBlock<SimMemory>, blank: Blank)
-        requires live { IsLiveLeaf self.old block }
+    fn dealloc_uncounted<L: Ledger>(&mut self, block: BuddyBlock<SimMemory>, blank: Blank)
+        requires live { IsLiveBuddyLeaf self.old block }
         requires begins { Begins blank L.name L.parts }
         ensures removed { Removes self.old block self.new }
     {
@@ -200,11 +200,11 @@ impl Chunks {
     }
 
     /// Returns a block.
-    pub(super) fn give_back(&mut self, block: BuddyBlock<SimMemory>)
-        requires live { IsLiveLeaf self.old block }
+    pub(super) fn dealloc(&mut self, block: BuddyBlock<SimMemory>)
+        requires live { IsLiveBuddyLeaf self.old block }
         ensures removed { Removes self.old block self.new }
     {
-        self.give_back_uncounted::<Brand>(block, Blank::new(1));
+        self.dealloc_uncounted::<Brand>(block, Blank::new(1));
     }
 
     /// Compares how often the device was asked to allocate, how many objects it holds, and how much the ledger counts.
@@ -317,7 +317,7 @@ fn a_chunk_that_the_device_refuses_is_not_held(rt: HostRuntime) -> Result<(), Fa
 }
 
 #[test]
-fn a_chunk_that_cannot_be_mapped_is_given_back(rt: HostRuntime) -> Result<(), Fail> {
+fn a_chunk_that_cannot_be_mapped_is_let_go(rt: HostRuntime) -> Result<(), Fail> {
     compare_refusal(
         &rt,
         rt.alloc(),
@@ -357,9 +357,9 @@ fn free_pieces_are_told_in_order(rt: HostRuntime) -> Result<(), Fail> {
     let second = chunks.take(&rt, 200);
     let [a, b, c, d] = LARGE;
     chunks.compare_ranges(&rt, &[(1, 128, 256), a, b, c, d]);
-    chunks.give_back(second);
+    chunks.dealloc(second);
     chunks.compare_ranges(&rt, &[(1, 128, 256), (1, 256, 512), a, b, c, d]);
-    chunks.give_back(first);
+    chunks.dealloc(first);
     chunks.compare_ranges(&rt, &[]);
     chunks.end(&rt);
     Ok(())
@@ -373,9 +373,9 @@ fn two_blocks_share_a_chunk(rt: HostRuntime) -> Result<(), Fail> {
     same(&rt, "the first block", &place_of(&first), &(1, 0, 128));
     same(&rt, "the second block", &place_of(&second), &(1, 256, 256));
     chunks.compare(&rt, 1, 1, 8192);
-    chunks.give_back(second);
+    chunks.dealloc(second);
     chunks.compare(&rt, 1, 1, 8192);
-    chunks.give_back(first);
+    chunks.dealloc(first);
     chunks.compare(&rt, 1, 0, 0);
     chunks.end(&rt);
     Ok(())

@@ -201,7 +201,7 @@ fn import(rt: &impl Abort, bench: &mut Bench, size: u64) -> Result<(), Allocatio
 fn take_turn(rt: &impl Abort, bench: &mut Bench, account: &mut Account, order: usize, kind: Kind) {
     let at = (order, kind);
     if let Some(place) = account.place_of(kind) {
-        bench.give_back_at(rt, place);
+        bench.dealloc_at(rt, place);
         account.remove(rt, place);
     } else if account.grants(kind) {
         same_at(rt, "granted is", &at, &ask(rt, bench, kind), &Ok(()));

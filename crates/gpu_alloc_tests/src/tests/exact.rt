@@ -43,7 +43,7 @@ impl Model for Chunks {
     ghost use Rattle.gpu_alloc.specs.Accounts.{IsCounted, chunks_and_remaining};
     ghost use Rattle.gpu_alloc_fit.specs.Codes.{fitting_code};
     ghost use Rattle.gpu_alloc_fit.specs.Fit.{Agrees, Fitting};
-    ghost use Rattle.gpu_alloc_fit.specs.FitSound.{IsSound};
+    ghost use Rattle.gpu_alloc_fit.specs.FitSound.{IsSoundFitting};
     ghost use Rattle.gpu_sim.specs.Sim.{objects_of};
 
     ghost Value = { Fitting };
@@ -55,7 +55,7 @@ impl Model for Chunks {
     ghost invariant = { λ c. Agrees c.allocator (c.device).properties (objects_of c.device) ×
         (IsCounted ((c.allocator).space).chunks c.heap c.remaining ×
         ((chunks_and_remaining ((c.allocator).space).chunks c.remaining ≡ 3) ×
-        (IsSound c.allocator × ((c.allocator).final_chunk ≡ 32768)))) };
+        (IsSoundFitting c.allocator × ((c.allocator).final_chunk ≡ 32768)))) };
 }
 
 impl Chunks {
@@ -274,7 +274,7 @@ impl Hand {
     }
 
     /// Returns the block at this place of those that are kept.
-    fn give_back(&mut self, rt: &impl Abort, at: usize) {
+    fn dealloc(&mut self, rt: &impl Abort, at: usize) {
         assert!(rt; at < self.blocks.len());
         let block = self.blocks.remove(at);
         put_back::<Brand>(&mut self.chunks, block, Blank::new(1));
@@ -463,7 +463,7 @@ impl Lists {
 
     /// Returns the block at this place. Where its chunk is then wholly free and another one is too, its chunk is
     /// released.
-    fn take_back(&mut self, rt: &impl Abort, at: usize) -> Result<(), AllocError> {
+    fn put_back(&mut self, rt: &impl Abort, at: usize) -> Result<(), AllocError> {
         holds(rt, at < self.live.len(), "no such block");
         let block = self.live.remove(at);
         match sides_of(self.runs.as_slice(), block) {
@@ -530,7 +530,7 @@ fn take(
 }
 
 /// Returns a drawn one of the blocks in hand, if there is one.
-fn give_back(
+fn dealloc(
     rt: &impl Abort,
     hand: &mut Hand,
     lists: &mut Lists,
@@ -541,8 +541,8 @@ fn give_back(
         return Ok(());
     }
     let at = chance.next() as usize % len;
-    hand.give_back(rt, at);
-    lists.take_back(rt, at)
+    hand.dealloc(rt, at);
+    lists.put_back(rt, at)
 }
 
 /// Releases the wholly free chunk.
@@ -571,13 +571,13 @@ fn run(
     for _ in 0..CALLS {
         match chance.next() % 32 {
             0 => clean(hand, lists)?,
-            1..=13 => give_back(rt, hand, lists, chance)?,
+            1..=13 => dealloc(rt, hand, lists, chance)?,
             _ => take(rt, hand, lists, chance)?,
         }
         compare(rt, hand, lists);
     }
     for _ in 0..hand.blocks.len() {
-        give_back(rt, hand, lists, chance)?;
+        dealloc(rt, hand, lists, chance)?;
         compare(rt, hand, lists);
     }
     clean(hand, lists)?;

@@ -329,7 +329,7 @@ fn take(
 }
 
 /// Returns a drawn block, if one is live.
-fn give_back(
+fn dealloc(
     rt: &impl Abort,
     alloc: Global,
     session: &mut SimSession<Global>,
@@ -346,7 +346,7 @@ fn give_back(
     let command = Command::Free { name: block.name };
     let (told, replies) = call(rt, alloc, session, command)?;
     same(rt, "a return", &told, &Told::Done);
-    model.take_back(rt, at)?;
+    model.put_back(rt, at)?;
     compare(rt, model, replies.as_slice())
 }
 
@@ -375,7 +375,7 @@ fn run(
     for number in 0..COMMANDS {
         match chance.next() % 32 {
             0 => clean(rt, alloc, session, model)?,
-            1..=13 => give_back(rt, alloc, session, model, chance)?,
+            1..=13 => dealloc(rt, alloc, session, model, chance)?,
             _ => take(rt, alloc, session, model, chance, number)?,
         }
         if number % 16 == 15 {
@@ -383,7 +383,7 @@ fn run(
         }
     }
     for _ in 0..model.live.len() {
-        give_back(rt, alloc, session, model, chance)?;
+        dealloc(rt, alloc, session, model, chance)?;
     }
     clean(rt, alloc, session, model)
 }

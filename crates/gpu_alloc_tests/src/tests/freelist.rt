@@ -158,7 +158,7 @@ fn a_chunk_that_the_device_refuses_is_not_held(rt: HostRuntime) -> Result<(), Fa
 /// A chunk that was made and cannot be mapped is released. If not, its object would be held for ever and counted
 /// nowhere.
 #[test]
-fn a_chunk_that_cannot_be_mapped_is_given_back(rt: HostRuntime) -> Result<(), Fail> {
+fn a_chunk_that_cannot_be_mapped_is_let_go(rt: HostRuntime) -> Result<(), Fail> {
     compare_refusal(
         &rt,
         rt.alloc(),
@@ -196,7 +196,7 @@ impl Model for Chunks {
     ghost use Rattle.gpu_alloc.specs.Codes.{listing_code};
     ghost use Rattle.gpu_alloc.specs.Accounts.{IsCounted, chunks_and_remaining};
     ghost use Rattle.gpu_alloc.specs.FreeListAllocator.{Agrees};
-    ghost use Rattle.gpu_alloc.specs.FreeListSound.{IsSound};
+    ghost use Rattle.gpu_alloc.specs.FreeListSound.{IsSoundListing};
     ghost use Rattle.gpu_alloc.specs.FreeListState.{Listing};
     ghost use Rattle.gpu_sim.specs.Sim.{objects_of};
 
@@ -209,7 +209,7 @@ impl Model for Chunks {
     ghost invariant = { λ c. Agrees c.allocator (c.device).properties (objects_of c.device) ×
         (IsCounted ((c.allocator).space).chunks c.heap c.remaining ×
         ((chunks_and_remaining ((c.allocator).space).chunks c.remaining ≡ c.most) ×
-        (IsSound c.allocator × ((c.allocator).final_chunk ≡ 32768)))) };
+        (IsSoundListing c.allocator × ((c.allocator).final_chunk ≡ 32768)))) };
 }
 
 impl Chunks {
@@ -309,7 +309,7 @@ impl Chunks {
     }
 
     /// Returns a block.
-    pub(super) fn give_back(&mut self, block: FreeListBlock<SimMemory>)
+    pub(super) fn dealloc(&mut self, block: FreeListBlock<SimMemory>)
         requires live { IsLiveSlot (self.old).space block }
         ensures removed { Removes self.old block self.new }
     {
@@ -395,8 +395,8 @@ fn two_blocks_share_a_chunk(rt: HostRuntime) -> Result<(), Fail> {
         end: 7892,
     };
     chunks.compare_ranges(&rt, &[free]);
-    chunks.give_back(first);
-    chunks.give_back(second);
+    chunks.dealloc(first);
+    chunks.dealloc(second);
     chunks.compare(&rt, 1, 8192);
     chunks.clean();
     chunks.compare(&rt, 0, 0);

@@ -39,7 +39,7 @@ fn an_import_is_flushed_in_atoms_of_its_object(rt: HostRuntime) -> Result<(), Fa
     bench.import_and_write(&rt, part, &[1, 2, 3, 4]);
     compare_import(&rt, &bench);
     bench.allow(&rt, 7);
-    bench.give_back(&rt, 1);
+    bench.dealloc(&rt, 1);
     let held = Held {
         objects: 0,
         held: 0,
@@ -83,7 +83,7 @@ fn an_import_may_be_as_large_as_any_object(rt: HostRuntime) -> Result<(), Fail> 
         used: u128::from(u64::MAX),
     };
     same(&rt, "what is held", &bench.held(), &held);
-    bench.give_back(&rt, 1);
+    bench.dealloc(&rt, 1);
     bench.end(&rt, 4096);
     Ok(())
 }
@@ -189,7 +189,7 @@ fn compare_returns(rt: &impl Abort, alloc: Global, order: [u64; 5]) -> Result<()
     };
     same_at(rt, "what is held before", &order, &bench.held(), &held);
     for object in &order {
-        bench.give_back(rt, *object);
+        bench.dealloc(rt, *object);
         if *object != 4 {
             held = without(rt, held, *object);
         }

@@ -6,7 +6,7 @@ ghost use Rattle.gpu_alloc.specs.Owned.{Adds, IsSameBlock, Leaves};
 ghost use Rattle.gpu_sim.specs.Question.{CanRefuse};
 ghost use Rattle.gpu_sim.specs.Sim.{objects_of};
 
-use super::bench::{Bench, clean, close, give_back};
+use super::bench::{Bench, clean, close, dealloc};
 use super::same::{holds, never_with, same, same_at};
 use gpu_alloc::laws::kept_blocks_agree;
 use gpu_alloc::{
@@ -216,8 +216,8 @@ impl Pair {
             first,
             second,
         } = self;
-        give_back(rt, &mut allocator, &mut device, first);
-        give_back(rt, &mut allocator, &mut device, second);
+        dealloc(rt, &mut allocator, &mut device, first);
+        dealloc(rt, &mut allocator, &mut device, second);
         clean(&mut allocator, &mut device);
         same(rt, "objects at the end", &device.objects(), &0);
         drop(device);

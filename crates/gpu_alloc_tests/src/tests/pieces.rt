@@ -351,7 +351,7 @@ impl Lists {
     }
 
     /// Returns the block at this place. Its chunk is released where no other block in it is live.
-    fn take_back(&mut self, rt: &impl Abort, at: usize) -> Result<(), AllocError> {
+    fn put_back(&mut self, rt: &impl Abort, at: usize) -> Result<(), AllocError> {
         holds(rt, at < self.live.len(), "no such block");
         let block = self.live.remove(at);
         self.join(block)?;
@@ -465,10 +465,10 @@ impl Hand {
     }
 
     /// Returns the block at this place of those that are kept.
-    fn give_back(&mut self, rt: &impl Abort, at: usize) {
+    fn dealloc(&mut self, rt: &impl Abort, at: usize) {
         assert!(rt; at < self.blocks.len());
         let block = self.blocks.remove(at);
-        self.chunks.give_back(block);
+        self.chunks.dealloc(block);
     }
 
     /// Ends the allocator, which holds nothing.
@@ -497,7 +497,7 @@ fn take(
 }
 
 /// Returns a drawn one of the blocks in hand, if there is one.
-fn give_back(
+fn dealloc(
     rt: &impl Abort,
     hand: &mut Hand,
     lists: &mut Lists,
@@ -508,8 +508,8 @@ fn give_back(
         return Ok(());
     }
     let at = chance.next() as usize % len;
-    hand.give_back(rt, at);
-    lists.take_back(rt, at)
+    hand.dealloc(rt, at);
+    lists.put_back(rt, at)
 }
 
 /// Compares what is held and what is free.
@@ -533,12 +533,12 @@ fn run(
         if chance.next() % 16 < 9 {
             take(rt, hand, lists, chance)?;
         } else {
-            give_back(rt, hand, lists, chance)?;
+            dealloc(rt, hand, lists, chance)?;
         }
         compare(rt, alloc, hand, lists)?;
     }
     for _ in 0..hand.blocks.len() {
-        give_back(rt, hand, lists, chance)?;
+        dealloc(rt, hand, lists, chance)?;
         compare(rt, alloc, hand, lists)?;
     }
     Ok(())

@@ -95,7 +95,7 @@ fn take_step<A: Allocator + Copy>(rt: &impl Abort, bench: &mut Bench<A>, at: usi
         same_at(rt, "what is taken at step", &at, &taken, &Ok(()));
     }
     match step {
-        Step::Return(place) => bench.give_back_at(rt, place),
+        Step::Return(place) => bench.dealloc_at(rt, place),
         Step::Free(memory_type, wanted) => compare_free(rt, at, bench, memory_type, wanted),
         _ => {}
     }

@@ -341,7 +341,7 @@ impl Lists {
     }
 
     /// Returns the block at this place. Then each wholly free chunk is released, except that of the last run.
-    fn take_back(&mut self, rt: &impl Abort, at: usize) -> Result<(), AllocError> {
+    fn put_back(&mut self, rt: &impl Abort, at: usize) -> Result<(), AllocError> {
         holds(rt, at < self.live.len(), "no such block");
         let block = self.live.remove(at);
         self.count_sides(block);
@@ -531,10 +531,10 @@ impl Hand {
     }
 
     /// Returns the block at this place of those that are kept, under this key if there is one.
-    fn give_back(&mut self, rt: &impl Abort, at: usize, key: Option<usize>) {
+    fn dealloc(&mut self, rt: &impl Abort, at: usize, key: Option<usize>) {
         assert!(rt; at < self.blocks.len());
         let block = self.blocks.remove(at);
-        give_back_under(&mut self.chunks, block, key);
+        dealloc_under(&mut self.chunks, block, key);
     }
 
     /// The key of the block at this place, if there is one.
@@ -560,11 +560,11 @@ fn under(block: FreeListBlock<SimMemory>, key: Option<usize>) -> FreeListBlock<S
 }
 
 /// Returns a block under this key, if there is one.
-fn give_back_under(chunks: &mut Chunks, block: FreeListBlock<SimMemory>, key: Option<usize>)
+fn dealloc_under(chunks: &mut Chunks, block: FreeListBlock<SimMemory>, key: Option<usize>)
     requires live { IsLiveSlot (chunks.old).space block }
     ensures removed { Removes chunks.old block chunks.new }
 {
-    chunks.give_back(under(block, key));
+    chunks.dealloc(under(block, key));
 }
 
 /// Allocates a block of drawn size and alignment, and compares where it lies or why it is refused.
@@ -612,7 +612,7 @@ fn draw_key(hand: &Hand, chance: &mut Chance, keys: Keys) -> Option<usize> {
 }
 
 /// Returns a drawn one of the blocks in hand, if there is one.
-fn give_back(
+fn dealloc(
     rt: &impl Abort,
     hand: &mut Hand,
     lists: &mut Lists,
@@ -625,8 +625,8 @@ fn give_back(
     }
     let at = chance.next() as usize % len;
     let key = draw_key(hand, chance, keys);
-    hand.give_back(rt, at, key);
-    lists.take_back(rt, at)
+    hand.dealloc(rt, at, key);
+    lists.put_back(rt, at)
 }
 
 /// Releases each wholly free chunk.
@@ -652,7 +652,7 @@ fn call(
 ) -> Result<(), AllocError> {
     match chance.next() % 32 {
         0 => clean(hand, lists)?,
-        1..=13 => give_back(rt, hand, lists, chance, keys)?,
+        1..=13 => dealloc(rt, hand, lists, chance, keys)?,
         _ => take(rt, hand, lists, chance)?,
     }
     compare(rt, hand, lists);
@@ -671,7 +671,7 @@ fn run(
         call(rt, hand, lists, chance, keys)?;
     }
     for _ in 0..hand.blocks.len() {
-        give_back(rt, hand, lists, chance, keys)?;
+        dealloc(rt, hand, lists, chance, keys)?;
         compare(rt, hand, lists);
     }
     clean(hand, lists)?;

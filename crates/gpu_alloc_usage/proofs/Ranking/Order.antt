@@ -9,7 +9,7 @@ use Rattle.std.specs.List.{Contains, range_with_len}
 use Rattle.gpu_alloc_types.specs.Flags.{has_bit}
 use Rattle.gpu_alloc_types.specs.declared.types.MemoryType.{MemoryType}
 use Rattle.gpu_alloc_usage.specs.KeyByKey.{has_key, of_key, below_key}
-use Rattle.gpu_alloc_usage.specs.Ranking.{compatible, key, where_differ, by_host, is_fast, ranking, serving, props_of, key_of, Serves, IsRising, IsRanking}
+use Rattle.gpu_alloc_usage.specs.Ranking.{compatible, key, where_differ, by_host, is_fast, ranking, serving, props_of, key_of, ServesUsage, IsRising, IsRanking}
 use Rattle.gpu_alloc_usage.proofs.Ranking.Rising.{one-at, none-at, IsRising-append, IsRising-one, IsRising-filter, filter-kept, filter-has, in_order-found, in_order-has, in_order-rising, same_from_rising}
 
 -- the type with index j may serve, and has this key
@@ -137,13 +137,13 @@ key-small u p =
 
 -- Key by key.
 
-below_key-there : (u i : ℕ) (ts : List MemoryType) → Contains (below_key u ts 16) i → Serves u ts i
+below_key-there : (u i : ℕ) (ts : List MemoryType) → Contains (below_key u ts 16) i → ServesUsage u ts i
 below_key-there u i ts c =
     let w = below_key-found u 16 i ts c in
     let f = of_key-at u w.0 i ts w.2 in
     (f.0, f.1)
 
-below_key-back : (u i : ℕ) (ts : List MemoryType) → Serves u ts i → Contains (below_key u ts 16) i
+below_key-back : (u i : ℕ) (ts : List MemoryType) → ServesUsage u ts i → Contains (below_key u ts 16) i
 below_key-back u i ts s =
     let k = key u (props_of ts i) in
     let c = of_key-has u k 0 i ts s.0 (both-back (compatible u (props_of ts i)) k s.1) in
@@ -171,14 +171,14 @@ range-rising n a b less inside =
     let b_in : b < n = rw (length-range_with_len 0 n) at inside in
     inr (refl, rw (get_or-range_with_len 0 n a 0 (omega arith), get_or-range_with_len 0 n b 0 b_in) (omega arith))
 
-serving-there : (u i : ℕ) (ts : List MemoryType) → Contains (ranking u ts) i → Serves u ts i
+serving-there : (u i : ℕ) (ts : List MemoryType) → Contains (ranking u ts) i → ServesUsage u ts i
 serving-there u i ts c =
     let serves = in_order-found (key_of u ts) (serving u ts) i c in
     let test : ℕ → Bool = λ t. compatible u (props_of ts t) in
     let all = range_with_len 0 (length ts) in
     (range-found (length ts) i (filter-kept test all i serves), All-contains (λ t. test t ≡ true) (serving u ts) i (filter_passes test all) serves)
 
-serving-back : (u i : ℕ) (ts : List MemoryType) → Serves u ts i → Contains (ranking u ts) i
+serving-back : (u i : ℕ) (ts : List MemoryType) → ServesUsage u ts i → Contains (ranking u ts) i
 serving-back u i ts s =
     in_order-has (key_of u ts) (serving u ts) i (filter-has (λ t. compatible u (props_of ts t)) (range_with_len 0 (length ts)) i s.1 (range-has (length ts) i s.0))
 

@@ -8,7 +8,7 @@ ghost use Rattle.gpu_alloc.specs.Owned.{AreOwned};
 ghost use Rattle.gpu_alloc.specs.Request.{IsAskable};
 ghost use Rattle.gpu_alloc.specs.Served.{Serves, ServesFirst};
 ghost use Rattle.gpu_alloc.specs.State.{Block};
-ghost use Rattle.gpu_clients.specs.Frames.{beside, Leaves};
+ghost use Rattle.gpu_clients.specs.Frames.{beside, LeavesQueued};
 
 use crate::closing::close;
 use gpu_alloc::laws::{agrees_at_first, bytes_stay};
@@ -99,7 +99,7 @@ impl<M: MemoryObject, D: ObjectDevice<M>, A: Allocator + Copy> Queue<M, D, A> {
         ensures owned { AreOwned self.now.allocator self.now.blocks }
         ensures ready { AreReady (D.properties self.now.device) (D.objects self.now.device) self.now.blocks }
         ensures live { set.len self.now.allocator.live ≡ length self.now.blocks }
-        ensures leaves { Leaves D.objects self.now self.now self.now.blocks }
+        ensures leaves { LeavesQueued D.objects self.now self.now self.now.blocks }
     {
         bytes_stay();
         let _ = &self.device;
@@ -112,7 +112,7 @@ impl<M: MemoryObject, D: ObjectDevice<M>, A: Allocator + Copy> Queue<M, D, A> {
         ensures taken { OnOk result ((block : Block) × (self.new.blocks ≡ self.old.blocks ++ block ∷ [])
             × Serves request block) }
         ensures refused { OnErr result (self.new.blocks ≡ self.old.blocks) }
-        ensures leaves { Leaves D.objects self.old self.new self.old.blocks }
+        ensures leaves { LeavesQueued D.objects self.old self.new self.old.blocks }
     {
         self.keeps_blocks();
         if self.blocks.reserve(1).is_err() {
@@ -134,13 +134,13 @@ impl<M: MemoryObject, D: ObjectDevice<M>, A: Allocator + Copy> Queue<M, D, A> {
         ensures granted { OnOk result (ServesFirst requests.now (length requests.now) self.old.blocks self.new.blocks) }
         ensures grown { OnOk result (length self.new.blocks ≡ length self.old.blocks + length requests.now) }
         ensures refused { OnErr result (self.new.blocks ≡ self.old.blocks) }
-        ensures leaves { Leaves D.objects self.old self.new self.old.blocks }
+        ensures leaves { LeavesQueued D.objects self.old self.new self.old.blocks }
     {
         self.keeps_blocks();
         let count = self.len();
         for request in requests {
             if let Err(refusal) = self.take(*request) {
-                self.give_back_after(count);
+                self.dealloc_after(count);
                 return Err(refusal);
             }
         }
@@ -148,22 +148,22 @@ impl<M: MemoryObject, D: ObjectDevice<M>, A: Allocator + Copy> Queue<M, D, A> {
     }
 
     /// Keeps the first `count` blocks and returns the rest.
-    fn give_back_after(&mut self, count: usize)
+    fn dealloc_after(&mut self, count: usize)
         ensures blocks { self.new.blocks ≡ take count self.old.blocks }
-        ensures leaves { Leaves D.objects self.old self.new self.new.blocks }
+        ensures leaves { LeavesQueued D.objects self.old self.new self.new.blocks }
     {
         self.keeps_blocks();
         while self.len() > count {
-            self.give_back_last();
+            self.dealloc_last();
         }
     }
 
     /// Returns the last block.
     #[tactic(auto, using(gpu_alloc_block::proofs::Lists::last_owned))]
-    fn give_back_last(&mut self)
+    fn dealloc_last(&mut self)
         requires { 0 < length self.old.blocks }
         ensures blocks { (last : Block) × (self.old.blocks ≡ self.new.blocks ++ last ∷ []) }
-        ensures leaves { Leaves D.objects self.old self.new self.new.blocks }
+        ensures leaves { LeavesQueued D.objects self.old self.new self.new.blocks }
     {
         match self.blocks.pop_back() {
             Some(block) => {
@@ -175,20 +175,20 @@ impl<M: MemoryObject, D: ObjectDevice<M>, A: Allocator + Copy> Queue<M, D, A> {
     }
 
     /// Returns the first `count` blocks.
-    pub(super) fn give_back_first(&mut self, count: usize)
+    pub(super) fn dealloc_first(&mut self, count: usize)
         ensures blocks { self.new.blocks ≡ drop count self.old.blocks }
-        ensures leaves { Leaves D.objects self.old self.new self.new.blocks }
+        ensures leaves { LeavesQueued D.objects self.old self.new self.new.blocks }
     {
         self.keeps_blocks();
         for _ in 0..count {
-            self.give_back_one();
+            self.dealloc_one();
         }
     }
 
     /// Returns the first block, if there is one.
-    fn give_back_one(&mut self)
+    fn dealloc_one(&mut self)
         ensures blocks { self.new.blocks ≡ drop 1 self.old.blocks }
-        ensures leaves { Leaves D.objects self.old self.new self.new.blocks }
+        ensures leaves { LeavesQueued D.objects self.old self.new self.new.blocks }
     {
         match self.blocks.pop_front() {
             Some(block) => {
@@ -203,7 +203,7 @@ impl<M: MemoryObject, D: ObjectDevice<M>, A: Allocator + Copy> Queue<M, D, A> {
     pub(super) fn end(mut self) -> D
         ensures { (name : ℕ) → D.objects result name ≡ beside D.objects self name }
     {
-        self.give_back_after(0);
+        self.dealloc_after(0);
         let Queue {
             allocator,
             device,

@@ -7,7 +7,7 @@ ghost use Rattle.std.specs.FinMap as map;
 ghost use Rattle.gpu_session.specs.Does.{IsEachFreeRange};
 ghost use Rattle.gpu_answers.specs.Held.{KeepsNames};
 ghost use Rattle.gpu_desk.specs.Calls.{CountsOf, HeapCountsOf, LimitsHeap, OnlyReads, lacks_address};
-ghost use Rattle.gpu_desk.specs.Names.{IsSpent};
+ghost use Rattle.gpu_desk.specs.Names.{IsSpentName};
 
 use super::Desk;
 use crate::{Counts, Denial, Fault, FreeRange, HeapCounts, UsageFlags};
@@ -20,7 +20,7 @@ impl Desk {
     pub fn next_gone(&mut self) -> Option<u64>
         ensures read { IfSome result (λ name. self.old.device.held.gone ≡ self.new.device.held.gone ++ name ∷ []) }
         ensures none { result ≡ None → (self.old.device.held.gone ≡ []) × (self.new.device.held.gone ≡ []) }
-        ensures spent { IfSome result (IsSpent self.new) }
+        ensures spent { IfSome result (IsSpentName self.new) }
         ensures kept { OnlyReads self.old self.new }
         ensures names { KeepsNames (self.old.device).held (self.new.device).held }
     {

@@ -11,7 +11,7 @@ ghost use Rattle.gpu_alloc.specs.Request.{IsAskable, IsGranularity};
 ghost use Rattle.gpu_alloc.specs.Sound as allocator_sound;
 ghost use Rattle.gpu_answers.specs.Device.{IsStep, objects_of};
 ghost use Rattle.gpu_desk.specs.Calls.{AllocationDenied, Allocated, CleansUp, HasKey, ImportDenied, Imported};
-ghost use Rattle.gpu_desk.specs.Calls.{IsAsBefore, IsUnknown, Keeps, Returns, Tells, TellsTag};
+ghost use Rattle.gpu_desk.specs.Calls.{IsAsBefore, IsUnknown, KeepsDesk, Returns, Tells, TellsTag};
 ghost use Rattle.gpu_desk.specs.Tags.{tag_at};
 ghost use Rattle.gpu_desk.specs.Wishes.{MayCome, asks_own, goes_by_pages, is_own, plan_for};
 
@@ -200,7 +200,7 @@ impl Desk {
         ensures own { (size memory_type flags : ℕ) → result ≡ Err (Denial.Open (Question.Allocate size memory_type flags) true)
             → size ≡ request.size }
         ensures unchanged { OnErr result (IsAsBefore self.old self.new) }
-        ensures keeps { Keeps self.old self.new }
+        ensures keeps { KeepsDesk self.old self.new }
     {
         if let Some(fault) = request_fault(request, self.offer.buffer_device_address) {
             return Err(Denial::Fault(fault));
@@ -256,7 +256,7 @@ impl Desk {
         ensures granted { IfOk result (Imported self.old memory_type object_size offset size self.new) }
         ensures denied { IfErr result (ImportDenied self.old memory_type object_size offset size) }
         ensures unchanged { OnErr result (IsAsBefore self.old self.new) }
-        ensures keeps { Keeps self.old self.new }
+        ensures keeps { KeepsDesk self.old self.new }
     {
         let fault = import_fault(
             &self.allocator,
@@ -319,7 +319,7 @@ impl Desk {
         ensures freed { OnOk result (Returns self.old key self.new) }
         ensures denied { IfErr result (IsUnknown self.old key) }
         ensures unchanged { OnErr result (self.new ≡ self.old) }
-        ensures keeps { Keeps self.old self.new }
+        ensures keeps { KeepsDesk self.old self.new }
     {
         match self.blocks.remove(key) {
             Some(block) => {
@@ -335,7 +335,7 @@ impl Desk {
     /// fail.
     pub fn cleanup(&mut self)
         ensures cleaned { CleansUp self.old self.new }
-        ensures keeps { Keeps self.old self.new }
+        ensures keeps { KeepsDesk self.old self.new }
     {
         self.allocator.cleanup(&mut self.device);
     }

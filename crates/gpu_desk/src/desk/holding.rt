@@ -9,7 +9,7 @@ ghost use Rattle.gpu_alloc.specs.Owned.{Adds, Leaves};
 ghost use Rattle.gpu_alloc.specs.Request.{IsAskable, IsGranularity};
 ghost use Rattle.gpu_alloc.specs.Sound as allocator_sound;
 ghost use Rattle.gpu_answers.specs.Device.{objects_of};
-ghost use Rattle.gpu_desk.specs.Calls.{AllocatedHeld, HeldDenied, IsAsBefore, Keeps};
+ghost use Rattle.gpu_desk.specs.Calls.{AllocatedHeld, HeldDenied, IsAsBefore, KeepsDesk};
 ghost use Rattle.gpu_desk.specs.Wishes.{pages_of, plan_for};
 
 use super::Desk;
@@ -87,7 +87,7 @@ impl Desk {
         ensures denied { IfErr result (HeldDenied self.old request wish) }
         ensures unasked { self.new.device ≡ self.old.device }
         ensures unchanged { OnErr result (IsAsBefore self.old self.new) }
-        ensures keeps { Keeps self.old self.new }
+        ensures keeps { KeepsDesk self.old self.new }
     {
         if let Some(fault) = request_fault(request, self.offer.buffer_device_address) {
             return Err(Denial::Fault(fault));

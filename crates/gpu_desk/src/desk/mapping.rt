@@ -1,7 +1,7 @@
 //! Calls that map blocks, and that report where they lie.
 
 ghost use Rattle.std.specs.Prelude.{◌≡◌, false, Bool, length, Err, IfOk, IfErr, OnErr};
-ghost use Rattle.gpu_desk.specs.Calls.{IsAsBefore, IsUnknown, Keeps, MapDenied, Maps, RangeDenied, RangeTold, Told};
+ghost use Rattle.gpu_desk.specs.Calls.{IsAsBefore, IsUnknown, KeepsDesk, MapDenied, Maps, RangeDenied, RangeTold, Told};
 ghost use Rattle.gpu_desk.specs.Calls.{Unmaps, object_to_unmap};
 
 use super::Desk;
@@ -65,7 +65,7 @@ impl Desk {
         ensures asks { (question : Question) (own : Bool) → result ≡ Err (Denial.Open question own)
             → length answers.now ≡ 0 }
         ensures unchanged { OnErr result (IsAsBefore self.old self.new) }
-        ensures keeps { Keeps self.old self.new }
+        ensures keeps { KeepsDesk self.old self.new }
     {
         let Some(block) = self.blocks.get(key) else {
             return Err(Denial::Fault(Fault::UnknownName));
@@ -102,7 +102,7 @@ impl Desk {
         ensures unmapped { IfOk result (Unmaps self.old key self.new) }
         ensures denied { IfErr result (IsUnknown self.old key) }
         ensures unchanged { OnErr result (self.new ≡ self.old) }
-        ensures keeps { Keeps self.old self.new }
+        ensures keeps { KeepsDesk self.old self.new }
     {
         let Some(block) = self.blocks.get_mut(key) else {
             return Err(Denial::Fault(Fault::UnknownName));

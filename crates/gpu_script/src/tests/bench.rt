@@ -284,10 +284,10 @@ impl<A: Allocator + Copy> Bench<A> {
     }
 
     /// Returns the block at this place in the list, which the latest one takes.
-    fn give_back_at(&mut self, rt: &impl Abort, at: usize) {
+    fn dealloc_at(&mut self, rt: &impl Abort, at: usize) {
         below(rt, at, self.blocks.len(), "no such block");
         let block = self.blocks.swap_remove(at);
-        give_back(rt, &mut self.allocator, &mut self.device, block);
+        dealloc(rt, &mut self.allocator, &mut self.device, block);
     }
 
     pub(super) fn counts(&self) -> Counts {
@@ -308,7 +308,7 @@ impl<A: Allocator + Copy> Bench<A> {
     pub(super) fn give_all_back(&mut self, rt: &impl Abort) {
         for _ in 0..self.blocks.len() {
             let latest = self.blocks.len().saturating_sub(1);
-            self.give_back_at(rt, latest);
+            self.dealloc_at(rt, latest);
         }
     }
 
@@ -366,7 +366,7 @@ impl Bench {
     }
 
     /// Returns the block that starts there.
-    pub(super) fn give_back(&mut self, rt: &impl Abort, object: u64, offset: u64) {
+    pub(super) fn dealloc(&mut self, rt: &impl Abort, object: u64, offset: u64) {
         let mut found = None;
         for (at, block) in self.blocks.iter().enumerate() {
             if block.memory().object() == object && block.offset() == offset {
@@ -380,7 +380,7 @@ impl Bench {
             &found.is_some(),
             &true,
         );
-        self.give_back_at(rt, found.unwrap_or(0));
+        self.dealloc_at(rt, found.unwrap_or(0));
     }
 
     /// Whether its allocator says that the latest block of another is live.
@@ -485,7 +485,7 @@ fn keep<M: MemoryObject, A: Allocator>(
 }
 
 /// Returns a block, which the allocator must own.
-fn give_back<M: MemoryObject, D: MemoryDevice<M>, A: Allocator>(
+fn dealloc<M: MemoryObject, D: MemoryDevice<M>, A: Allocator>(
     rt: &impl Abort,
     allocator: &mut GpuAllocator<M, A>,
     device: &mut D,
@@ -615,7 +615,7 @@ pub(super) fn take_step(rt: &impl Abort, bench: &mut Bench, at: usize, step: Ste
             compare_grant(rt, bench, at, ask, place_at(memory_type, spot));
         }
         Step::Refuse(ask, error, asked) => compare_refusal(rt, bench, at, ask, error, asked),
-        Step::Return(object, offset) => bench.give_back(rt, object, offset),
+        Step::Return(object, offset) => bench.dealloc(rt, object, offset),
         Step::Cleanup => bench.cleanup(),
         Step::Asked(size, memory_type, flags) => {
             compare_asked(rt, bench, at, size, memory_type, flags);

@@ -59,7 +59,7 @@ const CLEANED: [Step; 7] = [
 
 /// The chunk in which nothing is live stays as long as the last run lies in it, and a cleanup releases it.
 #[test]
-fn a_cleanup_gives_back_what_returns_keep(rt: HostRuntime) -> Result<(), Fail> {
+fn a_cleanup_lets_go_what_returns_keep(rt: HostRuntime) -> Result<(), Fail> {
     play_on(&rt, rt.alloc(), one_type(), &CLEANED)
 }
 

@@ -5,7 +5,7 @@ ghost use Rattle.std.specs.FinMap as map;
 ghost use Rattle.std.specs.Ordering.{nat_cmp};
 ghost use Rattle.indexmap.specs.IndexMap.{get, spare};
 ghost use Rattle.gpu_session.specs.Run.{Step};
-ghost use Rattle.gpu_session.specs.Sound.{Keeps};
+ghost use Rattle.gpu_session.specs.Sound.{StepKeeps};
 
 use super::{Blocks, Session};
 use crate::faults::{import_fault, request_fault};
@@ -44,7 +44,7 @@ impl<M: MemoryObject, D: MemoryDevice<M>, A: Allocator + Copy> Session<M, D, A> 
     /// Answers `Alloc`. Room for the block's entry is made before the device is asked.
     pub(super) fn alloc(&mut self, name: u32, request: Request) -> Reply<A>
         ensures step { Step D.step self.old (Command.Alloc name request) result self.new }
-        ensures keeps { Keeps D.objects self.old (Command.Alloc name request) result self.new }
+        ensures keeps { StepKeeps D.objects self.old (Command.Alloc name request) result self.new }
     {
         if self.blocks.contains_key(&name) {
             return Reply::Fault(Fault::NameInUse);
@@ -69,7 +69,7 @@ impl<M: MemoryObject, D: MemoryDevice<M>, A: Allocator + Copy> Session<M, D, A> 
         dedicated: Dedicated,
     ) -> Reply<A>
         ensures step { Step D.step self.old (Command.Dedicated name request dedicated) result self.new }
-        ensures keeps { Keeps D.objects self.old (Command.Dedicated name request dedicated) result self.new }
+        ensures keeps { StepKeeps D.objects self.old (Command.Dedicated name request dedicated) result self.new }
     {
         if self.blocks.contains_key(&name) {
             return Reply::Fault(Fault::NameInUse);
@@ -100,7 +100,7 @@ impl<M: MemoryObject, D: MemoryDevice<M>, A: Allocator + Copy> Session<M, D, A> 
         size: u64,
     ) -> Reply<A>
         ensures step { Step D.step self.old (Command.Import name memory_type object_size offset size) result self.new }
-        ensures keeps { Keeps D.objects self.old (Command.Import name memory_type object_size offset size) result
+        ensures keeps { StepKeeps D.objects self.old (Command.Import name memory_type object_size offset size) result
             self.new }
     {
         if self.blocks.contains_key(&name) {
@@ -144,7 +144,7 @@ impl<M: MemoryObject, D: MemoryDevice<M>, A: Allocator + Copy> Session<M, D, A> 
     /// Answers `Free`.
     pub(super) fn free(&mut self, name: u32) -> Reply<A>
         ensures step { Step D.step self.old (Command.Free name) result self.new }
-        ensures keeps { Keeps D.objects self.old (Command.Free name) result self.new }
+        ensures keeps { StepKeeps D.objects self.old (Command.Free name) result self.new }
     {
         match self.blocks.swap_remove(&name) {
             Some(block) => {
@@ -158,7 +158,7 @@ impl<M: MemoryObject, D: MemoryDevice<M>, A: Allocator + Copy> Session<M, D, A> 
     /// Answers `Cleanup`.
     pub(super) fn cleanup(&mut self) -> Reply<A>
         ensures step { Step D.step self.old Command.Cleanup result self.new }
-        ensures keeps { Keeps D.objects self.old Command.Cleanup result self.new }
+        ensures keeps { StepKeeps D.objects self.old Command.Cleanup result self.new }
     {
         self.allocator.cleanup(&mut self.device);
         Reply::Done

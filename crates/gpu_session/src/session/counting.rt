@@ -3,7 +3,7 @@
 ghost use Rattle.std.specs.Prelude.{◌≡◌, IfOk};
 ghost use Rattle.gpu_session.specs.Does.{IsEachLedger};
 ghost use Rattle.gpu_session.specs.Run.{Step};
-ghost use Rattle.gpu_session.specs.Sound.{Keeps};
+ghost use Rattle.gpu_session.specs.Sound.{StepKeeps};
 
 use super::Session;
 use crate::{Command, Fault, Ledgers, Ranges, Reply};
@@ -14,7 +14,7 @@ impl<M: MemoryObject, D: MemoryDevice<M>, A: Allocator + Copy> Session<M, D, A> 
     /// Answers `SetRemaining`.
     pub(super) fn set_remaining(&mut self, remaining: u32) -> Reply<A>
         ensures step { Step D.step self.old (Command.SetRemaining remaining) result self.new }
-        ensures keeps { Keeps D.objects self.old (Command.SetRemaining remaining) result self.new }
+        ensures keeps { StepKeeps D.objects self.old (Command.SetRemaining remaining) result self.new }
     {
         if remaining > u32::MAX - self.allocator.held_objects() {
             return Reply::Fault(Fault::TooManyRemaining);
@@ -26,7 +26,7 @@ impl<M: MemoryObject, D: MemoryDevice<M>, A: Allocator + Copy> Session<M, D, A> 
     /// Answers `FreeRanges`.
     pub(super) fn free_ranges(&mut self, memory_type: u32) -> Reply<A>
         ensures step { Step D.step self.old (Command.FreeRanges memory_type) result self.new }
-        ensures keeps { Keeps D.objects self.old (Command.FreeRanges memory_type) result self.new }
+        ensures keeps { StepKeeps D.objects self.old (Command.FreeRanges memory_type) result self.new }
     {
         if !self.offer.has_type(memory_type) {
             return Reply::Fault(Fault::BadType);
@@ -40,7 +40,7 @@ impl<M: MemoryObject, D: MemoryDevice<M>, A: Allocator + Copy> Session<M, D, A> 
     /// Answers `Counts`. Places for the ledgers are taken first.
     pub(super) fn counts(&mut self) -> Reply<A>
         ensures step { Step D.step self.old Command.Counts result self.new }
-        ensures keeps { Keeps D.objects self.old Command.Counts result self.new }
+        ensures keeps { StepKeeps D.objects self.old Command.Counts result self.new }
     {
         match self.ledgers() {
             Ok(used) => Reply::Counts {

@@ -2,7 +2,7 @@
 
 ghost use Rattle.std.specs.Prelude.{◌≡◌, ◌↔◌, Contains, IfOk};
 ghost use Rattle.gpu_session.specs.Listing.{IsNamed};
-ghost use Rattle.gpu_session.specs.Sound.{IsSound};
+ghost use Rattle.gpu_session.specs.Sound.{IsSoundSession};
 ghost use Rattle.gpu_session.specs.declared.session.listing.NamedSpan.{NamedSpan as Row};
 
 use super::Session;
@@ -39,7 +39,7 @@ impl<M: MemoryObject, D: MemoryDevice<M>, A: Allocator + Copy> Session<M, D, A> 
     /// The list takes its memory from `alloc`, and the only error is want of it. Nothing changes.
     pub fn named_spans<B: Allocator>(&self, alloc: B) -> Result<Vec<NamedSpan, B>, AllocError>
         ensures exact { IfOk result (λ rows. (row : Row) → Contains rows.items row ↔ IsNamed self.now.books row) }
-        ensures sound { IsSound (D.properties self.now.device) (D.objects self.now.device) self.now.books }
+        ensures sound { IsSoundSession (D.properties self.now.device) (D.objects self.now.device) self.now.books }
     {
         self.keeps_sound();
         let mut rows = Vec::new(alloc);

@@ -2,7 +2,7 @@
 
 ghost use Rattle.std.specs.Prelude.{◌≡◌, IfOk, length};
 ghost use Rattle.gpu_session.specs.Run.{Step};
-ghost use Rattle.gpu_session.specs.Sound.{Keeps};
+ghost use Rattle.gpu_session.specs.Sound.{StepKeeps};
 
 use super::Session;
 use crate::faults::passes_end;
@@ -17,7 +17,7 @@ impl<M: MemoryObject, D: MemoryDevice<M>, A: Allocator + Copy> Session<M, D, A> 
     /// Answers `Map`.
     pub(super) fn map(&mut self, name: u32, offset: u64, size: u64) -> Reply<A>
         ensures step { Step D.step self.old (Command.Map name offset size) result self.new }
-        ensures keeps { Keeps D.objects self.old (Command.Map name offset size) result self.new }
+        ensures keeps { StepKeeps D.objects self.old (Command.Map name offset size) result self.new }
     {
         let Some(block) = self.blocks.get_mut(&name) else {
             return Reply::Fault(Fault::UnknownName);
@@ -37,7 +37,7 @@ impl<M: MemoryObject, D: MemoryDevice<M>, A: Allocator + Copy> Session<M, D, A> 
     /// Answers `Unmap`.
     pub(super) fn unmap(&mut self, name: u32) -> Reply<A>
         ensures step { Step D.step self.old (Command.Unmap name) result self.new }
-        ensures keeps { Keeps D.objects self.old (Command.Unmap name) result self.new }
+        ensures keeps { StepKeeps D.objects self.old (Command.Unmap name) result self.new }
     {
         let Some(block) = self.blocks.get_mut(&name) else {
             return Reply::Fault(Fault::UnknownName);
@@ -49,7 +49,7 @@ impl<M: MemoryObject, D: MemoryDevice<M>, A: Allocator + Copy> Session<M, D, A> 
     /// Answers `Write`.
     pub(super) fn write(&mut self, name: u32, offset: u64, bytes: &Bytes<A>) -> Reply<A>
         ensures step { Step D.step self.old (Command.Write name offset bytes.now) result self.new }
-        ensures keeps { Keeps D.objects self.old (Command.Write name offset bytes.now) result self.new }
+        ensures keeps { StepKeeps D.objects self.old (Command.Write name offset bytes.now) result self.new }
     {
         let bytes = bytes.as_slice();
         let Some(block) = self.blocks.get_mut(&name) else {
@@ -68,7 +68,7 @@ impl<M: MemoryObject, D: MemoryDevice<M>, A: Allocator + Copy> Session<M, D, A> 
     /// Answers `Read`. Room for the bytes is made before the device is asked.
     pub(super) fn read(&mut self, name: u32, offset: u64, len: u64) -> Reply<A>
         ensures step { Step D.step self.old (Command.Read name offset len) result self.new }
-        ensures keeps { Keeps D.objects self.old (Command.Read name offset len) result self.new }
+        ensures keeps { StepKeeps D.objects self.old (Command.Read name offset len) result self.new }
     {
         let Some(block) = self.blocks.get_mut(&name) else {
             return Reply::Fault(Fault::UnknownName);
@@ -88,7 +88,7 @@ impl<M: MemoryObject, D: MemoryDevice<M>, A: Allocator + Copy> Session<M, D, A> 
     /// Answers `Put`.
     pub(super) fn put(&mut self, name: u32, offset: u64, bytes: &Bytes<A>) -> Reply<A>
         ensures step { Step D.step self.old (Command.Put name offset bytes.now) result self.new }
-        ensures keeps { Keeps D.objects self.old (Command.Put name offset bytes.now) result self.new }
+        ensures keeps { StepKeeps D.objects self.old (Command.Put name offset bytes.now) result self.new }
     {
         let bytes = bytes.as_slice();
         let Some(block) = self.blocks.get(&name) else {
@@ -113,7 +113,7 @@ impl<M: MemoryObject, D: MemoryDevice<M>, A: Allocator + Copy> Session<M, D, A> 
     /// Answers `Get`. Room for the bytes is made before the device is asked.
     pub(super) fn get(&mut self, name: u32, offset: u64, len: u64) -> Reply<A>
         ensures step { Step D.step self.old (Command.Get name offset len) result self.new }
-        ensures keeps { Keeps D.objects self.old (Command.Get name offset len) result self.new }
+        ensures keeps { StepKeeps D.objects self.old (Command.Get name offset len) result self.new }
     {
         let Some(block) = self.blocks.get(&name) else {
             return Reply::Fault(Fault::UnknownName);

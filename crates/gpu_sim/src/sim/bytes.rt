@@ -1,7 +1,7 @@
 //! Bytes: which of them are copied, and where to.
 
 ghost use Rattle.std.specs.Prelude.{◌≡◌, ◌+◌, ◌≤◌, cond, length, take, drop, replicate, IfOk};
-ghost use Rattle.gpu_sim.specs.Bytes.{size_of_part, with_range, written};
+ghost use Rattle.gpu_sim.specs.Bytes.{bytes_written, size_of_part, with_range};
 
 use std::alloc::{AllocError, Allocator};
 
@@ -69,7 +69,7 @@ pub(super) fn copy_range(to: &mut [u8], from: &[u8], offset: u64, size: u64)
 /// Writes bytes over others from an offset on.
 pub(super) fn write_bytes(to: &mut [u8], offset: u64, bytes: &[u8])
     requires { offset + length bytes.now ≤ length to.old }
-    ensures { to.new ≡ written offset bytes.now to.old }
+    ensures { to.new ≡ bytes_written offset bytes.now to.old }
 {
     let start = offset as usize;
     let end = start + bytes.len();

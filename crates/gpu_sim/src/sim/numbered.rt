@@ -29,7 +29,7 @@ impl<V, A: Allocator + Copy> Model for Numbered<V, A> {
 }
 
 impl<V: Drop, A: Allocator + Copy> Numbered<V, A> {
-    ghost use Rattle.gpu_sim.specs.Numbered.{lends_value};
+    ghost use Rattle.gpu_sim.specs.Numbered.{lends_numbered};
 
     /// No values. It allocates nothing.
     pub(super) fn new(alloc: A) -> Numbered<V, A>

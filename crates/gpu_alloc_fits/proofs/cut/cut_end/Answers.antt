@@ -1,20 +1,20 @@
 use Rattle.std.proofs.Common.{false, refl, arith, ap}
-use Rattle.gpu_alloc_fits.specs.Inside.{size_in, size_of}
+use Rattle.gpu_alloc_fits.specs.Inside.{chunk_size_in, row_size}
 use Rattle.gpu_alloc_fits.proofs.Cuts.{end_kept, end_right, row_there, taken}
 use Rattle.std.proofs.lemmas.Bool.Decides.{Decides-ltb}
 use Rattle.gpu_alloc_fits.proofs.cut.cut_end.Goals as goal
 
 pub returns-then-at-run-clause-kept : goal.returns-then-at-run-clause-kept
 returns-then-at-run-clause-kept g c =
-    taken (size_in c.args.chunks.now) c.args.nodes.now c.unfile.new.nodes c.set_free.new.nodes c.args.key c.args.run c.requires.kept c.requires.run.0 c.requires.run.1 c.unfile.ensures.keeps c.set_free.ensures.updates
+    taken (chunk_size_in c.args.chunks.now) c.args.nodes.now c.unfile.new.nodes c.set_free.new.nodes c.args.key c.args.run c.requires.kept c.requires.run.0 c.requires.run.1 c.unfile.ensures.keeps c.set_free.ensures.updates
 
 pub index-requires : goal.index-requires
 index-requires g c = row_there c.args.chunks.now c.args.nodes.now c.args.key c.args.run c.requires.kept c.requires.run.0
 
 pub returns-clause-kept : goal.returns-clause-kept
 returns-clause-kept g c =
-    let whole = ap size_of c.index.ensures in
-    end_kept (size_in c.args.chunks.now) c.args.nodes.now c.insert_reserved-block.new.self c.set_end.new.nodes c.args.key c.insert_reserved-block.result c.args.at c.index-2.result.now c.unlisted.result c.args.run
+    let whole = ap row_size c.index.ensures in
+    end_kept (chunk_size_in c.args.chunks.now) c.args.nodes.now c.insert_reserved-block.new.self c.set_end.new.nodes c.args.key c.insert_reserved-block.result c.args.at c.index-2.result.now c.unlisted.result c.args.run
     c.requires.kept c.index-2.ensures c.requires.run.0 c.insert_reserved-block.ensures.was_vacant c.insert_reserved-block.ensures.updates c.set_end.ensures.updates c.set_before.new.nodes c.refile.new.nodes
     (let ne = c.if-at-run.false in let le = c.requires.within.0 in omega (arith, ne, le)) c.requires.within.1 false c.unlisted.ensures.tile c.unlisted.ensures.before c.unlisted.ensures.after
     _ (λ h. (Decides-ltb c.args.run.end c.index.result.now.size).1 (omega (arith, h, whole))) (λ h. let less = (Decides-ltb c.args.run.end c.index.result.now.size).0 h in omega (arith, less, whole)) c.set_before.ensures.sets c.refile.ensures.keeps
@@ -22,8 +22,8 @@ returns-clause-kept g c =
 
 pub returns-clause-right : goal.returns-clause-right
 returns-clause-right g c =
-    let whole = ap size_of c.index.ensures in
-    end_right (size_in c.args.chunks.now) c.args.nodes.now c.insert_reserved-block.new.self c.set_end.new.nodes c.args.key c.insert_reserved-block.result c.args.at c.index-2.result.now c.unlisted.result c.args.run
+    let whole = ap row_size c.index.ensures in
+    end_right (chunk_size_in c.args.chunks.now) c.args.nodes.now c.insert_reserved-block.new.self c.set_end.new.nodes c.args.key c.insert_reserved-block.result c.args.at c.index-2.result.now c.unlisted.result c.args.run
     c.requires.kept c.index-2.ensures c.requires.run.0 c.insert_reserved-block.ensures.was_vacant c.insert_reserved-block.ensures.updates c.set_end.ensures.updates c.set_before.new.nodes c.refile.new.nodes
     (let ne = c.if-at-run.false in let le = c.requires.within.0 in omega (arith, ne, le)) c.requires.within.1 false c.unlisted.ensures.tile c.unlisted.ensures.before c.unlisted.ensures.after
     _ (λ h. (Decides-ltb c.args.run.end c.index.result.now.size).1 (omega (arith, h, whole))) (λ h. let less = (Decides-ltb c.args.run.end c.index.result.now.size).0 h in omega (arith, less, whole)) c.set_before.ensures.sets c.refile.ensures.keeps

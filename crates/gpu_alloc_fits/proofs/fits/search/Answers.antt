@@ -1,5 +1,5 @@
 use Rattle.std.proofs.Common.{◌≡◌, ◌∙◌, Some, arith}
-use Rattle.gpu_alloc_fits.specs.Inside.{IsBlock, chunks_in}
+use Rattle.gpu_alloc_fits.specs.Inside.{IsBlockTile, chunks_of_rows}
 use Rattle.gpu_alloc_fits.specs.Tiles.{tile_in}
 use Rattle.gpu_alloc_fits.proofs.Cuts.{row_there}
 use Rattle.gpu_alloc_fits.proofs.Nodes.{tile_of_node}
@@ -14,7 +14,7 @@ loop-key-init g c = (tt, tt, at_first _ _ _ (c.into_iter-key-iterator.ensures.in
 here : (g : Over) (c : goal.After-is_of-arg-1 g) → tile_in c.args.tiles.now c.in-Some.key ≡ Some c.in-Some.node.now.tile
 here g c =
     tile_of_node c.args.tiles.now c.in-Some.key c.in-Some.node.now
-    (own_node c.args.tiles.now (IsBlock (chunks_in g.M.MemoryObject.object c.args.chunks.now) c.args.object c.args.offset c.args.size) _ _ c.in-Some.key c.in-Some.node.now c.in-Some.ensures.steps c.loop-key.invariant.2)
+    (own_node c.args.tiles.now (IsBlockTile (chunks_of_rows g.M.MemoryObject.object c.args.chunks.now) c.args.object c.args.offset c.args.size) _ _ c.in-Some.key c.in-Some.node.now c.in-Some.ensures.steps c.loop-key.invariant.2)
 
 pub is_of-requires-clause-nonempty : goal.is_of-requires-clause-nonempty
 is_of-requires-clause-nonempty g c = omega (arith, c.requires.kept.tiled.nonempty c.in-Some.key c.in-Some.node.now.tile (here g c))

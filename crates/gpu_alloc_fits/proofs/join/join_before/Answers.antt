@@ -1,6 +1,6 @@
 use Rattle.std.proofs.Common.{◌≡◌, ◌∙◌, true, subst, sym, arith}
 use Rattle.std.proofs.lemmas.Bool.Decides.{Decides-ltb}
-use Rattle.gpu_alloc_fits.specs.Inside.{size_in}
+use Rattle.gpu_alloc_fits.specs.Inside.{chunk_size_in}
 use Rattle.gpu_alloc_fits.specs.Links.{with_free}
 use Rattle.gpu_alloc_fits.specs.Tiles.{KeepsElsewhere, tile_in}
 use Rattle.gpu_alloc_fits.proofs.Joins.{IsJoined, beside_free, front_else, front_key, front_near, left_is_first, left_joined, put_key, unnot}
@@ -9,17 +9,17 @@ use Rattle.gpu_alloc_fits.proofs.join.join_before.Given.{Over}
 use Rattle.gpu_alloc_fits.proofs.join.join_before.Goals as goal
 
 pub look-front-requires : goal.look-front-requires
-look-front-requires g c = front_key (size_in c.args.chunks.now) c.args.nodes.now c.args.place.key (with_free true c.args.place.node) c.requires.beside c.requires.at c.if-node-eq0.false
+look-front-requires g c = front_key (chunk_size_in c.args.chunks.now) c.args.nodes.now c.args.place.key (with_free true c.args.place.node) c.requires.beside c.requires.at c.if-node-eq0.false
 
 pub set_end-requires : goal.set_end-requires
 set_end-requires g c =
-    let other = front_else (size_in c.args.chunks.now) c.args.nodes.now c.args.place.key (with_free true c.args.place.node) c.requires.beside c.requires.at c.look-front.result c.if-node-eq0.false c.look-front.ensures.node in
+    let other = front_else (chunk_size_in c.args.chunks.now) c.args.nodes.now c.args.place.key (with_free true c.args.place.node) c.requires.beside c.requires.at c.look-front.result c.if-node-eq0.false c.look-front.ensures.node in
     put_key c.args.nodes.now c.args.nodes.now c.remove.new.self (with_free true c.args.place.node).before c.args.place.key c.look-front.result c.look-front.ensures.node (λ e. other (sym e)) (keeps_self c.args.nodes.now) c.remove.ensures.updates
 
-joined : (g : Over) (c : goal.After-class_of g) → IsJoined (size_in c.args.chunks.now) c.args.nodes.now c.set_before.new.nodes (with_free true c.args.place.node).before c.look-front.result.tile.chunk
+joined : (g : Over) (c : goal.After-class_of g) → IsJoined (chunk_size_in c.args.chunks.now) c.args.nodes.now c.set_before.new.nodes (with_free true c.args.place.node).before c.look-front.result.tile.chunk
 joined g c =
     let n = (with_free true c.args.place.node) in
-    let size = size_in c.args.chunks.now in
+    let size = chunk_size_in c.args.chunks.now in
     let other = front_else size c.args.nodes.now c.args.place.key n c.requires.beside c.requires.at c.look-front.result c.if-node-eq0.false c.look-front.ensures.node in
     let whole = c.requires.whole in
     left_joined size c.args.nodes.now c.args.nodes.now c.remove.new.self c.set_end.new.nodes n.before c.args.place.key c.look-front.result n
@@ -34,7 +34,7 @@ returns-clause-beside g c = (joined g c).beside
 pub returns-clause-first : goal.returns-clause-first
 returns-clause-first g c =
     let n = (with_free true c.args.place.node) in
-    let size = size_in c.args.chunks.now in
+    let size = chunk_size_in c.args.chunks.now in
     let other = front_else size c.args.nodes.now c.args.place.key n c.requires.beside c.requires.at c.look-front.result c.if-node-eq0.false c.look-front.ensures.node in
     let whole = c.requires.whole in
     left_is_first size c.args.nodes.now c.args.nodes.now c.remove.new.self c.set_end.new.nodes n.before c.args.place.key c.look-front.result n
@@ -46,7 +46,7 @@ returns-clause-first g c =
 -- the tile before is of its chunk
 same : (g : Over) (c : goal.After-class_of g) → c.look-front.result.tile.chunk ≡ c.args.place.node.tile.chunk
 same g c =
-    (front_near (size_in c.args.chunks.now) c.args.nodes.now c.args.place.key (with_free true c.args.place.node) c.requires.beside c.requires.at c.look-front.result c.if-node-eq0.false c.look-front.ensures.node).chunk
+    (front_near (chunk_size_in c.args.chunks.now) c.args.nodes.now c.args.place.key (with_free true c.args.place.node) c.requires.beside c.requires.at c.look-front.result c.if-node-eq0.false c.look-front.ensures.node).chunk
 
 pub returns-clause-lives : goal.returns-clause-lives
 returns-clause-lives g c = (joined g c).lives

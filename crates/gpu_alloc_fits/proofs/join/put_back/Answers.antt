@@ -1,18 +1,18 @@
 use Rattle.std.proofs.Common.{◌∙◌, sym}
-use Rattle.gpu_alloc_fits.specs.Inside.{size_in}
+use Rattle.gpu_alloc_fits.specs.Inside.{chunk_size_in}
 use Rattle.gpu_alloc_fits.proofs.Joins.{freed, freed_elsewhere, freed_others}
 use Rattle.gpu_alloc_fits.proofs.Nodes.{keeps_kept}
 use Rattle.gpu_alloc_fits.proofs.join.put_back.Goals as goal
 
 pub join_before-joint-requires-clause-beside : goal.join_before-joint-requires-clause-beside
-join_before-joint-requires-clause-beside g c = freed (size_in c.args.chunks.now) c.args.nodes.now c.set_free.new.nodes c.args.place.key c.args.place.node c.requires.kept c.requires.at c.set_free.ensures.updates
+join_before-joint-requires-clause-beside g c = freed (chunk_size_in c.args.chunks.now) c.args.nodes.now c.set_free.new.nodes c.args.place.key c.args.place.node c.requires.kept c.requires.at c.set_free.ensures.updates
 
 pub returns-clause-kept : goal.returns-clause-kept
-returns-clause-kept g c = keeps_kept c.join_after-tile.new.nodes c.refile.new.nodes c.refile.ensures.keeps (size_in c.args.chunks.now) c.join_after-tile.ensures.kept
+returns-clause-kept g c = keeps_kept c.join_after-tile.new.nodes c.refile.new.nodes c.refile.ensures.keeps (chunk_size_in c.args.chunks.now) c.join_after-tile.ensures.kept
 
 pub returns-clause-back : goal.returns-clause-back
 returns-clause-back g c =
-    let back = freed_others (size_in c.args.chunks.now) c.args.nodes.now c.set_free.new.nodes c.args.place.key c.args.place.node c.requires.kept c.requires.at c.set_free.ensures.updates in
+    let back = freed_others (chunk_size_in c.args.chunks.now) c.args.nodes.now c.set_free.new.nodes c.args.place.key c.args.place.node c.requires.kept c.requires.at c.set_free.ensures.updates in
     let first = c.join_before-joint.ensures.lives in
     let second = c.join_after-tile.ensures.lives in
     let same = c.refile.ensures.keeps.tiles in record {
@@ -22,7 +22,7 @@ returns-clause-back g c =
 
 pub returns-clause-elsewhere : goal.returns-clause-elsewhere
 returns-clause-elsewhere g c k b is other =
-    let first = freed_elsewhere (size_in c.args.chunks.now) c.args.nodes.now c.set_free.new.nodes c.args.place.key c.args.place.node c.requires.kept c.requires.at c.set_free.ensures.updates k b is other in
+    let first = freed_elsewhere (chunk_size_in c.args.chunks.now) c.args.nodes.now c.set_free.new.nodes c.args.place.key c.args.place.node c.requires.kept c.requires.at c.set_free.ensures.updates k b is other in
     let second = c.join_before-joint.ensures.elsewhere k b first other in
     let joint = c.join_before-joint.ensures.joint in
     let third = c.join_after-tile.ensures.elsewhere joint.0 joint.1.at k b second (λ e. other (e ∙ joint.1.chunk_is)) in

@@ -1,7 +1,7 @@
 use Rattle.std.proofs.Common.{◌≡◌, ◌+◌, ◌-◌, ◌<◌, ◌≤◌, length, Some}
 use Rattle.gpu_alloc_pairs.specs.InHand.{IsSplitting, IsTakenSame}
 use Rattle.gpu_alloc_pairs.specs.Lengths.{HasRoomsFor, hand_of}
-use Rattle.gpu_alloc_pairs.specs.Space.{Space}
+use Rattle.gpu_alloc_pairs.specs.Space.{BuddySpace}
 use Rattle.gpu_alloc_pairs.specs.Tree.{pair_at}
 use Rattle.gpu_alloc_pairs.proofs.lengths.split_down.Given as goal
 
@@ -15,7 +15,7 @@ invariant-loop-hand g l = record {
   count : length l.lengths.items ≡ length l.fn.lengths.items;
   rooms : HasRoomsFor l.lengths.items l.order l.hand.order;
   counted : l.splits + l.hand.order ≡ l.fn.splits + l.fn.hand.order;
-  splitting : (s : Space) → IsSplitting (pair_at l.fn.lengths.items) s (hand_of l.fn.hand) (Some l.fn.hand.parent)
+  splitting : (s : BuddySpace) → IsSplitting (pair_at l.fn.lengths.items) s (hand_of l.fn.hand) (Some l.fn.hand.parent)
       → IsSplitting (pair_at l.lengths.items) s (hand_of l.hand) (Some l.hand.parent);
   same : IsTakenSame (pair_at l.fn.lengths.items) (pair_at l.lengths.items);
 }

@@ -1,7 +1,7 @@
 use Rattle.std.proofs.Common.{◌≡◌, true, ◌∙◌, sym, ap, arith}
 use Rattle.std.specs.Int.{is_power_of_two}
 use Rattle.gpu_alloc_base.proofs.PowersOfTwo.{bit_of_power, power_of_bit}
-use Rattle.gpu_alloc_pairs.proofs.GivesBack.{same_order}
+use Rattle.gpu_alloc_pairs.proofs.PutsBack.{same_order}
 use Rattle.gpu_alloc_pairs.proofs.pairs.half_order.Goals as goal
 
 pub returns-then-not-is_power_of_two : goal.returns-then-not-is_power_of_two

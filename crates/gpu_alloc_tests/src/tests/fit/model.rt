@@ -528,7 +528,7 @@ impl Model {
 
     /// Returns the block at this place. Of fit chunks, its own is released if it is then wholly free and another one is
     /// too. Of a free list's, each wholly free one is, except that of the last run. An object of its own is released.
-    pub(super) fn take_back(&mut self, rt: &impl Abort, at: usize) -> Result<(), AllocError> {
+    pub(super) fn put_back(&mut self, rt: &impl Abort, at: usize) -> Result<(), AllocError> {
         holds(rt, at < self.live.len(), "no such block");
         let Block {
             memory_type,

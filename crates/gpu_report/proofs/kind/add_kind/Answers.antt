@@ -1,5 +1,5 @@
 use Rattle.std.proofs.Common.{◌<◌, ◌≤◌, length, map, arith}
-use Rattle.gpu_alloc.specs.Spans.{entry_of}
+use Rattle.gpu_alloc.specs.Spans.{held_entry_of}
 use Rattle.gpu_report.specs.Held.{held_as}
 use Rattle.gpu_report.proofs.Told.{objects_told, told_used, told_unused}
 use Rattle.gpu_report.proofs.kind.add_kind.Goals as goal
@@ -9,7 +9,7 @@ pub returns : goal.returns
 returns g c ps told =
     let s = c.args.allocator.now in
     let p = c.args.part in
-    let held = map entry_of c.args.held.now in
+    let held = map held_entry_of c.args.held.now in
     let law = c.free_ranges_are_the_free_bytes.ensures in
     let more = c.in_ok-objects_of.field-0.items in
     let each = objects_told s held c.args.live.now c.args.free.now p c.requires.sound c.requires.are_held c.requires.are_live c.requires.are_free

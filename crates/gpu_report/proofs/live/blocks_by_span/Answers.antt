@@ -5,7 +5,7 @@ use Rattle.std.specs.List.{Contains}
 use Rattle.std.specs.Ordering.{is_lt}
 use Rattle.gpu_alloc.specs.State.{span_cmp}
 use Rattle.gpu_alloc_block.proofs.LiveSpans.{span_total}
-use Rattle.gpu_report.specs.Live.{span_told}
+use Rattle.gpu_report.specs.Live.{live_block_span}
 use Rattle.gpu_report.specs.declared.live.LiveBlock.{LiveBlock}
 use Rattle.gpu_report.proofs.live.blocks_by_span.Goals as goal
 
@@ -20,6 +20,6 @@ returns-clause-same c b =
 
 pub returns-clause-sorted : goal.returns-clause-sorted
 returns-clause-sorted c =
-    let before = λ (x y : LiveBlock). is_lt (span_cmp (span_told x) (span_told y)) in
-    c.sort_unstable_by.ensures.sorted before (ranks_by span_total span_told)
+    let before = λ (x y : LiveBlock). is_lt (span_cmp (live_block_span x) (live_block_span y)) in
+    c.sort_unstable_by.ensures.sorted before (ranks_by span_total live_block_span)
     (always_returns_same _ (λ a r. is_lt r ≡ before a.0.now a.1.0.now) _ (λ a r f' called. search rules))

@@ -8,7 +8,7 @@ use Rattle.gpu_alloc.specs.Spans.{span_in}
 use Rattle.gpu_alloc.specs.State.{Span, span_cmp}
 use Rattle.gpu_alloc_base.specs.declared.buddy_block.Leaf.{Leaf as LiveSpan}
 use Rattle.gpu_alloc_base.proofs.ListViews.{contains_name}
-use Rattle.gpu_report.specs.Live.{span_told}
+use Rattle.gpu_report.specs.Live.{live_block_span}
 use Rattle.gpu_report.specs.declared.live.LiveBlock.{LiveBlock}
 use Rattle.gpu_report.proofs.Members.{from_mapped}
 use Rattle.gpu_report.proofs.Spans.{live_listed, told_rises}
@@ -22,10 +22,10 @@ loop-span-preserved g c =
     let xs = c.deref-span-items.result.now in
     let i = c.loop-span.span-index in
     let items = c.in_ok-push-in-Some.ensures.items in
-    let same : span_told c.in-Some.block ≡ span_in (get_or xs i nothing) = c.in-Some.ensures.1 in
+    let same : live_block_span c.in-Some.block ≡ span_in (get_or xs i nothing) = c.in-Some.ensures.1 in
     let has = subst (λ (bs : List LiveBlock). Contains bs c.in-Some.block) c.deref.ensures.value c.in-Some.ensures.0 in
     record {
-      told = ap (map span_told) items ∙ map-append span_told c.loop-span.live.items (c.in-Some.block ∷ [])
+      told = ap (map live_block_span) items ∙ map-append live_block_span c.loop-span.live.items (c.in-Some.block ∷ [])
           ∙ (λ k. c.loop-span.invariant.told k ++ same k ∷ [])
           ∙ sym (ap (map span_in) (take_more xs i nothing c.loop-span-test.true) ∙ map-append span_in (take i xs) (get_or xs i nothing ∷ []));
       given = subst (All (Contains c.args.blocks.now)) (sym items)
@@ -35,7 +35,7 @@ loop-span-preserved g c =
 pub returns-clause-live : goal.returns-clause-live
 returns-clause-live g c =
     let xs = c.deref-span-items.result.now in
-    let all : map span_told c.loop-span.live.items ≡ map span_in xs =
+    let all : map live_block_span c.loop-span.live.items ≡ map span_in xs =
     c.loop-span.invariant.told ∙ ap (map span_in) (take_all c.loop-span.span-index xs c.loop-span-test.false) in
     let is = c.deref-span-items.ensures.value in
     record {
@@ -55,7 +55,7 @@ returns-in-None-clause-missing g c =
           (subst (λ (ys : List LiveSpan). set.from_list (map span_in ys) ≡ c.args.allocator.now.live) (sym c.deref-span-items.ensures.value) c.in_ok-spans.ensures.exact)
           (span_in (get_or xs i nothing)) has;
       lacks = λ there.
-          let b = from_mapped span_told c.args.blocks.now (span_in (get_or xs i nothing)) there in
+          let b = from_mapped live_block_span c.args.blocks.now (span_in (get_or xs i nothing)) there in
           let sorted = subst (λ (bs : List LiveBlock). Contains bs b.0) (sym c.deref.ensures.value) ((c.in_ok-sorted.ensures.same b.0).1 b.1) in
-          c.in-None.ensures (subst (Contains (map span_told c.deref.result.now)) b.2 (contains_name span_told c.deref.result.now b.0 sorted));
+          c.in-None.ensures (subst (Contains (map live_block_span c.deref.result.now)) b.2 (contains_name live_block_span c.deref.result.now b.0 sorted));
     }

@@ -8,13 +8,13 @@ use Rattle.gpu_alloc.specs.Listing.{AreOnce}
 use Rattle.gpu_alloc.specs.Spans.{span_in}
 use Rattle.gpu_alloc.specs.State.{Span, State, span_cmp}
 use Rattle.gpu_alloc_base.specs.declared.buddy_block.Leaf.{Leaf as LiveSpan}
-use Rattle.gpu_report.specs.Live.{span_told, AreLive}
+use Rattle.gpu_report.specs.Live.{live_block_span, AreLive}
 use Rattle.gpu_report.specs.declared.live.LiveBlock.{LiveBlock}
 use Rattle.gpu_report.proofs.Spans.{told_rises}
 use Rattle.gpu_report.proofs.live.live_unnamed.Goals as goal
 
 -- blocks that have the live spans
-named : (s : State) (live : List LiveBlock) (spans : List LiveSpan) → map span_told live ≡ map span_in spans
+named : (s : State) (live : List LiveBlock) (spans : List LiveSpan) → map live_block_span live ≡ map span_in spans
     → set.from_list (map span_in spans) ≡ s.live → AreOnce (map span_in spans) → IsNonDecreasingBy (λ span. span.object) spans
     → AreLive s live
 named s live spans told exact once rises = record {
@@ -26,7 +26,7 @@ named s live spans told exact once rises = record {
 -- and so where they were made
 answered : {E : Type 0} {V : Type 0} (items : V → List LiveBlock) (s : State) (spans : List LiveSpan) → set.from_list (map span_in spans) ≡ s.live
     → AreOnce (map span_in spans) → IsNonDecreasingBy (λ span. span.object) spans → (r : Result V E)
-    → IfOk r (λ v. map span_told (items v) ≡ map span_in spans) → IfOk r (λ v. AreLive s (items v))
+    → IfOk r (λ v. map live_block_span (items v) ≡ map span_in spans) → IfOk r (λ v. AreLive s (items v))
 answered items s spans exact once rises (Ok v) told = named s (items v) spans told exact once rises
 answered items s spans exact once rises (Err e) told = told
 

@@ -4,13 +4,13 @@ use Rattle.std.proofs.lemmas.List.{take-map, take_all}
 use Rattle.std.specs.Prelude.{map}
 use Rattle.gpu_alloc_types.specs.declared.types.FreeRange.{FreeRange}
 use Rattle.wallthyme.specs.Layout.{free_range_of}
-use Rattle.wallthyme.specs.Objects.{AreTold}
+use Rattle.wallthyme.specs.Objects.{AreRangesTold}
 use Rattle.wallthyme.specs.declared.layout.Range.{Range}
 use Rattle.wallthyme.proofs.objects.tell.Goals as goal
 
 -- what is told of as many as there is room for
 told_in_full : (found : List FreeRange) (told : List Range) → length told ≤ length found
-    → take (length told) told ≡ map free_range_of (take (length told) found) → AreTold found told
+    → take (length told) told ≡ map free_range_of (take (length told) found) → AreRangesTold found told
 told_in_full found told fits each =
     take_all (length found) told fits ∙ sym (take_all (length told) told (omega arith)) ∙ each
     ∙ sym (take-map free_range_of (length told) found)

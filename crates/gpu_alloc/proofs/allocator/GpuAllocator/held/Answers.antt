@@ -1,7 +1,7 @@
 use Rattle.std.proofs.Common.{◌≤◌, ◌∙◌, ◌+◌, List, ap, drop, map, sym, arith}
 use Rattle.std.specs.FinMap as finite
 use Rattle.std.specs.Ordering.{nat_cmp}
-use Rattle.gpu_alloc_block.specs.Parts.{Part, held_in}
+use Rattle.gpu_alloc_block.specs.Parts.{Part, held_in_parts}
 use Rattle.gpu_alloc.specs.Spans.{held_of}
 use Rattle.gpu_alloc.specs.Whole.{buddy_part, fit_part, list_part, own_part}
 use Rattle.gpu_alloc.proofs.WholeParts.{first_holds, fits_left, left_from, lists_from, lists_left, next_buddy, next_buddy_left, next_fit, next_fit_left, next_left, next_list, none_left, rest_holds}
@@ -33,14 +33,14 @@ returns-in-Some-buddy_chunk_of g c =
     let left = next_buddy_left c.self.inside.limits _ _ _ _ _ _ c.self.invariant _ count c.loop-memory_type.memory_type c.index-buddy.result.now c.loop-memory_type-test.true c.index-buddy.ensures in
     let rest = left_from c.self.inside.buddies.items c.self.inside.free_lists.items c.self.inside.fits.items (c.loop-memory_type.memory_type + 1) in
     let here = first_holds (buddy_part c.index-buddy.result.now) rest c.args.object (held_of c.in-Some-buddy_chunk_of.row) (sym c.in-Some-buddy_chunk_of.ensures) in
-    sym (c.loop-memory_type.invariant ∙ ap (λ (ps : List Part). finite.get (held_in ps) c.args.object) left ∙ here)
+    sym (c.loop-memory_type.invariant ∙ ap (λ (ps : List Part). finite.get (held_in_parts ps) c.args.object) left ∙ here)
 
 pub loop-memory_type-preserved : goal.loop-memory_type-preserved
 loop-memory_type-preserved g c =
     let count = rw (← c.self.view_is) at c.type_count-memory_type-end.ensures in
     let left = next_buddy_left c.self.inside.limits _ _ _ _ _ _ c.self.invariant _ count c.loop-memory_type.memory_type c.index-buddy.result.now c.loop-memory_type-test.true c.index-buddy.ensures in
     let rest = left_from c.self.inside.buddies.items c.self.inside.free_lists.items c.self.inside.fits.items (c.loop-memory_type.memory_type + 1) in
-    c.loop-memory_type.invariant ∙ ap (λ (ps : List Part). finite.get (held_in ps) c.args.object) left
+    c.loop-memory_type.invariant ∙ ap (λ (ps : List Part). finite.get (held_in_parts ps) c.args.object) left
     ∙ rest_holds (buddy_part c.index-buddy.result.now) rest c.args.object (sym c.in_default-buddy_chunk_of.ensures)
 
 -- The free lists.
@@ -50,7 +50,7 @@ loop-memory_type-2-init g c =
     let count = rw (← c.self.view_is) at c.type_count-memory_type-end.ensures in
     let past : c.type_count-memory_type-end.result ≤ c.loop-memory_type.memory_type = omega (arith, c.loop-memory_type-test.false) in
     let left = lists_left c.self.inside.limits _ _ _ _ _ _ c.self.invariant _ count c.loop-memory_type.memory_type past in
-    c.loop-memory_type.invariant ∙ ap (λ (ps : List Part). finite.get (held_in ps) c.args.object) left
+    c.loop-memory_type.invariant ∙ ap (λ (ps : List Part). finite.get (held_in_parts ps) c.args.object) left
 
 pub chunk_of-requires-clause-typed : goal.chunk_of-requires-clause-typed
 chunk_of-requires-clause-typed g c =
@@ -68,14 +68,14 @@ returns-in-Some-chunk_of g c =
     let left = next_left c.self.inside.limits _ _ _ _ _ _ c.self.invariant _ count c.loop-memory_type-2.memory_type c.index-list.result.now c.loop-memory_type-2-test.true c.index-list.ensures in
     let rest = lists_from c.self.inside.free_lists.items c.self.inside.fits.items (c.loop-memory_type-2.memory_type + 1) in
     let here = first_holds (list_part c.index-list.result.now) rest c.args.object (held_of c.in-Some-chunk_of.row) (sym c.in-Some-chunk_of.ensures) in
-    sym (c.loop-memory_type-2.invariant ∙ ap (λ (ps : List Part). finite.get (held_in ps) c.args.object) left ∙ here)
+    sym (c.loop-memory_type-2.invariant ∙ ap (λ (ps : List Part). finite.get (held_in_parts ps) c.args.object) left ∙ here)
 
 pub loop-memory_type-2-preserved : goal.loop-memory_type-2-preserved
 loop-memory_type-2-preserved g c =
     let count = rw (← c.self.view_is) at c.type_count-memory_type-end-2.ensures in
     let left = next_left c.self.inside.limits _ _ _ _ _ _ c.self.invariant _ count c.loop-memory_type-2.memory_type c.index-list.result.now c.loop-memory_type-2-test.true c.index-list.ensures in
     let rest = lists_from c.self.inside.free_lists.items c.self.inside.fits.items (c.loop-memory_type-2.memory_type + 1) in
-    c.loop-memory_type-2.invariant ∙ ap (λ (ps : List Part). finite.get (held_in ps) c.args.object) left
+    c.loop-memory_type-2.invariant ∙ ap (λ (ps : List Part). finite.get (held_in_parts ps) c.args.object) left
     ∙ rest_holds (list_part c.index-list.result.now) rest c.args.object (sym c.in_default-chunk_of.ensures)
 
 -- The allocators of fit chunks.
@@ -85,7 +85,7 @@ loop-memory_type-3-init g c =
     let count = rw (← c.self.view_is) at c.type_count-memory_type-end-2.ensures in
     let past : c.type_count-memory_type-end-2.result ≤ c.loop-memory_type-2.memory_type = omega (arith, c.loop-memory_type-2-test.false) in
     let left = fits_left c.self.inside.limits _ _ _ _ _ _ c.self.invariant _ count c.loop-memory_type-2.memory_type past in
-    c.loop-memory_type-2.invariant ∙ ap (λ (ps : List Part). finite.get (held_in ps) c.args.object) left
+    c.loop-memory_type-2.invariant ∙ ap (λ (ps : List Part). finite.get (held_in_parts ps) c.args.object) left
 
 pub fit_chunk_of-requires-clause-typed : goal.fit_chunk_of-requires-clause-typed
 fit_chunk_of-requires-clause-typed g c =
@@ -103,14 +103,14 @@ returns-in-Some-fit_chunk_of g c =
     let left = next_fit_left c.self.inside.limits _ _ _ _ _ _ c.self.invariant _ count c.loop-memory_type-3.memory_type c.index-fit.result.now c.loop-memory_type-3-test.true c.index-fit.ensures in
     let rest = map fit_part (drop (c.loop-memory_type-3.memory_type + 1) c.self.inside.fits.items) in
     let here = first_holds (fit_part c.index-fit.result.now) rest c.args.object (held_of c.in-Some-fit_chunk_of.row) (sym c.in-Some-fit_chunk_of.ensures) in
-    sym (c.loop-memory_type-3.invariant ∙ ap (λ (ps : List Part). finite.get (held_in ps) c.args.object) left ∙ here)
+    sym (c.loop-memory_type-3.invariant ∙ ap (λ (ps : List Part). finite.get (held_in_parts ps) c.args.object) left ∙ here)
 
 pub loop-memory_type-3-preserved : goal.loop-memory_type-3-preserved
 loop-memory_type-3-preserved g c =
     let count = rw (← c.self.view_is) at c.type_count-memory_type-end-3.ensures in
     let left = next_fit_left c.self.inside.limits _ _ _ _ _ _ c.self.invariant _ count c.loop-memory_type-3.memory_type c.index-fit.result.now c.loop-memory_type-3-test.true c.index-fit.ensures in
     let rest = map fit_part (drop (c.loop-memory_type-3.memory_type + 1) c.self.inside.fits.items) in
-    c.loop-memory_type-3.invariant ∙ ap (λ (ps : List Part). finite.get (held_in ps) c.args.object) left
+    c.loop-memory_type-3.invariant ∙ ap (λ (ps : List Part). finite.get (held_in_parts ps) c.args.object) left
     ∙ rest_holds (fit_part c.index-fit.result.now) rest c.args.object (sym c.in_default-fit_chunk_of.ensures)
 
 pub returns : goal.returns
@@ -118,4 +118,4 @@ returns g c =
     let count = rw (← c.self.view_is) at c.type_count-memory_type-end-3.ensures in
     let past : c.type_count-memory_type-end-3.result ≤ c.loop-memory_type-3.memory_type = omega (arith, c.loop-memory_type-3-test.false) in
     let left = none_left c.self.inside.limits _ _ _ _ _ _ c.self.invariant _ count c.loop-memory_type-3.memory_type past in
-    sym (c.loop-memory_type-3.invariant ∙ ap (λ (ps : List Part). finite.get (held_in ps) c.args.object) left ∙ finite.get-empty nat_cmp c.args.object)
+    sym (c.loop-memory_type-3.invariant ∙ ap (λ (ps : List Part). finite.get (held_in_parts ps) c.args.object) left ∙ finite.get-empty nat_cmp c.args.object)

@@ -15,7 +15,7 @@ returns-then-not-fits-clause-passed g c =
     let known = rw (← c.self.view_is) at c.requires.known in
     let of = type_heap_is c.self.inside.limits c.self.inside.heaps.items c.self.inside.buddies.items c.self.inside.free_lists.items c.self.inside.fits.items (whole c.self.inside.own c.self.inside.buddies.items c.self.inside.free_lists.items c.self.inside.fits.items) c.self.inside.allocations_remains c.self.invariant.books c.args.memory_type _ c.index.result.now known
     c.heap_index.ensures c.index.ensures in
-    let ways = rw (← c.self.view_is) at c.is_larger_or_may_hold_more.ensures in
+    let ways = rw (← c.self.view_is) at c.is_passed_over_budget.ensures in
     rw (← c.self.view_is) (λ passed. elim (ways.0 passed) [
       | inl larger ↦ inl larger
       | inr more ↦ inr (more, omega (arith, iff_false c.fits.ensures c.if-not-fits.true, of.used, of.limit))
@@ -23,7 +23,7 @@ returns-then-not-fits-clause-passed g c =
 
 pub returns-then-not-fits-clause-fits : goal.returns-then-not-fits-clause-fits
 returns-then-not-fits-clause-fits g c =
-    let ways = rw (← c.self.view_is) at c.is_larger_or_may_hold_more.ensures in
+    let ways = rw (← c.self.view_is) at c.is_passed_over_budget.ensures in
     rw (← c.self.view_is) (λ stays. not_larger _ _ (iff_false ways stays))
 
 pub returns-else-not-fits-clause-fits : goal.returns-else-not-fits-clause-fits

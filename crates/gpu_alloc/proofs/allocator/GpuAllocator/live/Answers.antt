@@ -1,9 +1,9 @@
 use Rattle.std.proofs.Common.{◌≡◌, ◌<◌, ◌≤◌, ◌∙◌, ◌+◌, ◌++◌, [], List, ap, drop, get_or, length, map, subst, arith}
 use Rattle.std.proofs.lemmas.List.{map-append}
 use Rattle.gpu_alloc_block.specs.Parts.{Part}
-use Rattle.gpu_alloc_fits.specs.Inside.{row_of}
+use Rattle.gpu_alloc_fits.specs.Inside.{leaf_of_slot}
 use Rattle.gpu_alloc.specs.Spans.{span_in}
-use Rattle.gpu_alloc.specs.Whole.{IsPlace, buddy_part, fit_part, list_part, own_part, parts_of}
+use Rattle.gpu_alloc.specs.Whole.{IsPartFor, buddy_part, fit_part, list_part, own_part, parts_of}
 use Rattle.gpu_alloc.proofs.WholeBuddies.{leaf_rows_are, leaf_rows_once}
 use Rattle.gpu_alloc.proofs.WholeFits.{fit_spans_are, fit_spans_once}
 use Rattle.gpu_alloc.proofs.WholeParts.{AreLiveMet, fits_left, left_from, lists_from, lists_left, live_met_all, live_met_next, live_met_none, next_buddy, next_buddy_left, next_fit, next_fit_left, next_left, next_list, none_left, separate}
@@ -19,7 +19,7 @@ loop-buddy-init g c =
     let fits = c.self.inside.fits.items in
     let more = c.in_ok-list_spans.ensures in
     rw (← c.self.view_is, c.deref-buddy-items.ensures.value) (live_met_next _ [] (map span_in more.0) (map span_in c.list_spans.new.rows.items) (own_part own) (left_from buddies lists fits 0)
-    (live_met_none (parts_of own buddies lists fits) (separate (IsPlace (length buddies) (length lists)) (parts_of own buddies lists fits) c.self.invariant.apart)) (ap (map span_in) (more.1 ∙ ap (λ xs. xs ++ more.0) c.new-rows.ensures.items)) more.2.0 more.2.1)
+    (live_met_none (parts_of own buddies lists fits) (separate (IsPartFor (length buddies) (length lists)) (parts_of own buddies lists fits) c.self.invariant.apart)) (ap (map span_in) (more.1 ∙ ap (λ xs. xs ++ more.0) c.new-rows.ensures.items)) more.2.0 more.2.1)
 
 pub loop-buddy-preserved : goal.loop-buddy-preserved
 loop-buddy-preserved g c =
@@ -95,8 +95,8 @@ loop-fit-preserved g c =
     let more = c.in_ok-list_live-2.ensures in
     let spans = map span_in c.loop-fit.rows.items in
     let met : AreLiveMet c.args.self.now.live spans (map fit_part (drop c.loop-fit.fit-index fits)) = rw (← c.deref-fit-items.ensures.value) c.loop-fit.invariant in
-    rw c.deref-fit-items.ensures.value (live_met_next _ spans (map span_in (map row_of more.own)) (map span_in c.list_live-in-loop-fit.new.rows.items) (fit_part c.fit-item.result) rest (subst (λ (ps : List Part). AreLiveMet c.args.self.now.live spans ps) left met)
-    (ap (map span_in) more.added ∙ map-append span_in c.loop-fit.rows.items (map row_of more.own)) (fit_spans_are c.fit-item.result its.sound more.own more.exact more.once) (fit_spans_once c.fit-item.result its.sound more.own more.exact more.once))
+    rw c.deref-fit-items.ensures.value (live_met_next _ spans (map span_in (map leaf_of_slot more.own)) (map span_in c.list_live-in-loop-fit.new.rows.items) (fit_part c.fit-item.result) rest (subst (λ (ps : List Part). AreLiveMet c.args.self.now.live spans ps) left met)
+    (ap (map span_in) more.added ∙ map-append span_in c.loop-fit.rows.items (map leaf_of_slot more.own)) (fit_spans_are c.fit-item.result its.sound more.own more.exact more.once) (fit_spans_once c.fit-item.result its.sound more.own more.exact more.once))
 
 pub returns-clause-exact : goal.returns-clause-exact
 returns-clause-exact g c =

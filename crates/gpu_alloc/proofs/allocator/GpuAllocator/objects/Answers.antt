@@ -1,7 +1,7 @@
 use Rattle.std.proofs.Common.{◌≤◌, ◌∙◌, ◌+◌, ◌++◌, [], List, ap, drop, length, map, subst, arith}
 use Rattle.gpu_alloc_base.proofs.Names.{here}
 use Rattle.gpu_alloc_block.specs.Parts.{Part}
-use Rattle.gpu_alloc.specs.Whole.{IsPlace, buddy_part, fit_part, list_part, own_part, parts_of}
+use Rattle.gpu_alloc.specs.Whole.{IsPartFor, buddy_part, fit_part, list_part, own_part, parts_of}
 use Rattle.gpu_alloc.proofs.WholeParts.{AreMet, fits_left, left_from, lists_from, lists_left, met_all, met_next, met_none, next_buddy, next_buddy_left, next_fit, next_fit_left, next_left, next_list, none_left, separate}
 use Rattle.gpu_alloc.proofs.allocator.GpuAllocator.objects.Goals as goal
 
@@ -15,7 +15,7 @@ loop-memory_type-init g c =
     let fits = c.self.inside.fits.items in
     let more = c.in_ok-list_objects.ensures in
     rw (← c.self.view_is) (met_next _ [] more.0 c.list_objects.new.rows.items (own_part own) (left_from buddies lists fits 0)
-    (met_none (parts_of own buddies lists fits) (separate (IsPlace (length buddies) (length lists)) (parts_of own buddies lists fits) c.self.invariant.apart)) (more.1 ∙ ap (λ xs. xs ++ more.0) c.new-rows.ensures.items) more.2.0 more.2.1)
+    (met_none (parts_of own buddies lists fits) (separate (IsPartFor (length buddies) (length lists)) (parts_of own buddies lists fits) c.self.invariant.apart)) (more.1 ∙ ap (λ xs. xs ++ more.0) c.new-rows.ensures.items) more.2.0 more.2.1)
 
 pub list_buddy_chunks-requires-clause-typed : goal.list_buddy_chunks-requires-clause-typed
 list_buddy_chunks-requires-clause-typed g c =

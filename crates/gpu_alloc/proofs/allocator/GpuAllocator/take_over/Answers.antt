@@ -7,7 +7,7 @@ use Rattle.gpu_alloc_types.specs.Properties.{props_at}
 use Rattle.gpu_alloc.specs.Candidates.{holding}
 use Rattle.gpu_alloc.specs.Importing.{imported_block, imported_object}
 use Rattle.gpu_alloc.specs.Inside.{state_in}
-use Rattle.gpu_alloc.specs.Whole.{parts_of, whole, IsPlace}
+use Rattle.gpu_alloc.specs.Whole.{parts_of, whole, IsPartFor}
 use Rattle.gpu_alloc_block.specs.Parts.{Makes}
 use Rattle.gpu_alloc.proofs.Wholes.{own_comes, unheld_then}
 use Rattle.gpu_alloc_block.specs.State.{State, HeldObject, Block, span_of}
@@ -56,7 +56,7 @@ some g c = subst (λ s. 0 < s.remaining) (sym c.self.view_is) c.requires.remains
 free : (g : Over) (c : goal.After-new g) → finite.get (before g c).held (block g c).object ≡ None
 free g c = ap (λ (s : State). finite.get s.held (block g c).object) c.self.view_is ∙ c.requires.unheld
 
-came : (g : Over) (c : goal.After-new g) → Makes (IsPlace (length c.self.inside.buddies.items) (length c.self.inside.free_lists.items)) (parts_of c.insert-key.new.self c.self.inside.buddies.items c.self.inside.free_lists.items c.self.inside.fits.items) (finite.insert (before g c).held (block g c).object (object g c)) (set_of.insert (before g c).live (span_of (block g c)))
+came : (g : Over) (c : goal.After-new g) → Makes (IsPartFor (length c.self.inside.buddies.items) (length c.self.inside.free_lists.items)) (parts_of c.insert-key.new.self c.self.inside.buddies.items c.self.inside.free_lists.items c.self.inside.fits.items) (finite.insert (before g c).held (block g c).object (object g c)) (set_of.insert (before g c).live (span_of (block g c)))
 came g c =
     own_comes c.self.inside.own c.self.inside.buddies.items c.self.inside.free_lists.items c.self.inside.fits.items c.self.invariant.apart c.insert-key.new.self (span_of (block g c)) (object g c) (free g c) refl
     (c.insert-key.ensures.held ∙ (λ k. finite.insert (c.reserve.ensures.kept k).held (name g c k) (object g c)))

@@ -1,7 +1,7 @@
 use Rattle.std.proofs.Common.{ℕ, List, Option, subst}
 use Rattle.gpu_alloc_types.specs.Device.{Event, Chain}
 use Rattle.gpu_alloc_types.specs.declared.usage_flags.UsageFlags.{UsageFlags}
-use Rattle.gpu_alloc.specs.Allocation.{Tries}
+use Rattle.gpu_alloc.specs.Allocation.{TriesCandidate}
 use Rattle.gpu_alloc.specs.declared.allocator.Ask.{Ask}
 use Rattle.gpu_alloc.specs.declared.request.Dedicated.{Dedicated}
 use Rattle.gpu_alloc.proofs.allocator.GpuAllocator.try_asked.Given.{Over}
@@ -12,7 +12,7 @@ use Rattle.gpu_alloc.proofs.allocator.GpuAllocator.try_asked.Goals as goal
 abbrev TriedFor : (g : Over) → goal.After-try_type g → Ask → Type 0
 TriedFor g c asked =
     (es : List Event) × Chain g.D.ObjectDevice.step c.args.device.now es c.try_type.new.device
-    × Tries c.args.self.now asked.request asked.hint c.args.memory_type es c.try_type.result c.try_type.new.self
+    × TriesCandidate c.args.self.now asked.request asked.hint c.args.memory_type es c.try_type.result c.try_type.new.self
 
 -- the fields of what is asked, put together
 abbrev asked_in : ℕ × ℕ × UsageFlags × ℕ × Option Dedicated → Ask

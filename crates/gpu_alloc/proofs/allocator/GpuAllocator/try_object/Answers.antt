@@ -3,14 +3,14 @@ use Rattle.std.proofs.Math.ListN.{set}
 use Rattle.std.proofs.lemmas.Grind.{common_steps}
 use Rattle.std.specs.FinMap as finite
 use Rattle.std.specs.FinSet as set_of
-use Rattle.gpu_alloc_types.specs.Device.{IsAskable}
+use Rattle.gpu_alloc_types.specs.Device.{IsAllocatable}
 use Rattle.gpu_alloc_types.specs.Device.Event.{Allocated}
 use Rattle.gpu_alloc_types.specs.Flags.{has_bit}
 use Rattle.gpu_alloc_types.specs.Properties.{Properties}
 use Rattle.gpu_alloc.specs.Candidates.{own_question, own_candidate, whole_block, holding}
 use Rattle.gpu_alloc_base.specs.Case.{Asks}
 use Rattle.gpu_alloc.specs.Inside.{state_in, properties_in}
-use Rattle.gpu_alloc.specs.Whole.{parts_of, whole, IsPlace}
+use Rattle.gpu_alloc.specs.Whole.{parts_of, whole, IsPartFor}
 use Rattle.gpu_alloc_block.specs.Parts.{Makes}
 use Rattle.gpu_alloc.proofs.Wholes.{own_comes, unheld_then}
 use Rattle.gpu_alloc_base.specs.NewChunk.{flags_of, made}
@@ -83,7 +83,7 @@ free g c =
     ap (λ (s : State). finite.get s.held c.object.result) c.self.view_is ∙ not_held c.args.self.now _ _ _ c.requires.agrees none
 
 came : (g : Over) (c : goal.After-new g)
-    → Makes (IsPlace (length c.self.inside.buddies.items) (length c.self.inside.free_lists.items)) (parts_of c.insert-key.new.self c.self.inside.buddies.items c.self.inside.free_lists.items c.self.inside.fits.items) (finite.insert (before g c).held c.object.result (object g c)) (set_of.insert (before g c).live (span_at c.object.result 0 c.args.request.size))
+    → Makes (IsPartFor (length c.self.inside.buddies.items) (length c.self.inside.free_lists.items)) (parts_of c.insert-key.new.self c.self.inside.buddies.items c.self.inside.free_lists.items c.self.inside.fits.items) (finite.insert (before g c).held c.object.result (object g c)) (set_of.insert (before g c).live (span_at c.object.result 0 c.args.request.size))
 came g c =
     own_comes c.self.inside.own c.self.inside.buddies.items c.self.inside.free_lists.items c.self.inside.fits.items c.self.invariant.apart c.insert-key.new.self (span_at c.object.result 0 c.args.request.size) (object g c) (free g c) refl
     (c.insert-key.ensures.held ∙ (λ k. finite.insert (c.reserve.ensures.kept k).held c.object.result (object g c)))
@@ -212,7 +212,7 @@ flag : (b : Bool) → IsTrue (has_bit (cond b 1 0) 1) → IsTrue b
 flag true bit = refl
 flag false bit = bit
 
-askable : (s : State) (p : Properties) (size t flags : ℕ) → p ≡ s.properties → 0 < size → t < length s.properties.memory_types → flags ≡ flags_of s.properties → IsAskable p size t flags
+askable : (s : State) (p : Properties) (size t flags : ℕ) → p ≡ s.properties → 0 < size → t < length s.properties.memory_types → flags ≡ flags_of s.properties → IsAllocatable p size t flags
 askable s p size t flags same nonempty known is = record {
   nonempty = nonempty;
   known = rw same known;

@@ -3,7 +3,7 @@ use Rattle.std.proofs.lemmas.Bool.{cases_lt}
 use Rattle.gpu_alloc_types.specs.Device.{Event}
 use Rattle.gpu_alloc_types.specs.Properties.{heap_size}
 use Rattle.gpu_alloc_base.specs.Case as case
-use Rattle.gpu_alloc.specs.Allocation.{strategy, TriesBy, Tries}
+use Rattle.gpu_alloc.specs.Allocation.{strategy, TriesBy, TriesCandidate}
 use Rattle.gpu_alloc.specs.Candidates.{candidate, own_candidate}
 use Rattle.gpu_alloc_block.specs.State.{State, Block}
 use Rattle.gpu_alloc.specs.declared.allocator.Strategy.{Strategy}
@@ -23,14 +23,14 @@ before_is InFitChunk s r t = refl
 
 -- where the heap is no smaller than the request, trying its way of being served is trying the candidate
 tries_by : (w : Strategy) (s : State) (r : Request) (hint : Option Dedicated) (t : ℕ) (es : List Event) (answer : Result (Option Block) AllocationError) (new : State)
-    → r.size ≤ heap_size s.properties t → w ≡ strategy s r hint t → TriesBy w s r t es answer new → Tries s r hint t es answer new
+    → r.size ≤ heap_size s.properties t → w ≡ strategy s r hint t → TriesBy w s r t es answer new → TriesCandidate s r hint t es answer new
 tries_by w s r hint t es (Ok None) new most is tried = (inr (most, subst (λ v. case.IsPassed (candidate v s r t) es) is tried.1), tried.0 ∙ before_is w s r t)
 tries_by w s r hint t es (Ok (Some b)) new most is tried = (most, subst (λ v. case.Decides (candidate v s r t) es (Ok b) new) is tried)
 tries_by w s r hint t es (Err e) new most is tried = (most, subst (λ v. case.Decides (candidate v s r t) es (Err e) new) is tried)
 
 -- a heap that is smaller than the request is passed, and one with too little left
 passed_unasked : (s : State) (r : Request) (hint : Option Dedicated) (t : ℕ) → OwnObject ≡ strategy s r hint t → (heap_size s.properties t < r.size) ⊎ ((0 < s.remaining) × case.IsOverBudget (own_candidate s r.size t))
-    → Tries s r hint t [] (Ok None) s
+    → TriesCandidate s r hint t [] (Ok None) s
 passed_unasked s r hint t own (inl larger) = (inl (larger, refl), refl)
 passed_unasked s r hint t own (inr over) = elim (cases_lt (heap_size s.properties t) r.size) [
   | inl larger ↦ (inl (larger, refl), refl)

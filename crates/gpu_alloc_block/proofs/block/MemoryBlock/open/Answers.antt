@@ -3,7 +3,7 @@ use Rattle.gpu_alloc_types.specs.Device.{Range, Row}
 use Rattle.gpu_alloc_types.specs.Device.Event.{Mapped}
 use Rattle.gpu_alloc_block.specs.Agreement.{BlockAgrees}
 use Rattle.gpu_alloc_block.proofs.Opened.{open_shared, open_answered, range_is}
-use Rattle.gpu_alloc_block.specs.Ranges.{rounded}
+use Rattle.gpu_alloc_block.specs.Ranges.{rounded_range}
 use Rattle.gpu_alloc_block.specs.State.{is_shared}
 use Rattle.gpu_alloc_block.proofs.block.MemoryBlock.open.Goals as goal
 
@@ -19,7 +19,7 @@ unfolding BlockAgrees
 returns-clause-ready g c =
     let p = g.D.ObjectDevice.properties c.args.device.now in
     let b = c.args.self.now in
-    let r : Range = rounded b c.args.offset c.args.len in
+    let r : Range = rounded_range b c.args.offset c.args.len in
     let some : 0 < b.atom = rw (← c.self.view_is) c.self.invariant.some in
     let same = g.met.D.ObjectDevice.keeps_properties _ _ _ c.map_memory.ensures in
     let row = g.met.D.ObjectDevice.row _ _ _ c.map_memory.ensures in

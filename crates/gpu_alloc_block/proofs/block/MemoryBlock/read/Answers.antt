@@ -6,9 +6,9 @@ use Rattle.gpu_alloc_block.specs.Agreement.{BlockAgrees}
 use Rattle.gpu_alloc_block.proofs.Between.{asked_around, some_asked, not_none, either_way, still_mapped, through, not_changed, changes_some}
 use Rattle.gpu_alloc_block.proofs.Changes.{changes_told}
 use Rattle.gpu_alloc_block.proofs.Moving.{not_read, read_within, partly_read_within, read_between, partly_read_between}
-use Rattle.gpu_alloc_block.specs.Bytes.{HasOnlyOtherBytes, IsOpen, IsReadThrough, IsPartlyRead, ReadsWithin, AsksToRead, EndsRead, getting, invalidate_fails}
+use Rattle.gpu_alloc_block.specs.Bytes.{HasOnlyOtherBytes, IsOpenForBytes, IsReadThrough, IsPartlyRead, ReadsWithin, AsksToRead, EndsRead, getting, invalidate_fails}
 use Rattle.gpu_alloc_block.specs.Mapped.{refusal, of_own, ObjectsMapped}
-use Rattle.gpu_alloc_block.specs.Ranges.{rounded}
+use Rattle.gpu_alloc_block.specs.Ranges.{rounded_range}
 use Rattle.gpu_alloc_block.proofs.block.MemoryBlock.read.Goals as goal
 
 pub returns-in-Some-clause-within : goal.returns-in-Some-clause-within
@@ -27,11 +27,11 @@ pub close-requires : goal.close-requires
 unfolding BlockAgrees
 close-requires g c = λ own.
     let b = c.args.self.now in
-    let r = rounded b c.args.offset (length c.args.bytes.now) in
+    let r = rounded_range b c.args.offset (length c.args.bytes.now) in
     let bytes = c.get-answer.new.bytes in
     let opened = g.D.MemoryDevice.objects c.open.new.device in
     let moved = g.D.MemoryDevice.objects c.get-answer.new.device in
-    let ready = subst (λ answer. OnOk answer (HeldWith opened b.object (IsOpen (g.D.MemoryDevice.properties c.open.new.device) b r))) c.in-Ok.is c.open.ensures.ready in
+    let ready = subst (λ answer. OnOk answer (HeldWith opened b.object (IsOpenForBytes (g.D.MemoryDevice.properties c.open.new.device) b r))) c.in-Ok.is c.open.ensures.ready in
     still_mapped (g.D.MemoryDevice.properties c.open.new.device) b r opened moved ready
     (either_way (IsReadThrough b c.args.offset bytes) (IsPartlyRead r) HasOnlyOtherBytes opened moved b.object c.get-answer.result (λ o new w. w.rest) (λ o new w. w.rest) c.get-answer.ensures.read c.get-answer.ensures.refused)
 
@@ -45,10 +45,10 @@ returns-in-Ok-answer-clause-asked g c =
     let long : length bytes ≡ len = c.get-answer.auto.bytes in
     let some = not_none len c.if-len-eq0.false in
     let some_read : 0 < length bytes = rw long some in
-    let mapped = subst (λ answer. Asked g.D.MemoryDevice.step c.args.device.now c.open.new.device (λ es. es ≡ of_own b (Mapped (rounded b c.args.offset len) answer ∷ []))) c.in-Ok.is c.open.ensures.asked in
-    let first = subst (λ n. Asked g.D.MemoryDevice.step c.args.device.now c.open.new.device (λ es. es ≡ of_own b (Mapped (rounded b c.args.offset n) (Ok tt) ∷ []))) (sym long) mapped in
+    let mapped = subst (λ answer. Asked g.D.MemoryDevice.step c.args.device.now c.open.new.device (λ es. es ≡ of_own b (Mapped (rounded_range b c.args.offset len) answer ∷ []))) c.in-Ok.is c.open.ensures.asked in
+    let first = subst (λ n. Asked g.D.MemoryDevice.step c.args.device.now c.open.new.device (λ es. es ≡ of_own b (Mapped (rounded_range b c.args.offset n) (Ok tt) ∷ []))) (sym long) mapped in
     let middle = subst (λ answer. OnOk answer (Asked g.D.MemoryDevice.step c.open.new.device c.get-answer.new.device (λ es. es ≡ getting b c.args.offset bytes))) c.in-Ok-answer.is c.get-answer.ensures.asked in
-    asked_around g.D.MemoryDevice.step c.args.device.now c.open.new.device c.get-answer.new.device c.close.new.device b (rounded b c.args.offset (length bytes)) (AsksToRead b c.args.offset bytes) (getting b c.args.offset bytes) (able, some_asked (length bytes) _ some_read) first middle c.close.ensures.asked
+    asked_around g.D.MemoryDevice.step c.args.device.now c.open.new.device c.get-answer.new.device c.close.new.device b (rounded_range b c.args.offset (length bytes)) (AsksToRead b c.args.offset bytes) (getting b c.args.offset bytes) (able, some_asked (length bytes) _ some_read) first middle c.close.ensures.asked
 
 pub returns-in-Ok-answer-clause-read : goal.returns-in-Ok-answer-clause-read
 unfolding BlockAgrees
@@ -56,7 +56,7 @@ returns-in-Ok-answer-clause-read g c =
     let b = c.args.self.now in
     let len = length c.args.bytes.now in
     let bytes = c.get-answer.new.bytes in
-    let r = rounded b c.args.offset len in
+    let r = rounded_range b c.args.offset len in
     let p = g.D.MemoryDevice.properties c.args.device.now in
     let f = g.D.MemoryDevice.objects c.args.device.now in
     let opened = g.D.MemoryDevice.objects c.open.new.device in
@@ -77,7 +77,7 @@ returns-in-Ok-answer-clause-within g c =
     let b = c.args.self.now in
     let len = length c.args.bytes.now in
     let bytes = c.get-answer.new.bytes in
-    let r = rounded b c.args.offset len in
+    let r = rounded_range b c.args.offset len in
     let p = g.D.MemoryDevice.properties c.args.device.now in
     let f = g.D.MemoryDevice.objects c.args.device.now in
     let opened = g.D.MemoryDevice.objects c.open.new.device in
@@ -99,7 +99,7 @@ returns-in-Err-answer-clause-refused g c =
     let b = c.args.self.now in
     let len = length c.args.bytes.now in
     let bytes = c.get-answer.new.bytes in
-    let r = rounded b c.args.offset len in
+    let r = rounded_range b c.args.offset len in
     let p = g.D.MemoryDevice.properties c.args.device.now in
     let f = g.D.MemoryDevice.objects c.args.device.now in
     let opened = g.D.MemoryDevice.objects c.open.new.device in
@@ -124,7 +124,7 @@ returns-in-Err-answer-clause-within g c =
     let b = c.args.self.now in
     let len = length c.args.bytes.now in
     let bytes = c.get-answer.new.bytes in
-    let r = rounded b c.args.offset len in
+    let r = rounded_range b c.args.offset len in
     let p = g.D.MemoryDevice.properties c.args.device.now in
     let f = g.D.MemoryDevice.objects c.args.device.now in
     let opened = g.D.MemoryDevice.objects c.open.new.device in
@@ -145,6 +145,6 @@ returns-in-Err-clause-within g c =
     let f = g.D.MemoryDevice.objects c.args.device.now in
     let opened = g.D.MemoryDevice.objects c.open.new.device in
     let within = ReadsWithin b c.args.offset (length c.args.bytes.now) in
-    let same : opened ≡ f = subst (λ answer. ObjectsMapped b (rounded b c.args.offset (length c.args.bytes.now)) answer f opened) c.in-Err.is c.open.ensures.objects in
+    let same : opened ≡ f = subst (λ answer. ObjectsMapped b (rounded_range b c.args.offset (length c.args.bytes.now)) answer f opened) c.in-Err.is c.open.ensures.objects in
     subst (λ objects. Changes within f b.object objects) (sym same)
     (not_changed (g.D.MemoryDevice.properties c.args.device.now) b f within (not_read b c.args.offset (length c.args.bytes.now)) c.requires.agrees)

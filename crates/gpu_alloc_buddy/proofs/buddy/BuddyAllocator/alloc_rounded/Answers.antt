@@ -2,7 +2,7 @@ use Rattle.std.proofs.Common.{◌^◌, [], inl, Err, IfOk, refl, ap, subst, arit
 use Rattle.gpu_alloc_types.specs.Flags.{allocation_bits}
 use Rattle.gpu_alloc_base.specs.Accounts.{account}
 use Rattle.gpu_alloc_base.specs.Case.{Answers}
-use Rattle.gpu_alloc_buddy.specs.Buddy.{BeginsChunk, HasPlace, buddy_case}
+use Rattle.gpu_alloc_buddy.specs.Buddy.{BeginsBuddyChunk, HasPlace, buddy_case}
 use Rattle.gpu_alloc_buddy.specs.BuddySteps.{CountsHalving}
 use Rattle.gpu_alloc_base.proofs.Unasked.{answers_unasked, asks_unrefused}
 use Rattle.gpu_alloc_buddy.proofs.BuddyAnswers.{fits, fits_not, place_refused}
@@ -71,7 +71,7 @@ returns-in-None-clause-answers g c =
 pub returns-in-None-clause-steps : goal.returns-in-None-clause-steps
 returns-in-None-clause-steps g c =
     let none = rw (c.in-Ok-None.field-0-is) at c.in-Ok-None.ensures.takes in
-    let begins = subst (λ b. IfOk c.take_chunk.result (BeginsChunk b (2 ^ c.args.order))) none.1 c.take_chunk.ensures.begins in
+    let begins = subst (λ b. IfOk c.take_chunk.result (BeginsBuddyChunk b (2 ^ c.args.order))) none.1 c.take_chunk.ensures.begins in
     granted_counts c.args.self.now c.args.order c.take_chunk.result c.args.looks.now c.take_place.new.looks c.args.splits.now c.take_chunk.new.splits begins
 
 -- A block that begins a chunk.
@@ -85,7 +85,7 @@ pub returns-in-None-clause-begun : goal.returns-in-None-clause-begun
 returns-in-None-clause-begun g c =
     let none = rw (c.in-Ok-None.field-0-is) at c.in-Ok-None.ensures.takes in
     let searched = rw (c.in-Ok-None.field-0-is) at c.in-Ok-None.ensures.counted in
-    let begins = subst (λ b. IfOk c.take_chunk.result (BeginsChunk b (2 ^ c.args.order))) none.1 c.take_chunk.ensures.begins in
+    let begins = subst (λ b. IfOk c.take_chunk.result (BeginsBuddyChunk b (2 ^ c.args.order))) none.1 c.take_chunk.ensures.begins in
     let halved = subst (λ b. IfOk c.take_chunk.result (λ _. CountsHalving b c.args.order c.take_place.new.splits c.take_chunk.new.splits)) none.1 c.take_chunk.ensures.halved in
     granted_begins c.args.self.now c.args.order c.take_chunk.result c.args.looks.now c.take_place.new.looks c.args.splits.now c.take_chunk.new.splits begins searched.0
     (subst (λ n. IfOk c.take_chunk.result (λ _. CountsHalving c.args.self.now c.args.order n c.take_chunk.new.splits)) searched.1 halved)

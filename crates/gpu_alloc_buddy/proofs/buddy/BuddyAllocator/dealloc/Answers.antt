@@ -7,7 +7,7 @@ use Rattle.gpu_alloc_base.specs.Chunks.{Chunk}
 use Rattle.gpu_alloc_base.specs.declared.heap.Heap.{Heap}
 use Rattle.gpu_alloc_buddy.specs.Buddy.{Frees}
 use Rattle.gpu_alloc_buddy.specs.BuddyInside.{buddy_in}
-use Rattle.gpu_alloc_buddy.specs.BuddyState.{Buddy, IsLiveLeaf}
+use Rattle.gpu_alloc_buddy.specs.BuddyState.{Buddy, IsLiveBuddyLeaf}
 use Rattle.gpu_alloc_buddy.proofs.BuddyReturns.{agrees_without, frees_counted, frees_goes, frees_stays, frees_total, is_counted, object_is, one_more_fits}
 use Rattle.gpu_alloc_buddy.proofs.BuddySteps.{few_at_most}
 use Rattle.gpu_alloc_buddy.proofs.InHand.{frees_remove, leaves_no_rest}
@@ -22,7 +22,7 @@ returns-in_default-clause-frees g c =
     rw (← c.self.view_is, ← c.into_parts.ensures.leaf) (
       [],
       refl,
-      frees_stays c.self.inside.pairs.space c.give_back-gone.new.self.space c.self.inside.next_order c.self.inside.minimal_size c.self.inside.memory_type (property_bits c.self.inside.props) c.self.inside.atom c.into_parts.result.1
+      frees_stays c.self.inside.pairs.space c.put_back-gone.new.self.space c.self.inside.next_order c.self.inside.minimal_size c.self.inside.memory_type (property_bits c.self.inside.props) c.self.inside.atom c.into_parts.result.1
           c.args.heap.now c.args.allocations_remains.now c.in_default.ensures.stays,
     )
 
@@ -30,17 +30,17 @@ pub returns-in_default-clause-at_most : goal.returns-in_default-clause-at_most
 returns-in_default-clause-at_most g c =
     let b = buddy_in c.self.inside.pairs.space c.self.inside.next_order c.self.inside.minimal_size c.self.inside.memory_type (property_bits c.self.inside.props) c.self.inside.atom in
     let live = rw (← c.self.view_is, ← c.into_parts.ensures.leaf) at c.requires.live in
-    few_at_most b c.into_parts.result.1 c.args.releases.now c.give_back-gone.new.releases c.keeps_exact.ensures.sound live c.give_back-gone.ensures.some c.give_back-gone.ensures.few
+    few_at_most b c.into_parts.result.1 c.args.releases.now c.put_back-gone.new.releases c.keeps_exact.ensures.sound live c.put_back-gone.ensures.some c.put_back-gone.ensures.few
 
 pub returns-in_default-clause-removed : goal.returns-in_default-clause-removed
 returns-in_default-clause-removed g c =
     let frees = returns-in_default-clause-frees g c in
     frees_remove (account c.args.self.now c.args.heap.now c.args.allocations_remains.now) c.args.block frees.0
-    (account (buddy_in c.give_back-gone.new.self.space c.self.inside.next_order c.self.inside.minimal_size c.self.inside.memory_type (property_bits c.self.inside.props) c.self.inside.atom) c.args.heap.now c.args.allocations_remains.now)
+    (account (buddy_in c.put_back-gone.new.self.space c.self.inside.next_order c.self.inside.minimal_size c.self.inside.memory_type (property_bits c.self.inside.props) c.self.inside.atom) c.args.heap.now c.args.allocations_remains.now)
     c.requires.live frees.2
 
 pub returns-in_default-clause-rest : goal.returns-in_default-clause-rest
-returns-in_default-clause-rest g c = leaves_no_rest c.give_back-gone.new.self.space c.keeps_exact-2.ensures.sound
+returns-in_default-clause-rest g c = leaves_no_rest c.put_back-gone.new.self.space c.keeps_exact-2.ensures.sound
 
 -- Its chunk goes.
 
@@ -50,7 +50,7 @@ held g c = record { object = g.M.MemoryObject.object c.in-Some.memory; size = c.
 abbrev before : (g : Over) → In-Some g → Buddy
 before g c = buddy_in c.self.inside.pairs.space c.self.inside.next_order c.self.inside.minimal_size c.self.inside.memory_type (property_bits c.self.inside.props) c.self.inside.atom
 
-live : (g : Over) (c : In-Some g) → IsLiveLeaf (before g c) c.into_parts.result.1
+live : (g : Over) (c : In-Some g) → IsLiveBuddyLeaf (before g c) c.into_parts.result.1
 live g c = rw (← c.self.view_is, ← c.into_parts.ensures.leaf) at c.requires.live
 
 is_held : (g : Over) (c : In-Some g) → map.get c.self.inside.pairs.space.chunks c.into_parts.result.1.chunk ≡ Some (held g c)
@@ -76,9 +76,9 @@ named g c = sym (object_is (before g c) c.into_parts.result.1 (held g c) c.keeps
 
 frees : (g : Over) (c : In-Some g) (less : Heap) → less ≡ record c.args.heap.now { used = c.args.heap.now.used - c.in-Some.size }
     → Frees (account (before g c) c.args.heap.now c.args.allocations_remains.now) c.into_parts.result.1 (Deallocated c.into_parts.result.1.object ∷ [])
-    (account (buddy_in c.give_back-gone.new.self.space c.self.inside.next_order c.self.inside.minimal_size c.self.inside.memory_type (property_bits c.self.inside.props) c.self.inside.atom) less (c.args.allocations_remains.now + 1))
+    (account (buddy_in c.put_back-gone.new.self.space c.self.inside.next_order c.self.inside.minimal_size c.self.inside.memory_type (property_bits c.self.inside.props) c.self.inside.atom) less (c.args.allocations_remains.now + 1))
 frees g c less is =
-    frees_goes c.self.inside.pairs.space c.give_back-gone.new.self.space c.self.inside.next_order c.self.inside.minimal_size c.self.inside.memory_type (property_bits c.self.inside.props) c.self.inside.atom c.into_parts.result.1
+    frees_goes c.self.inside.pairs.space c.put_back-gone.new.self.space c.self.inside.next_order c.self.inside.minimal_size c.self.inside.memory_type (property_bits c.self.inside.props) c.self.inside.atom c.into_parts.result.1
     c.args.heap.now c.args.allocations_remains.now (held g c) less c.in-Some.ensures.goes is
 
 pub returns-clause-frees : goal.returns-clause-frees
@@ -114,14 +114,14 @@ returns-clause-total g c =
 pub returns-clause-at_most : goal.returns-clause-at_most
 returns-clause-at_most g c =
     let at = (goal.at.returns-clause-at_most g c).In-Some in
-    few_at_most (before g at) c.into_parts.result.1 c.args.releases.now c.give_back-gone.new.releases c.keeps_exact.ensures.sound (live g at) c.give_back-gone.ensures.some c.give_back-gone.ensures.few
+    few_at_most (before g at) c.into_parts.result.1 c.args.releases.now c.put_back-gone.new.releases c.keeps_exact.ensures.sound (live g at) c.put_back-gone.ensures.some c.put_back-gone.ensures.few
 
 pub returns-clause-removed : goal.returns-clause-removed
 returns-clause-removed g c =
     let frees = returns-clause-frees g c in
     frees_remove (account c.args.self.now c.args.heap.now c.args.allocations_remains.now) c.args.block frees.0
-    (account (buddy_in c.give_back-gone.new.self.space c.self.inside.next_order c.self.inside.minimal_size c.self.inside.memory_type (property_bits c.self.inside.props) c.self.inside.atom) c.let_go.new.heap c.let_go.new.allocations_remains)
+    (account (buddy_in c.put_back-gone.new.self.space c.self.inside.next_order c.self.inside.minimal_size c.self.inside.memory_type (property_bits c.self.inside.props) c.self.inside.atom) c.let_go.new.heap c.let_go.new.allocations_remains)
     c.requires.live frees.2
 
 pub returns-clause-rest : goal.returns-clause-rest
-returns-clause-rest g c = leaves_no_rest c.give_back-gone.new.self.space c.keeps_exact-2.ensures.sound
+returns-clause-rest g c = leaves_no_rest c.put_back-gone.new.self.space c.keeps_exact-2.ensures.sound

@@ -7,7 +7,7 @@ use Rattle.gpu_alloc_base.specs.Chunks.{Chunk}
 use Rattle.gpu_alloc_base.specs.NewChunk.{HasOneChunkMore, chunk_question, made}
 use Rattle.gpu_alloc_base.proofs.Books.{object_more, refused_chunk}
 use Rattle.gpu_alloc_base.proofs.Maps.{own_inserted}
-use Rattle.gpu_alloc_buddy.specs.Buddy.{buddy_case, chunk_size, question, with_chunk, with_leaf}
+use Rattle.gpu_alloc_buddy.specs.Buddy.{buddy_case, buddy_with_chunk, buddy_with_leaf, chunk_size, question}
 use Rattle.gpu_alloc_buddy.specs.BuddyInside.{buddy_in}
 use Rattle.gpu_alloc_buddy.specs.BuddyState.{Buddy}
 use Rattle.gpu_alloc_buddy.proofs.BuddyGrants.{in_new_chunk_is, question_is}
@@ -63,7 +63,7 @@ returns-clause-answers g c =
     let flags = allocation_bits c.args.flags in
     let es_is : told.0 ≡ made (question b (2 ^ c.args.order) flags) leaf.object =
     told.2.0 ∙ ap (λ q. made q (g.M.MemoryObject.object c.in-Ok.handles.0)) (asked g at) ∙ ap (made (question b (2 ^ c.args.order) flags)) (sym c.begin-leaf.ensures.object) in
-    let space_is : buddy_in c.begin-leaf.new.self.space c.chunk_order-chunk_order.result c.self.inside.minimal_size c.self.inside.memory_type (property_bits c.self.inside.props) c.self.inside.atom ≡ with_leaf (with_chunk b leaf (2 ^ c.chunk_order-chunk_order.result)) leaf =
+    let space_is : buddy_in c.begin-leaf.new.self.space c.chunk_order-chunk_order.result c.self.inside.minimal_size c.self.inside.memory_type (property_bits c.self.inside.props) c.self.inside.atom ≡ buddy_with_leaf (buddy_with_chunk b leaf (2 ^ c.chunk_order-chunk_order.result)) leaf =
     rw (c.begin-leaf.ensures.space, c.reserve.ensures.kept.space) refl in
     let new_is = in_new_chunk_is (account b c.args.heap.now c.args.allocations_remains.now) leaf _ (2 ^ c.chunk_order-chunk_order.result) c.bytes-size.result _ c.hold.new.heap
     space_is c.hold.ensures.ledger (sym (sized g at)) (c.bytes-size.ensures ∙ sym (sized g at)) in

@@ -4,9 +4,9 @@ use Rattle.gpu_alloc_base.specs.Accounts.{IsCounted, account}
 use Rattle.gpu_alloc_base.specs.Case.{Answers}
 use Rattle.gpu_alloc_fit.specs.Fit.{Agrees, ObjectsAfter, fit_case}
 use Rattle.gpu_alloc_fit.specs.FitSound.{fitting_in}
-use Rattle.gpu_alloc_fit.specs.FitSound.{IsSound}
+use Rattle.gpu_alloc_fit.specs.FitSound.{IsSoundFitting}
 use Rattle.gpu_alloc_fit.specs.Fit.{Fitting}
-use Rattle.gpu_alloc_fits.specs.Space.{IsSoundSpace, Space}
+use Rattle.gpu_alloc_fits.specs.Space.{FitSpace, IsSoundFitSpace}
 use Rattle.gpu_alloc_base.specs.declared.error.AllocationError.TheVariants.{OutOfHostMemory}
 use Rattle.gpu_alloc_fit.specs.declared.fit.FitAllocator.TheInside.{Inside}
 use Rattle.gpu_alloc_base.proofs.Unasked.{answers_unasked, asks_unrefused}
@@ -15,7 +15,7 @@ use Rattle.gpu_alloc_fit.proofs.fit.FitAllocator.alloc_rounded.Given.{Over}
 use Rattle.gpu_alloc_fit.proofs.fit.FitAllocator.alloc_rounded.Goals as goal
 
 -- the allocator, its space being this
-abbrev over : (g : Over) → Inside g.row.M.Denot g.row.A.Denot → Space → Fitting
+abbrev over : (g : Over) → Inside g.row.M.Denot g.row.A.Denot → FitSpace → Fitting
 over g a s = fitting_in s a.chunk_size a.final_chunk_size a.memory_type (property_bits a.props) (a.atom_mask + 1)
 
 -- A block is cut from a held chunk.
@@ -27,7 +27,7 @@ invariant_of-self g c =
     let took = rw (c.in-Ok-Some.field-0-is) at c.in-Ok-Some.ensures.takes in
     let asked = askable l c.args.size c.args.align_mask rounded in
     let place = took.0 in
-    rw (took.1) (sound_with_slot l c.in-Ok-Some.block c.self.invariant (subst IsSoundSpace took.1 c.keeps_sound.ensures) (fitting_of_atoms l c.args.size (c.args.align_mask + 1) c.in-Ok-Some.block c.self.invariant asked place))
+    rw (took.1) (sound_with_slot l c.in-Ok-Some.block c.self.invariant (subst IsSoundFitSpace took.1 c.keeps_sound.ensures) (fitting_of_atoms l c.args.size (c.args.align_mask + 1) c.in-Ok-Some.block c.self.invariant asked place))
 
 pub returns-in-Ok-Some-clause-answers : goal.returns-in-Ok-Some-clause-answers
 returns-in-Ok-Some-clause-answers g c =
@@ -46,7 +46,7 @@ returns-in-Ok-Some-clause-objects g c =
     rw (← c.self.view_is, took.0.held) refl
 
 pub returns-in-Ok-Some-clause-was : goal.returns-in-Ok-Some-clause-was
-returns-in-Ok-Some-clause-was g c = subst IsSound c.self.view_is c.self.invariant
+returns-in-Ok-Some-clause-was g c = subst IsSoundFitting c.self.view_is c.self.invariant
 
 -- There is a place, but no host memory.
 
@@ -65,7 +65,7 @@ returns-in-Err-clause-answers g c =
     )
 
 pub returns-in-Err-clause-was : goal.returns-in-Err-clause-was
-returns-in-Err-clause-was g c = subst IsSound c.self.view_is c.self.invariant
+returns-in-Err-clause-was g c = subst IsSoundFitting c.self.view_is c.self.invariant
 
 -- There is none, and no chunk may be asked for.
 
@@ -83,7 +83,7 @@ returns-in-Some-clause-answers g c =
     )
 
 pub returns-in-Some-clause-was : goal.returns-in-Some-clause-was
-returns-in-Some-clause-was g c = subst IsSound c.self.view_is c.self.invariant
+returns-in-Some-clause-was g c = subst IsSoundFitting c.self.view_is c.self.invariant
 
 -- A chunk is asked for.
 
@@ -133,7 +133,7 @@ returns-in-None-clause-objects g c =
     subst (λ x. ObjectsAfter x c.take_chunk.result c.take_chunk.new.self (g.D.ObjectDevice.objects c.args.device.now) (g.D.ObjectDevice.objects c.take_chunk.new.device)) same c.take_chunk.ensures.objects
 
 pub returns-in-None-clause-was : goal.returns-in-None-clause-was
-returns-in-None-clause-was g c = subst IsSound c.self.view_is c.self.invariant
+returns-in-None-clause-was g c = subst IsSoundFitting c.self.view_is c.self.invariant
 
 pub returns-in-Ok-Some-clause-sound : goal.returns-in-Ok-Some-clause-sound
 returns-in-Ok-Some-clause-sound g c = invariant_of-self g c

@@ -7,7 +7,7 @@ use Rattle.gpu_alloc_base.specs.Chunks.{Chunk}
 use Rattle.gpu_alloc_base.specs.declared.heap.Heap.{Heap}
 use Rattle.gpu_alloc_fit.specs.Fit.{Fitting, Goes}
 use Rattle.gpu_alloc_fit.specs.FitSound.{fitting_in}
-use Rattle.gpu_alloc_fits.specs.Space.{IsSoundSpace}
+use Rattle.gpu_alloc_fits.specs.Space.{IsSoundFitSpace}
 use Rattle.gpu_alloc_fit.proofs.FitReturns.{agrees_without, goes_counted, goes_so, goes_total, is_counted, no_rest, one_more_fits, sound_without_chunk}
 use Rattle.gpu_alloc_fit.proofs.fit.FitAllocator.cleanup.Given.{Over}
 use Rattle.gpu_alloc_fit.proofs.fit.FitAllocator.cleanup.Goals.{In-Some}
@@ -49,7 +49,7 @@ pub invariant_of-self-2 : goal.invariant_of-self-2
 invariant_of-self-2 g c =
     let at = (goal.at.invariant_of-self-2 g c).In-Some in
     let is = c.in-Some.ensures.some.1.1 in
-    rw is (sound_without_chunk (before g at) (before g at).space c.in-Some.field-0-2 c.self.invariant refl (λ q live. live) (subst IsSoundSpace is c.keeps_sound.ensures))
+    rw is (sound_without_chunk (before g at) (before g at).space c.in-Some.field-0-2 c.self.invariant refl (λ q live. live) (subst IsSoundFitSpace is c.keeps_sound.ensures))
 
 pub returns-clause-sound : goal.returns-clause-sound
 returns-clause-sound g c = invariant_of-self-2 g c

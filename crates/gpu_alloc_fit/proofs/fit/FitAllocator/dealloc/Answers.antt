@@ -8,7 +8,7 @@ use Rattle.gpu_alloc_base.specs.declared.heap.Heap.{Heap}
 use Rattle.gpu_alloc_base.proofs.Slots.{slot_removed}
 use Rattle.gpu_alloc_fit.specs.Fit.{Fitting, Goes, account_without}
 use Rattle.gpu_alloc_fit.specs.FitSound.{fitting_in}
-use Rattle.gpu_alloc_fits.specs.Space.{IsSoundSpace, without_slot}
+use Rattle.gpu_alloc_fits.specs.Space.{IsSoundFitSpace, without_slot}
 use Rattle.gpu_alloc_fit.proofs.FitReturns.{agrees_without, goes_counted, goes_so, goes_total, is_counted, one_more_fits, sound_without_chunk, sound_without_slot}
 use Rattle.gpu_alloc_fit.proofs.fit.FitAllocator.dealloc.Given.{Over}
 use Rattle.gpu_alloc_fit.proofs.fit.FitAllocator.dealloc.Goals.{In-Some}
@@ -20,7 +20,7 @@ pub invariant_of-self : goal.invariant_of-self
 invariant_of-self g c =
     let f : Fitting = fitting_in c.self.inside.fits.space c.self.inside.chunk_size c.self.inside.final_chunk_size c.self.inside.memory_type (property_bits c.self.inside.props) (c.self.inside.atom_mask + 1) in
     let is = c.in_default.ensures.stays.1 in
-    rw is (sound_without_slot f c.args.block c.self.invariant (subst IsSoundSpace is c.keeps_sound.ensures))
+    rw is (sound_without_slot f c.args.block c.self.invariant (subst IsSoundFitSpace is c.keeps_sound.ensures))
 
 pub returns-in_default-clause-sound : goal.returns-in_default-clause-sound
 returns-in_default-clause-sound g c = invariant_of-self g c
@@ -31,7 +31,7 @@ abbrev before : (g : Over) → In-Some g → Fitting
 before g c = fitting_in c.self.inside.fits.space c.self.inside.chunk_size c.self.inside.final_chunk_size c.self.inside.memory_type (property_bits c.self.inside.props) (c.self.inside.atom_mask + 1)
 
 abbrev after : (g : Over) → In-Some g → Fitting
-after g c = fitting_in c.give_back-gone.new.self.space c.self.inside.chunk_size c.self.inside.final_chunk_size c.self.inside.memory_type (property_bits c.self.inside.props) (c.self.inside.atom_mask + 1)
+after g c = fitting_in c.put_back-gone.new.self.space c.self.inside.chunk_size c.self.inside.final_chunk_size c.self.inside.memory_type (property_bits c.self.inside.props) (c.self.inside.atom_mask + 1)
 
 abbrev held : (g : Over) → In-Some g → Chunk
 held g c = record { object = g.M.MemoryObject.object c.in-Some.memory; size = c.in-Some.size }
@@ -58,7 +58,7 @@ invariant_of-self-2 g c =
     let at = (goal.at.invariant_of-self-2 g c).In-Some in
     let is = c.in-Some.ensures.goes.1.1 in
     rw is (sound_without_chunk (before g at) (without_slot (before g at).space c.args.block) c.args.block.chunk c.self.invariant refl (λ q live. ((slot_removed (before g at).space.live c.args.block q).0 live).1)
-    (subst IsSoundSpace is c.keeps_sound.ensures))
+    (subst IsSoundFitSpace is c.keeps_sound.ensures))
 
 pub returns-clause-sound : goal.returns-clause-sound
 returns-clause-sound g c = invariant_of-self-2 g c
@@ -66,7 +66,7 @@ returns-clause-sound g c = invariant_of-self-2 g c
 goes : (g : Over) (c : In-Some g) (less : Heap) → less ≡ record c.args.heap.now { used = c.args.heap.now.used - c.in-Some.size }
     → Goes (account_without (account (before g c) c.args.heap.now c.args.allocations_remains.now) c.args.block) c.args.block.chunk (Deallocated (held g c).object ∷ []) (account (after g c) less (c.args.allocations_remains.now + 1))
 goes g c less is =
-    goes_so (without_slot (before g c).space c.args.block) c.give_back-gone.new.self.space c.self.inside.chunk_size c.self.inside.final_chunk_size c.self.inside.memory_type (property_bits c.self.inside.props) (c.self.inside.atom_mask + 1)
+    goes_so (without_slot (before g c).space c.args.block) c.put_back-gone.new.self.space c.self.inside.chunk_size c.self.inside.final_chunk_size c.self.inside.memory_type (property_bits c.self.inside.props) (c.self.inside.atom_mask + 1)
     c.args.block.chunk c.args.heap.now less c.args.allocations_remains.now (held g c) (is_held g c) c.in-Some.ensures.goes.1.1 is
 
 pub returns-clause-frees : goal.returns-clause-frees

@@ -7,9 +7,9 @@ use Rattle.gpu_alloc_fit.specs.Fit.{ObjectsAfter, chunk_size, fit_case, next_siz
 use Rattle.gpu_alloc_base.proofs.Books.{object_more, refused_chunk}
 use Rattle.gpu_alloc_base.proofs.Maps.{own_inserted}
 use Rattle.gpu_alloc_fit.specs.FitSound.{fitting_in}
-use Rattle.gpu_alloc_fit.specs.FitSound.{IsSound}
+use Rattle.gpu_alloc_fit.specs.FitSound.{IsSoundFitting}
 use Rattle.gpu_alloc_fit.specs.Fit.{Fitting}
-use Rattle.gpu_alloc_fits.specs.Space.{BeginsChunk, IsSoundSpace, IsUnheld, Space, with_chunk, with_slot}
+use Rattle.gpu_alloc_fits.specs.Space.{BeginsFitChunk, FitSpace, IsSoundFitSpace, IsUnheld, with_chunk, with_slot}
 use Rattle.gpu_alloc_base.specs.NewChunk.{ChunkQuestion, HasOneChunkMore, chunk_question, made}
 use Rattle.std.specs.FinMap as map
 use Rattle.gpu_alloc_base.specs.Chunks.{Chunk}
@@ -48,8 +48,8 @@ invariant_of-self-3 g c =
     let asked = askable f c.args.size c.args.align_mask rounded in
     let is = grown_is f c.reserve.new.self.space c.begin-block.new.self.space c.begin-block.result c.chunk_size_for-chunk_size.result c.min-self-inside.result c.args.size
     c.reserve.ensures.kept c.begin-block.ensures.space c.chunk_size_for-chunk_size.ensures.is c.min-self-inside.ensures in
-    let begins = subst (λ s. BeginsChunk s c.args.size c.begin-block.result) c.reserve.ensures.kept c.begin-block.ensures.begins in
-    subst IsSound (sym is) (sound_grown f c.begin-block.result c.args.size (c.args.align_mask + 1) c.self.invariant asked begins (subst IsSoundSpace (ap (λ (x : Fitting). x.space) is) c.keeps_sound.ensures))
+    let begins = subst (λ s. BeginsFitChunk s c.args.size c.begin-block.result) c.reserve.ensures.kept c.begin-block.ensures.begins in
+    subst IsSoundFitting (sym is) (sound_grown f c.begin-block.result c.args.size (c.args.align_mask + 1) c.self.invariant asked begins (subst IsSoundFitSpace (ap (λ (x : Fitting). x.space) is) c.keeps_sound.ensures))
 
 pub begin-block-requires-clause-new_object : goal.begin-block-requires-clause-new_object
 begin-block-requires-clause-new_object g c =
@@ -94,7 +94,7 @@ hold-requires-clause-remains g c =
     asks.has.remains.objects
 
 -- the answer where a block begins the new chunk
-grown_answers : (f : Fitting) (heap now : Heap) (remaining size alignment flags object whole next : ℕ) (s grown : Space) (slot : Slot) (es : List Event) (q : ChunkQuestion) → s ≡ f.space → slot.object ≡ object → BeginsChunk s size slot
+grown_answers : (f : Fitting) (heap now : Heap) (remaining size alignment flags object whole next : ℕ) (s grown : FitSpace) (slot : Slot) (es : List Event) (q : ChunkQuestion) → s ≡ f.space → slot.object ≡ object → BeginsFitChunk s size slot
     → grown ≡ with_slot (with_chunk s slot whole) slot → whole ≡ chunk_size f size → next ≡ next_size f whole → now ≡ record heap { used = heap.used + whole } → q ≡ question f size flags → es ≡ made q object
     → Asks (fit_case (account f heap remaining) size alignment flags) → Answers (fit_case (account f heap remaining) size alignment flags) es (Ok slot) (account (record f { space = grown; next_chunk = next }) now (remaining - 1))
 grown_answers f heap now remaining size alignment flags object whole next s grown slot es q s_is named begins grown_to whole_is next_is now_is q_is es_is asks =
@@ -102,7 +102,7 @@ grown_answers f heap now remaining size alignment flags object whole next s grow
     let ledger : now ≡ record heap { used = heap.used + chunk_size f size } = now_is ∙ ap (λ n. record heap { used = heap.used + n }) whole_is in
     inr (record {
       asks = asks;
-      place = subst (λ x. BeginsChunk x size slot) s_is begins;
+      place = subst (λ x. BeginsFitChunk x size slot) s_is begins;
       asked = es_is ∙ ap (λ x. made x object) q_is ∙ ap (made (question f size flags)) (sym named);
       state = λ i. account (grows i) (ledger i) (remaining - 1);
     })
@@ -126,16 +126,16 @@ returns-clause-answers g c =
     )
 
 -- and the device's objects
-grown_objects : (f : Fitting) (size flags object whole next : ℕ) (s grown : Space) (slot : Slot) (q : ChunkQuestion) (old new : ℕ → Option Object) → s ≡ f.space → slot.object ≡ object → BeginsChunk s size slot
+grown_objects : (f : Fitting) (size flags object whole next : ℕ) (s grown : FitSpace) (slot : Slot) (q : ChunkQuestion) (old new : ℕ → Option Object) → s ≡ f.space → slot.object ≡ object → BeginsFitChunk s size slot
     → grown ≡ with_slot (with_chunk s slot whole) slot → whole ≡ chunk_size f size → q ≡ question f size flags → HasOneChunkMore q object old new → ObjectsAfter f (Ok slot) (record f { space = grown; next_chunk = next }) old new
 grown_objects f size flags object whole next s grown slot q old new s_is named begins grown_is whole_is q_is more =
     let chunk : Chunk = record { object = slot.object; size = chunk_size f size } in
     let chunks : grown.chunks ≡ map.insert f.space.chunks slot.chunk chunk =
-    ap (λ (x : Space). x.chunks) grown_is
-    ∙ ap (λ (x : Space). map.insert x.chunks slot.chunk (record { object = slot.object; size = whole })) s_is
+    ap (λ (x : FitSpace). x.chunks) grown_is
+    ∙ ap (λ (x : FitSpace). map.insert x.chunks slot.chunk (record { object = slot.object; size = whole })) s_is
     ∙ ap (λ n. map.insert f.space.chunks slot.chunk (record { object = slot.object; size = n })) whole_is in
     object_more f.memory_type f.props f.space.chunks grown.chunks slot.chunk chunk (question f size flags) old new
-    (subst (λ (x : Space). map.get x.chunks slot.chunk ≡ None) s_is begins.free_key) (ap (λ m. map.get m slot.chunk) chunks ∙ own_inserted f.space.chunks slot.chunk chunk) refl refl refl
+    (subst (λ (x : FitSpace). map.get x.chunks slot.chunk ≡ None) s_is begins.free_key) (ap (λ m. map.get m slot.chunk) chunks ∙ own_inserted f.space.chunks slot.chunk chunk) refl refl refl
     (subst (λ n. HasOneChunkMore (question f size flags) n old new) (sym named) (subst (λ x. HasOneChunkMore x object old new) q_is more))
 
 pub returns-clause-objects : goal.returns-clause-objects

@@ -1,7 +1,7 @@
 use Rattle.std.proofs.Common.{◌≡◌, refl, sym, ◌∙◌, ap, subst, arith}
 use Rattle.gpu_alloc_base.specs.declared.free_list_block.Slot.{Slot}
-use Rattle.gpu_alloc_fits.specs.Fits.{HasRooms, Store}
-use Rattle.gpu_alloc_fits.specs.Inside.{chunks_in, space_in}
+use Rattle.gpu_alloc_fits.specs.Fits.{FitStore, HasTileRooms}
+use Rattle.gpu_alloc_fits.specs.Inside.{chunks_of_rows, fit_space_in}
 use Rattle.gpu_alloc_fits.specs.Space.{IsUnheld, with_chunk, with_slot}
 use Rattle.gpu_alloc_fits.specs.declared.fits.Chunk.{Chunk as Row}
 use Rattle.gpu_alloc_fits.proofs.Held.{come_begins, come_kept, come_space, come_stored}
@@ -14,19 +14,19 @@ use Rattle.gpu_alloc_fits.proofs.fits.Fits.begin.Goals as goal
 abbrev row : (g : Over) → goal.After-new g → Row g.row.M.Denot
 row g c = record { memory = c.args.memory; size = c.args.memory_size }
 
-unheld : (g : Over) (c : goal.After-new g) → IsUnheld (space_in (chunks_in g.M.MemoryObject.object c.self.inside.chunks) c.self.inside.tiles) (g.M.MemoryObject.object c.args.memory)
-unheld g c = subst (λ (s : Store). IsUnheld s.space (g.M.MemoryObject.object c.args.memory)) (sym c.self.view_is) c.requires.new_object
+unheld : (g : Over) (c : goal.After-new g) → IsUnheld (fit_space_in (chunks_of_rows g.M.MemoryObject.object c.self.inside.chunks) c.self.inside.tiles) (g.M.MemoryObject.object c.args.memory)
+unheld g c = subst (λ (s : FitStore). IsUnheld s.space (g.M.MemoryObject.object c.args.memory)) (sym c.self.view_is) c.requires.new_object
 
 pub cut_out-block-requires-clause-kept : goal.cut_out-block-requires-clause-kept
 cut_out-block-requires-clause-kept g c =
     come_kept g.M.MemoryObject.object c.self.inside.chunks c.insert_reserved-chunk.new.self c.self.inside.tiles c.insert_reserved-key.new.self c.file.new.nodes c.file.new.nodes c.self.inside.spare c.self.inside.known.full c.self.invariant
     c.insert_reserved-chunk.result c.insert_reserved-key.result c.args.size (g.M.MemoryObject.object c.args.memory) (record { memory = c.args.memory; size = c.args.memory_size }) c.unlisted.result
     c.insert_reserved-chunk.ensures.was_vacant c.insert_reserved-chunk.ensures.updates c.insert_reserved-key.ensures.was_vacant c.insert_reserved-key.ensures.updates c.unlisted.ensures.tile
-    c.file.ensures.keeps c.requires.nonempty c.requires.inside c.ranges.memory_size.fits refl (subst (λ (s : Store). IsUnheld s.space (g.M.MemoryObject.object c.args.memory)) (sym c.self.view_is) c.requires.new_object)
+    c.file.ensures.keeps c.requires.nonempty c.requires.inside c.ranges.memory_size.fits refl (subst (λ (s : FitStore). IsUnheld s.space (g.M.MemoryObject.object c.args.memory)) (sym c.self.view_is) c.requires.new_object)
 
 pub cut_out-block-requires-clause-room : goal.cut_out-block-requires-clause-room
 cut_out-block-requires-clause-room g c =
-    let rooms = subst HasRooms (sym c.self.view_is) c.requires.room in
+    let rooms = subst HasTileRooms (sym c.self.view_is) c.requires.room in
     omega (arith, rooms.tiles, c.insert_reserved-key.ensures.len, c.insert_reserved-key.ensures.capacity, c.file.ensures.len, c.file.ensures.capacity)
 
 pub invariant_of-self : goal.invariant_of-self
@@ -49,13 +49,13 @@ returns-clause-begins g c =
     c.file.ensures.keeps c.requires.nonempty c.requires.inside c.ranges.memory_size.fits refl (unheld g c) c.new.result (block g c))
 
 after : (g : Over) (c : goal.After-new g)
-    → space_in (chunks_in g.M.MemoryObject.object c.insert_reserved-chunk.new.self) c.cut_out-block.new.nodes ≡ with_slot (with_chunk c.args.self.now.space c.new.result c.args.memory_size) c.new.result
+    → fit_space_in (chunks_of_rows g.M.MemoryObject.object c.insert_reserved-chunk.new.self) c.cut_out-block.new.nodes ≡ with_slot (with_chunk c.args.self.now.space c.new.result c.args.memory_size) c.new.result
 after g c =
     come_space g.M.MemoryObject.object c.self.inside.chunks c.insert_reserved-chunk.new.self c.self.inside.tiles c.insert_reserved-key.new.self c.file.new.nodes c.cut_out-block.new.nodes c.self.inside.spare c.self.inside.known.full c.self.invariant
     c.insert_reserved-chunk.result c.insert_reserved-key.result c.args.size (g.M.MemoryObject.object c.args.memory) (row g c) c.unlisted.result
     c.insert_reserved-chunk.ensures.was_vacant c.insert_reserved-chunk.ensures.updates c.insert_reserved-key.ensures.was_vacant c.insert_reserved-key.ensures.updates c.unlisted.ensures.tile
     c.file.ensures.keeps c.requires.nonempty c.requires.inside c.ranges.memory_size.fits refl (unheld g c) c.cut_out-block.result c.cut_out-block.ensures.added c.cut_out-block.ensures.live c.cut_out-block.ensures.others c.cut_out-block.ensures.elsewhere c.cut_out-block.ensures.kept c.new.result (block g c)
-    ∙ ap (λ (s : Store). with_slot (with_chunk s.space c.new.result c.args.memory_size) c.new.result) c.self.view_is
+    ∙ ap (λ (s : FitStore). with_slot (with_chunk s.space c.new.result c.args.memory_size) c.new.result) c.self.view_is
 
 pub returns-clause-space : goal.returns-clause-space
 returns-clause-space g c = after g c

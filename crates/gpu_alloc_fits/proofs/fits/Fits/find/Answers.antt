@@ -1,6 +1,6 @@
 use Rattle.std.proofs.Common.{sym, subst}
-use Rattle.gpu_alloc_fits.specs.Fits.{Store}
-use Rattle.gpu_alloc_fits.specs.Space.{IsLiveSpan}
+use Rattle.gpu_alloc_fits.specs.Fits.{FitStore}
+use Rattle.gpu_alloc_fits.specs.Space.{IsLiveFitSpan}
 use Rattle.gpu_alloc_fits.proofs.Nodes.{tile_of_node}
 use Rattle.gpu_alloc_fits.proofs.Stored.{at_place, none_at, span_at, the_span}
 use Rattle.gpu_alloc_fits.proofs.fits.Fits.find.Goals as goal
@@ -19,4 +19,4 @@ returns-clause-found g c =
 pub returns-clause-exact : goal.returns-clause-exact
 returns-clause-exact g c slot span =
     the_span g.M.MemoryObject.object c.self.inside.chunks c.self.inside.tiles c.self.invariant.kept c.args.object c.args.offset c.args.size c.in_ok-place.place.key c.in_ok-place.place.node.tile
-    (tile_of_node c.self.inside.tiles c.in_ok-place.place.key c.in_ok-place.place.node c.in_ok-place.ensures.at) (at_place c.in_ok-place.ensures) c.self.invariant.one_object slot (subst (λ (s : Store). IsLiveSpan s.space c.args.object c.args.offset c.args.size slot) (sym c.self.view_is) span)
+    (tile_of_node c.self.inside.tiles c.in_ok-place.place.key c.in_ok-place.place.node c.in_ok-place.ensures.at) (at_place c.in_ok-place.ensures) c.self.invariant.one_object slot (subst (λ (s : FitStore). IsLiveFitSpan s.space c.args.object c.args.offset c.args.size slot) (sym c.self.view_is) span)

@@ -1,5 +1,5 @@
 use Rattle.std.proofs.Common.{ap, ◌∙◌}
-use Rattle.gpu_alloc_fits.specs.Fits.{Store}
+use Rattle.gpu_alloc_fits.specs.Fits.{FitStore}
 use Rattle.gpu_alloc_fits.proofs.Stored.{same_space, stored_same}
 use Rattle.gpu_alloc_fits.proofs.fits.Fits.reserve.Goals as goal
 
@@ -11,4 +11,4 @@ invariant_of-self-2 g c =
 pub returns-clause-kept : goal.returns-clause-kept
 returns-clause-kept g c =
     same_space g.M.MemoryObject.object c.self.inside.chunks c.reserve.new.self c.self.inside.tiles c.reserve-2.new.self (ap (λ s. s.slots) c.reserve.ensures.rest_kept) (ap (λ s. s.slots) c.reserve-2.ensures.rest_kept)
-    ∙ ap (λ (s : Store). s.space) c.self.view_is
+    ∙ ap (λ (s : FitStore). s.space) c.self.view_is

@@ -1,7 +1,7 @@
 use Rattle.std.proofs.Common.{◌≡◌, ◌+◌, Some, refl, sym, ◌∙◌, ap, subst, arith}
 use Rattle.slab.specs.Slab.{Slab}
-use Rattle.gpu_alloc_fits.specs.Fits.{Store}
-use Rattle.gpu_alloc_fits.specs.Inside.{IsStored, chunks_in, space_in}
+use Rattle.gpu_alloc_fits.specs.Fits.{FitStore}
+use Rattle.gpu_alloc_fits.specs.Inside.{IsStoredInTiles, chunks_of_rows, fit_space_in}
 use Rattle.gpu_alloc_fits.specs.Space.{IsFitting, with_slot}
 use Rattle.gpu_alloc_fits.specs.Tiles.{HasRoomAt, HasRoomIn, tile_in}
 use Rattle.gpu_alloc_fits.specs.declared.tile.Node.{Node}
@@ -50,7 +50,7 @@ returns-in_err-memory-clause-leaves g c =
 -- A block is taken.
 
 -- what is kept once there is room
-roomy : (g : Over) (c : goal.After-new g) → IsStored g.M.MemoryObject.object c.self.inside.chunks c.reserve.new.self c.self.inside.spare c.find_place-place.new.known.full
+roomy : (g : Over) (c : goal.After-new g) → IsStoredInTiles g.M.MemoryObject.object c.self.inside.chunks c.reserve.new.self c.self.inside.spare c.find_place-place.new.known.full
 roomy g c =
     stored_same g.M.MemoryObject.object c.self.inside.chunks c.self.inside.chunks c.self.inside.tiles c.reserve.new.self refl (ap (λ s. s.slots) c.reserve.ensures.rest_kept) c.self.inside.spare c.find_place-place.new.known.full
     (with_full g.M.MemoryObject.object c.self.inside.chunks c.self.inside.tiles c.self.inside.spare c.self.inside.known.full c.find_place-place.new.known.full c.self.invariant c.find_place-place.ensures.still_full)
@@ -92,9 +92,9 @@ invariant_of-self-2 g c =
     taken_stored g.M.MemoryObject.object c.self.inside.chunks c.reserve.new.self c.cut_out-block.new.nodes c.self.inside.spare c.find_place-place.new.known.full (roomy g c) c.cut_out-block.result c.in-Some.key c.index.result.now.tile _ (at_run g c) c.cut_out-block.ensures.added
     c.cut_out-block.ensures.live refl c.cut_out-block.ensures.others c.cut_out-block.ensures.elsewhere c.cut_out-block.ensures.kept c.without-self-inside.result c.without-self-inside.ensures c.find_place-place.new.known.full (roomy g c).still_full
 
-before : (g : Over) (c : goal.After-new g) → space_in (chunks_in g.M.MemoryObject.object c.self.inside.chunks) c.reserve.new.self ≡ c.args.self.now.space
+before : (g : Over) (c : goal.After-new g) → fit_space_in (chunks_of_rows g.M.MemoryObject.object c.self.inside.chunks) c.reserve.new.self ≡ c.args.self.now.space
 before g c =
-    same_space g.M.MemoryObject.object c.self.inside.chunks c.self.inside.chunks c.self.inside.tiles c.reserve.new.self refl (ap (λ s. s.slots) c.reserve.ensures.rest_kept) ∙ ap (λ (s : Store). s.space) c.self.view_is
+    same_space g.M.MemoryObject.object c.self.inside.chunks c.self.inside.chunks c.self.inside.tiles c.reserve.new.self refl (ap (λ s. s.slots) c.reserve.ensures.rest_kept) ∙ ap (λ (s : FitStore). s.space) c.self.view_is
 
 fits : (g : Over) (c : goal.After-new g) → IsFitting c.args.self.now.space c.args.size (c.args.align_mask + 1) c.new.result
 fits g c =
@@ -102,11 +102,11 @@ fits g c =
     (block_fits g.M.MemoryObject.object c.self.inside.chunks c.reserve.new.self (roomy g c).kept c.args.size c.args.align_mask c.in-Some.key c.index.result.now.tile (at_run g c) (room g c) c.last_start-start.result c.last_start-start.ensures
     c.new.result c.index-2.result.now c.index-2.ensures (block g c))
 
-after : (g : Over) (c : goal.After-new g) → space_in (chunks_in g.M.MemoryObject.object c.self.inside.chunks) c.cut_out-block.new.nodes ≡ with_slot c.args.self.now.space c.new.result
+after : (g : Over) (c : goal.After-new g) → fit_space_in (chunks_of_rows g.M.MemoryObject.object c.self.inside.chunks) c.cut_out-block.new.nodes ≡ with_slot c.args.self.now.space c.new.result
 after g c =
     taken_space g.M.MemoryObject.object c.self.inside.chunks c.reserve.new.self c.cut_out-block.new.nodes c.self.inside.spare c.find_place-place.new.known.full (roomy g c) c.cut_out-block.result c.in-Some.key c.index.result.now.tile _ (at_run g c) c.cut_out-block.ensures.added
     c.cut_out-block.ensures.live refl c.cut_out-block.ensures.others c.cut_out-block.ensures.elsewhere c.cut_out-block.ensures.kept
-    ∙ ap (with_slot (space_in (chunks_in g.M.MemoryObject.object c.self.inside.chunks) c.reserve.new.self))
+    ∙ ap (with_slot (fit_space_in (chunks_of_rows g.M.MemoryObject.object c.self.inside.chunks) c.reserve.new.self))
     (block_is g.M.MemoryObject.object c.self.inside.chunks c.reserve.new.self (roomy g c).kept c.args.size c.args.align_mask c.in-Some.key c.index.result.now.tile (at_run g c) (room g c) c.last_start-start.result c.last_start-start.ensures
     c.index-2.result.now c.index-2.ensures ∙ sym (block g c))
     ∙ ap (λ s. with_slot s c.new.result) (before g c)

@@ -4,8 +4,8 @@ use Rattle.gpu_alloc_base.specs.Accounts.{IsCounted, account}
 use Rattle.gpu_alloc_base.specs.Case.{Answers}
 use Rattle.gpu_alloc_freelist.specs.FreeListAllocator.{Agrees, ObjectsAfter, list_case}
 use Rattle.gpu_alloc_freelist.specs.FreeListInside.{listing_in}
-use Rattle.gpu_alloc_freelist.specs.FreeListSound.{IsSound}
-use Rattle.gpu_alloc_freelist.specs.FreeListState.{Listing, Space}
+use Rattle.gpu_alloc_freelist.specs.FreeListSound.{IsSoundListing}
+use Rattle.gpu_alloc_freelist.specs.FreeListState.{Listing, ListSpace}
 use Rattle.gpu_alloc_base.specs.declared.error.AllocationError.TheVariants.{OutOfHostMemory}
 use Rattle.gpu_alloc_freelist.specs.declared.freelist.FreeListAllocator.TheInside.{Inside}
 use Rattle.gpu_alloc_base.proofs.Unasked.{answers_unasked, asks_unrefused}
@@ -14,7 +14,7 @@ use Rattle.gpu_alloc_freelist.proofs.freelist.FreeListAllocator.alloc_rounded.Gi
 use Rattle.gpu_alloc_freelist.proofs.freelist.FreeListAllocator.alloc_rounded.Goals as goal
 
 -- the listing, its space being this
-abbrev over : (g : Over) → Inside g.row.M.Denot g.row.A.Denot → Space → Listing
+abbrev over : (g : Over) → Inside g.row.M.Denot g.row.A.Denot → ListSpace → Listing
 over g a s = listing_in s a.chunk_size a.final_chunk_size a.memory_type (property_bits a.props) (a.atom_mask + 1)
 
 -- A block is cut from a held chunk.
@@ -25,7 +25,7 @@ invariant_of-self g c =
     let rounded = rw (← c.self.view_is) at c.requires.fits in
     let took = rw (c.in-Ok-Some.field-0-is) at c.in-Ok-Some.ensures.takes in
     let asked = askable l c.args.size c.args.align_mask rounded in
-    subst (λ s. IsSound (listing_in s c.self.inside.chunk_size c.self.inside.final_chunk_size c.self.inside.memory_type (property_bits c.self.inside.props) (c.self.inside.atom_mask + 1))) (sym took.1)
+    subst (λ s. IsSoundListing (listing_in s c.self.inside.chunk_size c.self.inside.final_chunk_size c.self.inside.memory_type (property_bits c.self.inside.props) (c.self.inside.atom_mask + 1))) (sym took.1)
     (sound_with_tail l c.args.size (c.args.align_mask + 1) c.in-Ok-Some.block c.self.invariant asked took.0)
 
 pub returns-in-Ok-Some-clause-answers : goal.returns-in-Ok-Some-clause-answers
@@ -45,7 +45,7 @@ returns-in-Ok-Some-clause-objects g c =
     rw (← c.self.view_is, took.0.object.1) refl
 
 pub returns-in-Ok-Some-clause-sound : goal.returns-in-Ok-Some-clause-sound
-returns-in-Ok-Some-clause-sound g c = subst IsSound c.self.view_is c.self.invariant
+returns-in-Ok-Some-clause-sound g c = subst IsSoundListing c.self.view_is c.self.invariant
 
 -- There is a place, but no host memory.
 
@@ -64,7 +64,7 @@ returns-in-Err-clause-answers g c =
     )
 
 pub returns-in-Err-clause-sound : goal.returns-in-Err-clause-sound
-returns-in-Err-clause-sound g c = subst IsSound c.self.view_is c.self.invariant
+returns-in-Err-clause-sound g c = subst IsSoundListing c.self.view_is c.self.invariant
 
 -- There is none, and no chunk may be asked for.
 
@@ -82,7 +82,7 @@ returns-in-Some-clause-answers g c =
     )
 
 pub returns-in-Some-clause-sound : goal.returns-in-Some-clause-sound
-returns-in-Some-clause-sound g c = subst IsSound c.self.view_is c.self.invariant
+returns-in-Some-clause-sound g c = subst IsSoundListing c.self.view_is c.self.invariant
 
 -- A chunk is asked for.
 
@@ -132,4 +132,4 @@ returns-in-None-clause-objects g c =
     subst (λ x. ObjectsAfter x c.take_chunk.result c.take_chunk.new.self (g.D.ObjectDevice.objects c.args.device.now) (g.D.ObjectDevice.objects c.take_chunk.new.device)) same c.take_chunk.ensures.objects
 
 pub returns-in-None-clause-sound : goal.returns-in-None-clause-sound
-returns-in-None-clause-sound g c = subst IsSound c.self.view_is c.self.invariant
+returns-in-None-clause-sound g c = subst IsSoundListing c.self.view_is c.self.invariant

@@ -1,7 +1,7 @@
 use Rattle.std.proofs.Common.{arith, ◌≡◌, ℕ, ◌+◌, ◌-◌, List, Option, Ok, Err, [], inl, inr, refl, sym, ◌∙◌, ap, subst}
 use Rattle.gpu_alloc_types.specs.Device.{Object, Event}
 use Rattle.gpu_alloc_types.specs.Flags.{allocation_bits, has_bit, property_bits}
-use Rattle.gpu_alloc_freelist.specs.FreeList.{first_tail, with_chunk, with_slot}
+use Rattle.gpu_alloc_freelist.specs.FreeList.{first_tail, with_numbered_chunk, with_slot}
 use Rattle.gpu_alloc_base.specs.Accounts.{account}
 use Rattle.gpu_alloc_base.specs.Case.{Answers, Asks}
 use Rattle.gpu_alloc_freelist.specs.FreeListAllocator.{ObjectsAfter, chunk_size, in_new_chunk, list_case, next_size, question}
@@ -9,8 +9,8 @@ use Rattle.gpu_alloc_base.proofs.Books.{object_more, refused_chunk}
 use Rattle.gpu_alloc_base.proofs.Maps.{own_inserted}
 use Rattle.gpu_alloc_freelist.proofs.Spaces.{next_is_new}
 use Rattle.gpu_alloc_freelist.specs.FreeListInside.{listing_in}
-use Rattle.gpu_alloc_freelist.specs.FreeListSound.{IsSound}
-use Rattle.gpu_alloc_freelist.specs.FreeListState.{Listing, Space}
+use Rattle.gpu_alloc_freelist.specs.FreeListSound.{IsSoundListing}
+use Rattle.gpu_alloc_freelist.specs.FreeListState.{Listing, ListSpace}
 use Rattle.gpu_alloc_base.specs.NewChunk.{ChunkQuestion, HasOneChunkMore, chunk_question, made}
 use Rattle.std.specs.FinMap as map
 use Rattle.gpu_alloc_base.specs.Chunks.{Chunk}
@@ -52,7 +52,7 @@ invariant_of-self-3 g c =
     let asked = askable l c.args.size c.args.align_mask rounded in
     let is = grown_is l c.reserve.new.self.space c.begin-block.new.self.space c.begin-block.result object c.chunk_size_for-chunk_size.result c.min-self-inside.result c.args.size (c.args.align_mask + 1)
     c.reserve.ensures.kept c.begin-block.ensures.block c.begin-block.ensures.chunk c.chunk_size_for-chunk_size.ensures.is c.min-self-inside.ensures in
-    subst IsSound (sym is) (sound_in_new_chunk l object c.args.size (c.args.align_mask + 1) c.self.invariant other asked)
+    subst IsSoundListing (sym is) (sound_in_new_chunk l object c.args.size (c.args.align_mask + 1) c.self.invariant other asked)
 
 pub invariant_of-self : goal.invariant_of-self
 invariant_of-self g c = rw (c.reserve.ensures.kept) c.self.invariant
@@ -95,8 +95,8 @@ hold-requires-clause-remains g c =
     asks.has.remains.objects
 
 -- the answer where a block was cut from the new chunk
-grown_answers : (l : Listing) (heap now : Heap) (remaining size alignment flags object whole next : ℕ) (s grown : Space) (slot : Slot) (es : List Event) (q : ChunkQuestion) → s ≡ l.space → slot ≡ first_tail s object whole size alignment
-    → grown ≡ with_slot (with_chunk s object whole) slot → whole ≡ chunk_size l size → next ≡ next_size l whole → now ≡ record heap { used = heap.used + whole } → q ≡ question l size flags → es ≡ made q object
+grown_answers : (l : Listing) (heap now : Heap) (remaining size alignment flags object whole next : ℕ) (s grown : ListSpace) (slot : Slot) (es : List Event) (q : ChunkQuestion) → s ≡ l.space → slot ≡ first_tail s object whole size alignment
+    → grown ≡ with_slot (with_numbered_chunk s object whole) slot → whole ≡ chunk_size l size → next ≡ next_size l whole → now ≡ record heap { used = heap.used + whole } → q ≡ question l size flags → es ≡ made q object
     → Asks (list_case (account l heap remaining) size alignment flags) → Answers (list_case (account l heap remaining) size alignment flags) es (Ok slot) (account (record l { space = grown; next_chunk = next }) now (remaining - 1))
 grown_answers l heap now remaining size alignment flags object whole next s grown slot es q s_is slot_is grown_to whole_is next_is now_is q_is es_is asks =
     let back : object ≡ slot.object = sym (ap (λ (x : Slot). x.object) slot_is) in
@@ -130,15 +130,15 @@ returns-clause-answers g c =
     )
 
 -- and the device's objects
-grown_objects : (l : Listing) (size alignment flags object whole next : ℕ) (s grown : Space) (slot : Slot) (q : ChunkQuestion) (f g : ℕ → Option Object) → IsSound l → s ≡ l.space → slot ≡ first_tail s object whole size alignment
-    → grown ≡ with_slot (with_chunk s object whole) slot → whole ≡ chunk_size l size → q ≡ question l size flags → HasOneChunkMore q object f g → ObjectsAfter l (Ok slot) (record l { space = grown; next_chunk = next }) f g
+grown_objects : (l : Listing) (size alignment flags object whole next : ℕ) (s grown : ListSpace) (slot : Slot) (q : ChunkQuestion) (f g : ℕ → Option Object) → IsSoundListing l → s ≡ l.space → slot ≡ first_tail s object whole size alignment
+    → grown ≡ with_slot (with_numbered_chunk s object whole) slot → whole ≡ chunk_size l size → q ≡ question l size flags → HasOneChunkMore q object f g → ObjectsAfter l (Ok slot) (record l { space = grown; next_chunk = next }) f g
 grown_objects l size alignment flags object whole next s grown slot q f g sound s_is slot_is grown_is whole_is q_is more =
     let back : object ≡ slot.object = sym (ap (λ (x : Slot). x.object) slot_is) in
-    let number : slot.chunk ≡ l.space.latest + 1 = ap (λ (x : Slot). x.chunk) slot_is ∙ ap (λ (x : Space). x.latest + 1) s_is in
+    let number : slot.chunk ≡ l.space.latest + 1 = ap (λ (x : Slot). x.chunk) slot_is ∙ ap (λ (x : ListSpace). x.latest + 1) s_is in
     let chunk : Chunk = record { object = slot.object; size = chunk_size l size } in
     let chunks : grown.chunks ≡ map.insert l.space.chunks slot.chunk chunk =
-    ap (λ (x : Space). x.chunks) grown_is
-    ∙ ap (λ (x : Space). map.insert x.chunks (x.latest + 1) (record { object = object; size = whole })) s_is
+    ap (λ (x : ListSpace). x.chunks) grown_is
+    ∙ ap (λ (x : ListSpace). map.insert x.chunks (x.latest + 1) (record { object = object; size = whole })) s_is
     ∙ (λ i. map.insert l.space.chunks (sym number i) (record { object = back i; size = whole_is i })) in
     object_more l.memory_type l.props l.space.chunks grown.chunks slot.chunk chunk (question l size flags) f g
     (rw number (next_is_new l.space sound.space)) (ap (λ m. map.get m slot.chunk) chunks ∙ own_inserted l.space.chunks slot.chunk chunk) refl refl refl

@@ -6,8 +6,8 @@ use Rattle.gpu_alloc_base.specs.Chunks.{Chunk}
 use Rattle.gpu_alloc_base.specs.SlabViews.{by_key}
 use Rattle.gpu_alloc_base.specs.declared.buddy_block.Leaf.{Leaf}
 use Rattle.gpu_alloc_base.proofs.SlabViews.{by_key_put, get_by_key}
-use Rattle.gpu_alloc_pairs.specs.Space.{Space, chunks_with, with_chunk, with_leaf}
-use Rattle.gpu_alloc_pairs.specs.Store.{IsStored, IsUnheld, Store, space_in}
+use Rattle.gpu_alloc_pairs.specs.Space.{BuddySpace, chunks_with, with_chunk, with_leaf}
+use Rattle.gpu_alloc_pairs.specs.Store.{BuddyStore, IsStored, IsUnheld, buddy_space_in}
 use Rattle.gpu_alloc_pairs.specs.declared.pairs.Chunk.{Chunk as StoredChunk}
 use Rattle.gpu_alloc_pairs.proofs.Begins.{begins, begun_space, stored_begun}
 use Rattle.gpu_alloc_pairs.proofs.Stored.{rooms_from}
@@ -37,7 +37,7 @@ before g c = by_key (seen g) c.self.inside.chunks
 vacant : (g : Over) (c : goal.After-leaf_of g) → finite.get (before g c) c.insert_reserved-chunk.result ≡ None
 vacant g c = get_by_key (seen g) c.self.inside.chunks c.insert_reserved-chunk.result ∙ ap (option_map (seen g)) c.insert_reserved-chunk.ensures.was_vacant
 
-unheld : (g : Over) (c : goal.After-leaf_of g) → IsUnheld (space_in (before g c) c.self.inside.lengths.items) (g.M.MemoryObject.object c.args.memory)
+unheld : (g : Over) (c : goal.After-leaf_of g) → IsUnheld (buddy_space_in (before g c) c.self.inside.lengths.items) (g.M.MemoryObject.object c.args.memory)
 unheld g c = rw (← c.self.view_is) at c.requires.new_object
 
 more : (g : Over) (c : goal.After-leaf_of g) → by_key (seen g) c.insert_reserved-chunk.new.self ≡ chunks_with (before g c) (block g c) (2 ^ c.args.chunk_order)
@@ -56,8 +56,8 @@ returns-clause-begins g c =
 
 pub returns-clause-space : goal.returns-clause-space
 returns-clause-space g c =
-    ap (λ m. space_in m c.begin-key.new.lengths.items) (more g c)
+    ap (λ m. buddy_space_in m c.begin-key.new.lengths.items) (more g c)
     ∙ begun_space (before g c) c.self.inside.lengths.items c.begin-key.new.lengths.items c.self.invariant (block g c) c.args.chunk_order c.args.order (vacant g c) (unheld g c) c.requires.short c.requires.longer refl refl
     c.begin-key.ensures.count c.begin-key.ensures.out c.begin-key.ensures.more
-    ∙ ap (λ (s : Space). with_leaf (with_chunk s (block g c) (2 ^ c.args.chunk_order)) (block g c)) (ap (λ (t : Store). t.space) c.self.view_is)
+    ∙ ap (λ (s : BuddySpace). with_leaf (with_chunk s (block g c) (2 ^ c.args.chunk_order)) (block g c)) (ap (λ (t : BuddyStore). t.space) c.self.view_is)
     ∙ ap (λ l. with_leaf (with_chunk c.args.self.now.space l (2 ^ c.args.chunk_order)) l) (sym (is_block g c))

@@ -2,7 +2,7 @@ use Rattle.std.proofs.Common.{◌≡◌, ◌^◌, Some, ◌∙◌, sym}
 use Rattle.gpu_alloc_base.specs.Chunks.{Chunk}
 use Rattle.gpu_alloc_pairs.specs.Blocks.{chunks_in}
 use Rattle.gpu_alloc_pairs.specs.Space.{IsLiveSpan}
-use Rattle.gpu_alloc_pairs.specs.Store.{space_in}
+use Rattle.gpu_alloc_pairs.specs.Store.{buddy_space_in}
 use Rattle.gpu_alloc_pairs.specs.declared.pairs.Chunk.{Chunk as StoredChunk}
 use Rattle.gpu_alloc_pairs.proofs.LiveSpans.{all_in_chunks, exact_leaf, nowhere_live, of_no_length, pairs_there, under_live}
 use Rattle.gpu_alloc_pairs.proofs.pairs.Pairs.find.Given.{Over}
@@ -40,7 +40,7 @@ returns-in_default-key_of-clause-exact g c =
     rw (← c.self.view_is) (exact_leaf _ c.args.object c.args.offset c.args.size _ c.self.invariant.sound none)
 
 -- the block that stands under the key that was found
-found : (g : Over) (c : goal.After-index-2 g) → IsLiveSpan (space_in (chunks_in g.M.MemoryObject.object c.self.inside.chunks) c.self.inside.lengths.items) c.args.object c.args.offset c.args.size
+found : (g : Over) (c : goal.After-index-2 g) → IsLiveSpan (buddy_space_in (chunks_in g.M.MemoryObject.object c.self.inside.chunks) c.self.inside.lengths.items) c.args.object c.args.offset c.args.size
     (record { object = c.args.object; chunk = c.index-2.result.now.chunk; offset = c.args.offset; size = c.args.size; index = c.in-Some-key_of.index })
 found g c =
     let are = pairs_there c.self.inside.lengths.items c.in-Some.order _ c.pairs-pairs.result.now c.self.invariant.count c.in-Some.ensures.1 c.index.ensures c.pairs-pairs.ensures in

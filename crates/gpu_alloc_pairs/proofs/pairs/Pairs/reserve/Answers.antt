@@ -3,7 +3,7 @@ use Rattle.std.specs.Prelude.{OnOk}
 use Rattle.slab.specs.Slab.{Slab, slab_len}
 use Rattle.gpu_alloc_base.specs.Chunks.{Chunk}
 use Rattle.gpu_alloc_base.specs.SlabViews.{by_key}
-use Rattle.gpu_alloc_pairs.specs.Store.{Store, KeepsStore, store_in}
+use Rattle.gpu_alloc_pairs.specs.Store.{BuddyStore, KeepsStore, buddy_store_in}
 use Rattle.gpu_alloc_pairs.specs.declared.pairs.Chunk.{Chunk as StoredChunk}
 use Rattle.gpu_alloc_pairs.proofs.Stored.{keeps_same, stored_same, rooms_to}
 use Rattle.gpu_alloc_pairs.proofs.pairs.Pairs.reserve.Given.{Over}
@@ -29,5 +29,5 @@ returns-clause-room g c =
 
 pub returns-clause-kept : goal.returns-clause-kept
 returns-clause-kept g c =
-    subst (λ (s : Store). KeepsStore s (store_in (by_key (seen g) c.reserve.new.self) (c.reserve.new.self.capacity - slab_len c.reserve.new.self) c.make_room.new.lengths.items)) c.self.view_is
+    subst (λ (s : BuddyStore). KeepsStore s (buddy_store_in (by_key (seen g) c.reserve.new.self) (c.reserve.new.self.capacity - slab_len c.reserve.new.self) c.make_room.new.lengths.items)) c.self.view_is
     (keeps_same _ _ _ _ c.self.inside.lengths.items c.make_room.new.lengths.items (chunks_same g c) c.make_room.ensures.kept)

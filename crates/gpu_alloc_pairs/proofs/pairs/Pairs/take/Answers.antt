@@ -6,8 +6,8 @@ use Rattle.gpu_alloc_base.specs.SlabViews.{by_key}
 use Rattle.gpu_alloc_base.specs.declared.buddy_block.Leaf.{Leaf}
 use Rattle.gpu_alloc_base.proofs.SlabViews.{found_by_key, get_by_key}
 use Rattle.gpu_alloc_pairs.specs.Lengths.{IsFound}
-use Rattle.gpu_alloc_pairs.specs.Space.{Space, HasPlace}
-use Rattle.gpu_alloc_pairs.specs.Store.{CountsSearch, CountsTaking, TakesPlace}
+use Rattle.gpu_alloc_pairs.specs.Space.{BuddySpace, HasPlace}
+use Rattle.gpu_alloc_pairs.specs.Store.{CountsSearch, CountsTaking, TakesFront}
 use Rattle.gpu_alloc_pairs.specs.Tree.{pair_at}
 use Rattle.gpu_alloc_pairs.specs.declared.pairs.Chunk.{Chunk as StoredChunk}
 use Rattle.gpu_alloc_pairs.proofs.Stored.{no_place, same_space, stored_same}
@@ -20,12 +20,12 @@ abbrev seen : (g : Over) → StoredChunk g.row.M.Denot → Chunk
 seen g chunk = record { object = g.M.MemoryObject.object chunk.memory; size = 2 ^ chunk.order }
 
 -- a search and no block
-searched : {E : Type 0} (s : Space) (size looks now splits : ℕ) (answer : Result (Option Leaf) E) → IsErr answer → CountsSearch s size looks now → CountsTaking s size answer looks now splits splits
+searched : {E : Type 0} (s : BuddySpace) (size looks now splits : ℕ) (answer : Result (Option Leaf) E) → IsErr answer → CountsSearch s size looks now → CountsTaking s size answer looks now splits splits
 searched s size looks now splits (Ok x) is search = absurd (cc)
 searched s size looks now splits (Err e) is search = (search, refl)
 
 -- there is a place, but no memory
-refused : {E : Type 0} (s new : Space) (size : ℕ) (answer : Result (Option Leaf) E) → IsErr answer → HasPlace s size → new ≡ s → TakesPlace s size answer new
+refused : {E : Type 0} (s new : BuddySpace) (size : ℕ) (answer : Result (Option Leaf) E) → IsErr answer → HasPlace s size → new ≡ s → TakesFront s size answer new
 refused s new size (Ok x) is place same = absurd (cc)
 refused s new size (Err e) is place same = (place, same)
 

@@ -1,6 +1,6 @@
 use Rattle.std.proofs.Common.{◌<◌, ◌+◌, ◌∙◌, ap, sym, subst}
 use Rattle.std.specs.FinMap as map
-use Rattle.gpu_answers.specs.Held.{HeldState, new_object}
+use Rattle.gpu_answers.specs.Held.{HeldState, new_held_object}
 use Rattle.gpu_answers.proofs.Keeping.{kept-held, next_free, room_is}
 use Rattle.gpu_answers.proofs.held.HeldObjects.hold.Goals as goal
 
@@ -15,5 +15,5 @@ invariant_of-self c =
 pub returns-clause-objects : goal.returns-clause-objects
 returns-clause-objects c =
     c.insert_reserved-place.ensures.objects
-    ∙ ap (λ (s : HeldState). map.insert s.objects (c.self.inside.last_name + 1) (new_object c.args.size c.args.memory_type)) c.self.view_is
-    ∙ ap (λ name. map.insert c.args.self.now.objects name (new_object c.args.size c.args.memory_type)) (sym c.new.ensures)
+    ∙ ap (λ (s : HeldState). map.insert s.objects (c.self.inside.last_name + 1) (new_held_object c.args.size c.args.memory_type)) c.self.view_is
+    ∙ ap (λ name. map.insert c.args.self.now.objects name (new_held_object c.args.size c.args.memory_type)) (sym c.new.ensures)

@@ -2,7 +2,7 @@ use Rattle.std.proofs.Common.{◌≡◌, false, ◌+◌, Some, Ok, nat_lt, refl,
 use Rattle.std.specs.FinMap as map
 use Rattle.gpu_alloc_types.specs.Device.{Chain}
 use Rattle.gpu_alloc.specs.Mapped.{mapping_of}
-use Rattle.gpu_alloc.specs.Ranges.{rounded}
+use Rattle.gpu_alloc.specs.Ranges.{rounded_range}
 use Rattle.gpu_alloc.specs.State.{Block, is_shared}
 use Rattle.gpu_answers.specs.Asking.{begun}
 use Rattle.gpu_answers.specs.Device.{IsStep}
@@ -39,7 +39,7 @@ returns-clause-mapped c =
     elim c.match-answer.branch [
       | in-Ok-answer w ↦
           let asked = rw w.in-Ok-answer.is at c.map-answer.ensures.asked in
-          let same_names = mapping_adds_none c.begin.new.self (is_shared b.kind) (rounded b c.args.offset c.args.size) (Ok tt) c.map-answer.new.device (subst (λ es. Chain IsStep c.begin.new.self es c.map-answer.new.device) asked.2.1 asked.1)
+          let same_names = mapping_adds_none c.begin.new.self (is_shared b.kind) (rounded_range b c.args.offset c.args.size) (Ok tt) c.map-answer.new.device (subst (λ es. Chain IsStep c.begin.new.self es c.map-answer.new.device) asked.2.1 asked.1)
           ∙ ap (λ (h : HeldState). h.gone) c.begin.ensures.held in
           rw (← c.self.view_is, w.result-is) (record {
             block = b;
@@ -84,7 +84,7 @@ returns-clause-unchanged c =
             live = ap (map.insert c.self.inside.blocks.live c.args.key) w.in-Err.ensures.refused ∙ put_again c.self.inside.blocks.live c.args.key b at;
             keys = refl;
             objects = (rw w.in-Err.is at c.map-answer.ensures.objects) ∙ shows;
-            names = refused_adds_none c.begin.new.self b (rounded b c.args.offset c.args.size) w.in-Err.refusal asked.0 c.map-answer.new.device asked.2 asked.1 ∙ ap (λ (h : HeldState). h.gone) c.begin.ensures.held;
+            names = refused_adds_none c.begin.new.self b (rounded_range b c.args.offset c.args.size) w.in-Err.refusal asked.0 c.map-answer.new.device asked.2 asked.1 ∙ ap (λ (h : HeldState). h.gone) c.begin.ensures.held;
             tags = refl;
             page = refl;
           })

@@ -4,7 +4,7 @@ use Rattle.gpu_session.specs.Sound.{IsBlock}
 use Rattle.gpu_session.proofs.Conditions.{bad_range, good_range, no_block, of_block, some_bytes_then}
 use Rattle.gpu_session.proofs.Moves.{move_is_kept}
 use Rattle.gpu_session.proofs.Names.{lent_at, lent_back, lent_put, placed, placed_again}
-use Rattle.gpu_alloc.specs.Ranges.{rounded}
+use Rattle.gpu_alloc.specs.Ranges.{rounded_range}
 use Rattle.gpu_alloc.specs.State.{is_shared}
 use Rattle.gpu_session.proofs.Others.{others_left, opened_moves_none}
 use Rattle.std.specs.FinMap as finite
@@ -92,7 +92,7 @@ returns-clause-keeps g c =
             refused = tt;
             balance = refl;
             others = others;
-            bytes = (b, at, opened_moves_none (is_shared b.kind) (rounded b c.args.offset c.args.size) before after b refl opened);
+            bytes = (b, at, opened_moves_none (is_shared b.kind) (rounded_range b c.args.offset c.args.size) before after b refl opened);
           })
       | in-Err w ↦
           let same : after ≡ before = rw w.in-Err.is at c.map.ensures.objects in

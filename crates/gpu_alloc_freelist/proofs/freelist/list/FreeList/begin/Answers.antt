@@ -3,10 +3,10 @@ use Rattle.std.specs.FinMap as map
 use Rattle.gpu_alloc_base.specs.Chunks.{Chunk}
 use Rattle.gpu_alloc_base.specs.FreeRuns.{AreRunsBeside}
 use Rattle.gpu_alloc_base.specs.Slots.{region_of}
-use Rattle.gpu_alloc_freelist.specs.FreeList.{first_tail, with_slot, with_chunk}
-use Rattle.gpu_alloc_freelist.specs.FreeListInside.{space_in}
-use Rattle.gpu_alloc_freelist.specs.FreeListSound.{IsSoundSpace}
-use Rattle.gpu_alloc_freelist.specs.FreeListState.{Space, Store, IsFreeIn}
+use Rattle.gpu_alloc_freelist.specs.FreeList.{first_tail, with_slot, with_numbered_chunk}
+use Rattle.gpu_alloc_freelist.specs.FreeListInside.{list_space_in}
+use Rattle.gpu_alloc_freelist.specs.FreeListSound.{IsSoundListSpace}
+use Rattle.gpu_alloc_freelist.specs.FreeListState.{ListSpace, ListStore, IsFreeIn}
 use Rattle.gpu_alloc_freelist.specs.Chunks.{NumberedChunks}
 use Rattle.gpu_alloc_freelist.specs.Live.{LiveBlocks}
 use Rattle.gpu_alloc_freelist.specs.Wholes.{wholes}
@@ -21,18 +21,18 @@ use Rattle.gpu_alloc_freelist.proofs.freelist.list.FreeList.begin.Goals as goal
 
 pub push-requires-then-slot-gt0-clause-last : goal.push-requires-then-slot-gt0-clause-last
 push-requires-then-slot-gt0-clause-last g c =
-    last_by_chunk (IsFreeIn (space_in c.self.inside.chunks.held c.self.inside.live.slots c.self.inside.latest)) c.self.inside.runs.regions (record { chunk = c.self.inside.latest + 1; start = 0; end = c.tail_of-slot.result.offset }) c.self.invariant.runs
+    last_by_chunk (IsFreeIn (list_space_in c.self.inside.chunks.held c.self.inside.live.slots c.self.inside.latest)) c.self.inside.runs.regions (record { chunk = c.self.inside.latest + 1; start = 0; end = c.tail_of-slot.result.offset }) c.self.invariant.runs
     (λ chunk at free. omega (arith, (c.self.invariant.sound.numbers chunk free.held free.is).1))
 
 -- the space before the call, the chunk, and the space with it
-abbrev before : (g : Over) → goal.After-new g → Space
-before g c = space_in c.self.inside.chunks.held c.self.inside.live.slots c.self.inside.latest
+abbrev before : (g : Over) → goal.After-new g → ListSpace
+before g c = list_space_in c.self.inside.chunks.held c.self.inside.live.slots c.self.inside.latest
 
 abbrev made : (g : Over) → goal.After-new g → Chunk
 made g c = record { object = g.M.MemoryObject.object c.args.memory; size = c.args.memory_size }
 
-abbrev more : (g : Over) → goal.After-new g → Space
-more g c = with_chunk (before g c) (g.M.MemoryObject.object c.args.memory) c.args.memory_size
+abbrev more : (g : Over) → goal.After-new g → ListSpace
+more g c = with_numbered_chunk (before g c) (g.M.MemoryObject.object c.args.memory) c.args.memory_size
 
 first : (g : Over) (c : goal.After-new g) → IsFirstTail (before g c) (g.M.MemoryObject.object c.args.memory) c.args.memory_size c.args.size (c.args.align_mask + 1) c.tail_of-slot.result
 first g c = record {
@@ -83,7 +83,7 @@ chunks : (g : Over) (c : goal.After-new g) → c.if-slot-gt0.self-inside.chunks.
 chunks g c = rw ((begun g c).chunks) c.push.ensures.held
 
 after_is : (g : Over) (c : goal.After-new g)
-    → space_in c.if-slot-gt0.self-inside.chunks.held c.keep-key.new.self.slots c.if-slot-gt0.self-inside.latest ≡ with_slot (more g c) c.tail_of-slot.result
+    → list_space_in c.if-slot-gt0.self-inside.chunks.held c.keep-key.new.self.slots c.if-slot-gt0.self-inside.latest ≡ with_slot (more g c) c.tail_of-slot.result
 after_is g c =
     with_chunk_in c.self.inside.chunks.held c.if-slot-gt0.self-inside.chunks.held c.self.inside.latest c.if-slot-gt0.self-inside.latest (g.M.MemoryObject.object c.args.memory) c.args.memory_size
     c.self.inside.live.slots c.keep-key.new.self.slots c.tail_of-slot.result (chunks g c) (begun g c).latest (rw (← (begun g c).live) c.keep-key.ensures.slots)
@@ -91,7 +91,7 @@ after_is g c =
 pub invariant_of-self : goal.invariant_of-self
 invariant_of-self g c =
     let b = begun g c in
-    let some = some_room _ _ _ (subst (λ (s : Store). 0 < s.room) (sym c.self.view_is) c.requires.room) in
+    let some = some_room _ _ _ (subst (λ (s : ListStore). 0 < s.room) (sym c.self.view_is) c.requires.room) in
     listed_with_chunk c.self.inside.chunks.held c.if-slot-gt0.self-inside.chunks.held c.self.inside.latest c.if-slot-gt0.self-inside.latest (g.M.MemoryObject.object c.args.memory) c.args.memory_size
     c.self.inside.live.slots c.keep-key.new.self.slots c.tail_of-slot.result (chunks g c) b.latest (rw (← b.live) c.keep-key.ensures.slots)
     c.if-slot-gt0.self-inside.runs.regions _ _ _ (took g c)
@@ -101,10 +101,10 @@ invariant_of-self g c =
 pub returns-clause-chunk : goal.returns-clause-chunk
 returns-clause-chunk g c =
     rw (c.new.ensures)
-    (after_is g c ∙ ap (λ (s : Store). with_slot (with_chunk s.space (g.M.MemoryObject.object c.args.memory) c.args.memory_size) c.tail_of-slot.result) c.self.view_is)
+    (after_is g c ∙ ap (λ (s : ListStore). with_slot (with_numbered_chunk s.space (g.M.MemoryObject.object c.args.memory) c.args.memory_size) c.tail_of-slot.result) c.self.view_is)
 
 pub returns-clause-sound : goal.returns-clause-sound
-returns-clause-sound g c = subst IsSoundSpace (sym (after_is g c)) (took g c).sound
+returns-clause-sound g c = subst IsSoundListSpace (sym (after_is g c)) (took g c).sound
 
 pub returns-clause-added : goal.returns-clause-added
 returns-clause-added g c =

@@ -2,7 +2,7 @@ use Rattle.std.proofs.Common.{◌+◌, ◌<◌, length, sym, ◌∙◌, ap, subs
 use Rattle.std.proofs.lemmas.List.Sums.{count_by-le-length}
 use Rattle.std.specs.FinSet as set
 use Rattle.gpu_alloc_base.specs.Slots.{region_of, slot_cmp}
-use Rattle.gpu_alloc_freelist.specs.FreeListInside.{space_in}
+use Rattle.gpu_alloc_freelist.specs.FreeListInside.{list_space_in}
 use Rattle.gpu_alloc_freelist.specs.FreeListState.{IsFreeIn, IsLiveSlot}
 use Rattle.gpu_alloc_freelist.specs.Runs.{AreFewComparisons}
 use Rattle.gpu_alloc_freelist.specs.Wholes.{is_whole}
@@ -15,14 +15,14 @@ use Rattle.gpu_alloc_freelist.proofs.freelist.list.FreeList.insert_block.Goals a
 
 pub put_back-joint-requires-clause-apart : goal.put_back-joint-requires-clause-apart
 put_back-joint-requires-clause-apart g c =
-    let s = space_in c.self.inside.chunks.held c.self.inside.live.slots c.self.inside.latest in
+    let s = list_space_in c.self.inside.chunks.held c.self.inside.live.slots c.self.inside.latest in
     let live : IsLiveSlot s c.args.block = rw (← c.self.view_is) at c.requires in
     beside_apart _ c.self.inside.runs.regions (region_of c.args.block) (runs_beside_slot s c.self.invariant.sound c.args.block live c.self.inside.runs.regions c.self.invariant.runs)
     (omega (arith, (c.self.invariant.sound.inside c.args.block live).nonempty))
 
 pub overflow_add-self : goal.overflow_add-self
 overflow_add-self g c =
-    let s = space_in c.self.inside.chunks.held c.self.inside.live.slots c.self.inside.latest in
+    let s = list_space_in c.self.inside.chunks.held c.self.inside.live.slots c.self.inside.latest in
     let live : IsLiveSlot s c.args.block = rw (← c.self.view_is) at c.requires in
     let lies = c.self.invariant.sound.inside c.args.block live in
     let counted = wholes_back c.self.inside.chunks.held c.self.inside.runs.regions (region_of c.args.block) c.put_back-joint.result c.put_back-joint.new.self.regions lies.chunk lies.held (omega (arith, lies.nonempty)) lies.inside c.put_back-joint.ensures.joined in
@@ -31,7 +31,7 @@ overflow_add-self g c =
 
 pub invariant_of-self : goal.invariant_of-self
 invariant_of-self g c =
-    let s = space_in c.self.inside.chunks.held c.self.inside.live.slots c.self.inside.latest in
+    let s = list_space_in c.self.inside.chunks.held c.self.inside.live.slots c.self.inside.latest in
     let live : IsLiveSlot s c.args.block = rw (← c.self.view_is) at c.requires in
     let lies = c.self.invariant.sound.inside c.args.block live in
     let some : c.args.block.offset < c.args.block.offset + c.args.block.size = omega (arith, lies.nonempty) in
@@ -49,11 +49,11 @@ returns-clause-sound g c = (invariant_of-self g c).sound
 pub returns-clause-few : goal.returns-clause-few
 returns-clause-few g c =
     rw (← c.self.view_is) (λ list are rising.
-    let same = one_list (IsFreeIn (space_in c.self.inside.chunks.held c.self.inside.live.slots c.self.inside.latest)) list c.self.inside.runs.regions are rising c.self.invariant.runs in
+    let same = one_list (IsFreeIn (list_space_in c.self.inside.chunks.held c.self.inside.live.slots c.self.inside.latest)) list c.self.inside.runs.regions are rising c.self.invariant.runs in
     subst (λ n. AreFewComparisons n c.args.steps.now c.put_back-joint.new.steps) (sym (ap length same)) c.put_back-joint.ensures.few)
 
 pub returns-clause-removed : goal.returns-clause-removed
 returns-clause-removed g c =
-    let s = space_in c.self.inside.chunks.held c.self.inside.live.slots c.self.inside.latest in
+    let s = list_space_in c.self.inside.chunks.held c.self.inside.live.slots c.self.inside.latest in
     let live : IsLiveSlot s c.args.block = rw (← c.self.view_is) at c.requires in
-    rw (← c.self.view_is) (slot_removes s _ c.args.block live (ap (λ (l : set.FinSet slot_cmp). space_in c.self.inside.chunks.held l c.self.inside.latest) (c.forget.ensures.slots ∙ ap (set.remove c.self.inside.live.slots) c.slot_of.ensures)))
+    rw (← c.self.view_is) (slot_removes s _ c.args.block live (ap (λ (l : set.FinSet slot_cmp). list_space_in c.self.inside.chunks.held l c.self.inside.latest) (c.forget.ensures.slots ∙ ap (set.remove c.self.inside.live.slots) c.slot_of.ensures)))

@@ -3,7 +3,7 @@ use Rattle.gpu_alloc_base.specs.Accounts.{HeldChunks}
 use Rattle.gpu_alloc_base.specs.declared.region.FreeListRegion.{FreeListRegion}
 use Rattle.gpu_alloc_freelist.specs.Chunks.{IsWholeChunk, chunk_of}
 use Rattle.gpu_alloc_freelist.specs.FreeList.{IsFirstToGo}
-use Rattle.gpu_alloc_freelist.specs.FreeListInside.{IsFirstWhole, space_in}
+use Rattle.gpu_alloc_freelist.specs.FreeListInside.{IsFirstWhole, list_space_in}
 use Rattle.gpu_alloc_freelist.proofs.FreeListReturns.{region_held, none_to_go, first_to_go, stores_less}
 use Rattle.gpu_alloc_freelist.proofs.ListInHand.{none_held, one_fewer}
 use Rattle.gpu_alloc_freelist.proofs.freelist.list.FreeList.take_whole.Goals as goal
@@ -64,8 +64,8 @@ returns-clause-first g c =
 pub returns-clause-fewer : goal.returns-clause-fewer
 returns-clause-fewer g c =
     rw (← c.self.view_is)
-    (one_fewer (space_in c.self.inside.chunks.held c.self.inside.live.slots c.self.inside.latest) (space_in c.remove-number.new.self.held c.self.inside.live.slots c.self.inside.latest) c.remove-region.result.chunk
-    (chunk_of g.M.MemoryObject.object c.remove-number.result) c.remove-number.ensures.chunk (ap (λ (held : HeldChunks). space_in held c.self.inside.live.slots c.self.inside.latest) c.remove-number.ensures.held))
+    (one_fewer (list_space_in c.self.inside.chunks.held c.self.inside.live.slots c.self.inside.latest) (list_space_in c.remove-number.new.self.held c.self.inside.live.slots c.self.inside.latest) c.remove-region.result.chunk
+    (chunk_of g.M.MemoryObject.object c.remove-number.result) c.remove-number.ensures.chunk (ap (λ (held : HeldChunks). list_space_in held c.self.inside.live.slots c.self.inside.latest) c.remove-number.ensures.held))
 
 pub returns-clause-sound : goal.returns-clause-sound
 returns-clause-sound g c = (invariant_of-self g c).sound

@@ -15,6 +15,6 @@ returns-clause-grown g c = omega (arith, serves_as_many c.loop-request.invariant
 pub returns-in-Err-clause-leaves : goal.returns-in-Err-clause-leaves
 returns-in-Err-clause-leaves g c =
     let i = c.loop-request.invariant in
-    let same = c.give_back_after.ensures.blocks ∙ ap (take c.len-count.result) c.in-Err.ensures.refused ∙ first_ones i.served c.len-count.ensures in
+    let same = c.dealloc_after.ensures.blocks ∙ ap (take c.len-count.result) c.in-Err.ensures.refused ∙ first_ones i.served c.len-count.ensures in
     let until = leaves_then i.leaves (leaves_front _ _ i.served.grown c.in-Err.ensures.leaves) in
-    leaves_then until (rw same at c.give_back_after.ensures.leaves)
+    leaves_then until (rw same at c.dealloc_after.ensures.leaves)

@@ -1,5 +1,0 @@
-use Rattle.gpu_alloc.proofs.allocator.GpuAllocator.dealloc_in_chunk.Given as goal
-
--- the ledger of counts that nobody reads has the blank's name and parts
-abbrev pub ghosts-dealloc : goal.ghosts-dealloc
-ghosts-dealloc g a = record { name = a.blank.name; parts = a.blank.parts }
