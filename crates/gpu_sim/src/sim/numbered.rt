@@ -56,7 +56,7 @@ impl<V: Drop, A: Allocator + Copy> Numbered<V, A> {
 
     /// The value under a number, for writing.
     pub(super) fn get_mut(&mut self, number: u64) -> Option<&mut V>
-        ensures* writes_back { sem 𝓛 (lends_value V.row A.row A.Allocator self.entry number result) }
+        ensures* writes_back { sem 𝓛 (lends_numbered V.row A.row A.Allocator self.entry number result) }
         ensures value { option_copied_mut result ≡ map.get self.old number }
     {
         self.entries.get_mut(&number)
