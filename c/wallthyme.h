@@ -47,7 +47,7 @@
  * - Sizes cost. A block in a buddy chunk is a power of two; one of a free list reaches from its start to the end of a
  *   free range, so a large alignment costs. With WT_CONFIG_PROTOTYPING 1,000 requests like a renderer's hold 1.5
  *   times what they ask, and 1.7 times after many exchanges; as WT_USAGE_TRANSIENT ones 1.0 to 1.1, and 1.5 times.
- *   In fit chunks (WT_FIT) a block is as long as asked, in whole grains: 1.13 to 1.15 times (doc/COSTS.md).
+ *   In fit chunks (WT_FIT) a block is as long as asked, in whole grains: 1.13 to 1.14 times (doc/COSTS.md).
  * - A block may be used for several resources, one after the other or at once: the library knows only blocks.
  * - Without a device it is a virtual allocator: grant every question, and use the ranges for whatever you like.
  *
