@@ -564,6 +564,9 @@ impl<M: MemoryObject, A: Allocator> FreeListAllocator<M, A> {
         ensures total { chunks_and_remaining (self.new).space.chunks allocations_remains.new ≡ chunks_and_remaining
             (self.old).space.chunks allocations_remains.old }
     {
+        if self.freelist.keeps_all(keep_last) {
+            return;
+        }
         while let Some((memory, size, _)) = self.freelist.take_whole(keep_last) {
             device.deallocate_memory(&memory);
             booking::let_go(heap, allocations_remains, size);

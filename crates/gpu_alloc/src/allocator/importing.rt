@@ -96,12 +96,12 @@ impl<M: MemoryObject, A: Allocator> GpuAllocator<M, A> {
         };
         let key = self.own.insert(row);
         let heap = self.limits.heap_index(memory_type);
+        let atom = self.limits.atom(memory_type);
         booking::hold(
             &mut self.heaps[heap],
             &mut self.allocations_remains,
             row.size,
         );
-        let atom = self.limits.atom(memory_type);
         Ok(MemoryBlock::new(
             memory,
             offset,

@@ -314,7 +314,7 @@ impl<M: MemoryObject, A: Allocator> FreeList<M, A> {
         ensures room { self.old.room ≤ self.new.room }
         ensures sound { IsSoundListSpace self.new.space }
     {
-        if none_goes(self.runs.as_slice(), &self.chunks, self.whole, keep_last) {
+        if self.keeps_all(keep_last) {
             return None;
         }
         let index = first_whole(self.runs.as_slice(), &self.chunks, keep_last)?;
@@ -326,6 +326,14 @@ impl<M: MemoryObject, A: Allocator> FreeList<M, A> {
         } = self.chunks.remove(region.chunk);
         self.whole -= 1;
         Some((memory, size, number))
+    }
+
+    /// Whether a count already shows that no chunk may be released. Where it doesn't, `take_whole` looks.
+    #[inline(always)]
+    pub(super) fn keeps_all(&self, keep_last: bool) -> bool
+        ensures { IsTrue result → (number : ℕ) → MayGo self.now.space keep_last number → ⊥ }
+    {
+        none_goes(self.runs.as_slice(), &self.chunks, self.whole, keep_last)
     }
 
     /// The free runs, by chunk number, then by start. There are no more of them than live blocks and held chunks

@@ -5,6 +5,13 @@ use Rattle.gpu_alloc_base.specs.Accounts.{account}
 use Rattle.gpu_alloc_freelist.proofs.ForCallers.{begins, ends, is_counted, one_more_fits, fewer, goes_on_as}
 use Rattle.gpu_alloc_freelist.proofs.freelist.FreeListAllocator.let_chunks_go.Goals as goal
 
+-- no chunk goes, as a count shows
+pub returns-then-keeps_all-clause-gives : goal.returns-then-keeps_all-clause-gives
+returns-then-keeps_all-clause-gives g c =
+    let agreed = rw (← c.self.view_is) at c.requires.agrees in
+    let counted = rw (← c.self.view_is) at c.requires.counted in
+    rw (← c.self.view_is) ([], ([], refl, ends (begins c.self.invariant agreed counted) (c.keeps_all.ensures c.if-keeps_all.true)))
+
 pub loop-memory-init : goal.loop-memory-init
 loop-memory-init g c =
     let agreed = rw (← c.self.view_is) at c.requires.agrees in
