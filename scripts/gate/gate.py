@@ -64,11 +64,14 @@ def bodies(root):
 class Watch(threading.Thread):
     """Sees the processes that rt ci starts, and how long each of them runs."""
 
+    TICKS = os.sysconf("SC_CLK_TCK")
+
     def __init__(self, pid, edits, log):
         super().__init__(daemon=True)
         self.pid, self.edits, self.log, self.ended = str(pid), edits, log, threading.Event()
-        # What each process does and since when; when each work was first seen, and how long it took.
-        self.running, self.first, self.took = {}, {}, {}
+        # What each process does and since when; how long each work took; and the processor seconds of each of its
+        # processes, when last seen.
+        self.running, self.took, self.spent = {}, {}, {}
 
     def run(self):
         while not self.ended.wait(0.2):
@@ -80,18 +83,20 @@ class Watch(threading.Thread):
         seen, now = set(), time.monotonic()
         for pid in filter(str.isdigit, os.listdir("/proc")):
             with contextlib.suppress(OSError, ValueError, IndexError):
-                parent = read(f"/proc/{pid}/stat").rpartition(") ")[2].split()[1]
+                fields = read(f"/proc/{pid}/stat").rpartition(") ")[2].split()
+                parent = fields[1]
                 if parent == self.pid or self.running.get(parent, UNKNOWN)[0] == RUNNER:
                     seen.add(pid)
                     if self.running.get(pid, UNKNOWN)[0] == "":
-                        work = self.work_of(pid, parent)
-                        self.running[pid] = work, now
-                        self.first.setdefault(work, now)
+                        self.running[pid] = self.work_of(pid, parent), now
+                    # (its own, and of the copies of itself that it waited for, in user and system mode)
+                    spent = self.spent.setdefault(self.running[pid][0], {})
+                    spent[pid] = sum(map(int, fields[11:15])) / self.TICKS
         for pid in self.running.keys() - seen:
             work, begun = self.running.pop(pid)
             self.took[work] = now - begun
             if work[:1] == ("edit",):
-                print_timed(f"{work[1]}/{work[2]}: its check took {now - begun:.0f} s", self.log)
+                print_timed(f"{work[1]}/{work[2]}: its check took {self.seconds(*work):.0f} processor s", self.log)
 
     def work_of(self, pid, parent):
         """Says what a process does: the proof of a crate or of its tests, the check of an edit, a test or the runner of
@@ -111,9 +116,13 @@ class Watch(threading.Thread):
                 return "edit", crate, edit
         return "edit", crate, "(no edit, over what those checks kept)"
 
-    def since(self, *work):
-        """How long ago that began, to be put behind what ended; nothing where it wasn't seen."""
-        return f" in {time.monotonic() - self.first[work]:.0f} s" if work in self.first else ""
+    def seconds(self, *work):
+        """The processor seconds of that work."""
+        return sum(self.spent.get(work, {}).values())
+
+    def cost(self, *work):
+        """What that took, to be put behind what ended; nothing where it wasn't seen."""
+        return f" in {self.seconds(*work):.0f} processor s" if work in self.spent else ""
 
 
 class Gate:
@@ -163,7 +172,7 @@ class Gate:
             self.block = []
         elif ended:
             crate, of_tests = ended[1] or ended[4], ended[2] or ended[5]
-            print_timed(line[len("rt: "):] + self.watch.since("tests" if of_tests else "proof", crate))
+            print_timed(line[len("rt: "):] + self.watch.cost("tests" if of_tests else "proof", crate))
             if ended[4] and not of_tests:
                 self.proved.add(crate)
             elif not ended[4]:

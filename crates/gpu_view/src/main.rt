@@ -6,8 +6,6 @@ mod drawing;
 mod dump;
 mod picture;
 mod rows;
-#[cfg(test)]
-mod tests;
 mod view;
 mod wanted;
 mod words;
