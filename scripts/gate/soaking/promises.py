@@ -301,10 +301,12 @@ class World:
 
     def object_refused(self, memory_type, size, is_shared, reply):
         """Asks for an object, and for its mapping where it is shared and the host sees it. An object that was made has
-        used its name."""
+        used its name. Where host memory may run out for one and its mapping is to be refused, that is the cause."""
         visible = self.is_visible(memory_type)
         cause = self.refusal("allocate")
-        if not cause and visible and (size >= HUGE or size > SURE and reply == HOST):
+        planned = self.setup.refusals.get(("map", self.asked["map"] + 1)) if visible and is_shared else None
+        is_open = size > SURE and reply == HOST and planned not in ("host", "failed")
+        if not cause and visible and (size >= HUGE or is_open):
             cause = "host"
         if not cause:
             self.named += 1
