@@ -8,9 +8,9 @@ mod model;
 ghost use Rattle.std.specs.Prelude.{◌≡◌};
 ghost use Rattle.gpu_alloc_types.specs.Properties.{IsUsable, properties_of};
 
+use super::drawn::{Chance, came_often};
+use super::lists::Range;
 use super::offers::{again, are_usable};
-use super::pieces::Chance;
-use super::runs::Range;
 use super::same::{holds, never, same, same_at};
 use gpu_alloc::{
     AllocationError, Config, Dedicated, DeviceProperties, MemoryForUsage, MemoryHeap,
@@ -431,14 +431,6 @@ fn drawn_sessions_share_fit_chunks(rt: HostRuntime) -> Result<(), Fail> {
     for _ in 0..LISTS {
         tally = try_list(&rt, rt.alloc(), &mut chance, tally)?;
     }
-    for (name, times) in CASES.iter().zip(tally.iter()) {
-        same_at(
-            &rt,
-            "it came often enough:",
-            &(name, times),
-            &(*times >= LISTS / 8),
-            &true,
-        );
-    }
+    came_often(&rt, &CASES, &tally, LISTS / 8);
     Ok(())
 }

@@ -11,6 +11,7 @@ ghost use Rattle.gpu_alloc.specs.Steps.{Begins};
 ghost use Rattle.gpu_alloc_base.specs.Sizes.{up};
 ghost use Rattle.gpu_sim.specs.Question.{CanRefuse};
 
+use super::lists::{FIRST, LARGEST};
 use super::offers::HEAPS;
 use super::same::{holds, same, same_at};
 use gpu_alloc::freelist::{FreeList, FreeListAllocator, FreeListBlock, FreeListRegion};
@@ -173,12 +174,6 @@ fn a_chunk_that_cannot_be_mapped_is_let_go(rt: HostRuntime) -> Result<(), Fail> 
         },
     )
 }
-
-/// The size of the first chunk, in bytes, where the first block is not larger.
-pub(super) const FIRST: u64 = 8192;
-
-/// The size of the largest chunk.
-pub(super) const LARGEST: u64 = 32768;
 
 /// A free-list allocator with its device, its ledger and its count of objects. Contracts see the allocator.
 pub(super) struct Chunks {

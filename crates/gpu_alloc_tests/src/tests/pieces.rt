@@ -5,9 +5,9 @@ ghost use Rattle.gpu_alloc.specs.AlignMasks.{IsAlignMask};
 ghost use Rattle.std.specs.Prelude.{◌<◌, IfSome, length};
 
 use super::buddy::Chunks;
+use super::drawn::{Chance, came_often, count};
 use super::same::{holds, never_with, same, same_at};
 use gpu_alloc::buddy::BuddyBlock;
-use gpu_alloc::laws::align_masks_of_powers;
 use gpu_alloc::{FreeRange, MemoryPropertyFlags};
 use gpu_alloc_types::MemoryObject;
 use gpu_sim::SimMemory;
@@ -27,51 +27,6 @@ const MOST: u32 = 4096;
 
 /// The size of the first chunk, in bytes, unless the first block is too large for it.
 const FIRST: u64 = 8192;
-
-/// Pseudorandom numbers, the same in each run.
-#[derive(Drop)]
-pub(super) struct Chance {
-    pub(super) state: u64,
-}
-
-impl Chance {
-    /// The next number, below 2^31.
-    pub(super) fn next(&mut self) -> u64 {
-        self.state = self
-            .state
-            .wrapping_mul(6364136223846793005)
-            .wrapping_add(1442695040888963407);
-        self.state >> 33
-    }
-
-    /// A size of 1 to 8192 bytes, small ones as often as large ones.
-    pub(super) fn size(&mut self) -> u64
-        ensures { 0 < result }
-    {
-        let below = self.next() % 14;
-        (self.next() >> (18 + below)).saturating_add(1)
-    }
-
-    /// The mask of an alignment of up to 4096 bytes, and often of 1.
-    pub(super) fn align_mask(&mut self) -> u64
-        ensures { IsAlignMask result }
-    {
-        if self.next() % 4 == 0 {
-            mask_of((self.next() % 13) as u32)
-        } else {
-            mask_of(0)
-        }
-    }
-}
-
-/// The mask of an alignment of 2^order bytes.
-fn mask_of(order: u32) -> u64
-    requires { order < 63 }
-    ensures { IsAlignMask result }
-{
-    align_masks_of_powers();
-    (1 << order) - 1
-}
 
 /// A range of an object: a free piece, a live block or a chunk.
 #[derive(Clone, Copy, Debug, PartialEq, Eq)]
@@ -154,66 +109,18 @@ fn place_of(block: &BuddyBlock<SimMemory>) -> Piece {
     }
 }
 
-/// How often each case occurred in the drawn lists.
-#[derive(Clone, Copy, Drop)]
-struct Tally {
-    /// A block was taken from a free piece.
-    pieces: u64,
+/// How often each case occurred in the drawn lists: rows of [`CASES`].
+type Tally = [u64; 6];
 
-    /// There were others that were as short.
-    ties: u64,
-
-    /// A chunk was made.
-    chunks: u64,
-
-    /// It was larger than the one before.
-    grown: u64,
-
-    /// A chunk was released while others were held.
-    gone: u64,
-
-    /// Two halves were joined.
-    joined: u64,
-}
-
-impl Tally {
-    /// One that counted nothing.
-    fn new() -> Tally {
-        Tally {
-            pieces: 0,
-            ties: 0,
-            chunks: 0,
-            grown: 0,
-            gone: 0,
-            joined: 0,
-        }
-    }
-
-    /// The drawn lists met each case, at least once for every second list.
-    fn has_all(&self, rt: &impl Abort) {
-        for row in [
-            ("pieces", self.pieces),
-            ("ties", self.ties),
-            ("chunks", self.chunks),
-            ("grown", self.grown),
-            ("gone", self.gone),
-            ("joined", self.joined),
-        ] {
-            same_at(
-                rt,
-                "it came often enough:",
-                &row,
-                &(row.1 > LISTS / 2),
-                &true,
-            );
-        }
-    }
-}
-
-/// One more.
-pub(super) fn count(number: &mut u64) {
-    *number = number.saturating_add(1);
-}
+/// The cases that must occur in the lists.
+const CASES: [&str; 6] = [
+    "a block of a free piece",
+    "one of several that are as short",
+    "a chunk",
+    "one larger than the one before",
+    "a chunk goes while others are held",
+    "two halves are joined",
+];
 
 /// The size of a block for a request: the least power of two that is not below its size and its alignment.
 fn block_size(size: u64, align_mask: u64) -> u64 {
@@ -304,9 +211,9 @@ impl Lists {
         let Some(at) = find(self.free.as_slice(), front) else {
             return never_with(rt, "no shortest piece starts with", &(block, length));
         };
-        count(&mut self.tally.pieces);
+        count(&mut self.tally[0]);
         if ties > 1 {
-            count(&mut self.tally.ties);
+            count(&mut self.tally[1]);
         }
         self.free.swap_remove(at)
     }
@@ -330,9 +237,9 @@ impl Lists {
             length,
         };
         self.chunks.push(chunk)?;
-        count(&mut self.tally.chunks);
+        count(&mut self.tally[2]);
         if length > self.latest {
-            count(&mut self.tally.grown);
+            count(&mut self.tally[3]);
         }
         self.latest = length;
         Ok(chunk)
@@ -369,7 +276,7 @@ impl Lists {
                 break;
             };
             self.free.swap_remove(at);
-            count(&mut self.tally.joined);
+            count(&mut self.tally[5]);
             piece = piece.joined();
         }
         self.free.push(piece)?;
@@ -387,7 +294,7 @@ impl Lists {
         };
         self.free.swap_remove(at);
         if !self.chunks.is_empty() {
-            count(&mut self.tally.gone);
+            count(&mut self.tally[4]);
         }
     }
 
@@ -566,10 +473,10 @@ fn try_list(
 #[test]
 fn drawn_calls_leave_what_plain_lists_say(rt: HostRuntime) -> Result<(), Fail> {
     let mut chance = Chance { state: 7 };
-    let mut tally = Tally::new();
+    let mut tally = [0; 6];
     for _ in 0..LISTS {
         tally = try_list(&rt, rt.alloc(), &mut chance, tally)?;
     }
-    tally.has_all(&rt);
+    came_often(&rt, &CASES, &tally, LISTS / 2 + 1);
     Ok(())
 }

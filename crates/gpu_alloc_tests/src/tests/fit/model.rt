@@ -1,9 +1,8 @@
 //! What a session with fit chunks must answer, and what it holds, by plain lists of chunks and live blocks.
 
 use super::{Ask, HEAPS, Plan};
-use crate::tests::exact::lies_in;
-use crate::tests::pieces::count;
-use crate::tests::runs::{Range, chunk_size, is_among, runs_of, sides_of, tail_of};
+use crate::tests::drawn::count;
+use crate::tests::lists::{Range, chunk_size, is_among, is_within, runs_of, sides_of, tail_of};
 use crate::tests::same::{holds, never_with, same_at};
 use gpu_alloc::{AllocationError, Dedicated, MemoryForUsage};
 use std::alloc::{AllocError, Global};
@@ -462,7 +461,7 @@ impl Model {
         same_at(rt, "the size for", ask, &length, &size);
         same_at(rt, "the start for", ask, &(range.start & align_mask), &0);
         let gaps = self.gaps(memory_type, Some(Way::Fit))?;
-        let inside = gaps.iter().any(|gap| lies_in(range, *gap));
+        let inside = is_within(range, gaps.as_slice());
         holds(rt, inside, "a block in no gap");
         count(&mut self.tally[0]);
         if is_among(range, gaps.as_slice()) {

@@ -1,7 +1,7 @@
 use Rattle.std.proofs.Common.{◌<◌, length, arith}
 use Rattle.gpu_alloc.specs.FreeListAllocator.{bytes_of}
 use Rattle.gpu_alloc_tests.proofs.Hands.{to_front}
-use Rattle.gpu_alloc_tests.proofs.tests.runs.Hand.dealloc.Goals as goal
+use Rattle.gpu_alloc_tests.proofs.tests.runs.ListedHand.dealloc.Goals as goal
 
 pub dealloc_under-requires : goal.dealloc_under-requires
 dealloc_under-requires g c =

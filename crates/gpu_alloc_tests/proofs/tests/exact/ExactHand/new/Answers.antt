@@ -1,5 +1,5 @@
 use Rattle.std.proofs.Common.{refl}
-use Rattle.gpu_alloc_tests.proofs.tests.exact.Hand.new.Goals as goal
+use Rattle.gpu_alloc_tests.proofs.tests.exact.ExactHand.new.Goals as goal
 
 pub new-chunks-requires-clause-atom : goal.new-chunks-requires-clause-atom
 unfolding lib.Count.ones

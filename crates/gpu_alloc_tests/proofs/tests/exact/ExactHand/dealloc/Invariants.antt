@@ -1,4 +1,4 @@
-use Rattle.gpu_alloc_tests.proofs.tests.exact.Hand.dealloc.Given as goal
+use Rattle.gpu_alloc_tests.proofs.tests.exact.ExactHand.dealloc.Given as goal
 
 -- the ledger of counts that nobody reads has the blank's name and parts
 abbrev pub ghosts-put_back : goal.ghosts-put_back

@@ -1,7 +1,7 @@
 use Rattle.std.proofs.Common.{◌<◌, length, arith}
 use Rattle.gpu_alloc_fits.specs.Space.{bytes_of}
 use Rattle.gpu_alloc_tests.proofs.Hands.{to_front}
-use Rattle.gpu_alloc_tests.proofs.tests.exact.Hand.dealloc.Goals as goal
+use Rattle.gpu_alloc_tests.proofs.tests.exact.ExactHand.dealloc.Goals as goal
 
 pub put_back-requires-clause-live : goal.put_back-requires-clause-live
 put_back-requires-clause-live g c =

@@ -1,0 +1,586 @@
+//! Lists of calls of an allocator of free runs, drawn from a fixed seed. Where each block lies, what the device is
+//! asked for, what is held and what is free is compared with plain lists of chunks and live blocks.
+
+ghost use Rattle.std.specs.Prelude.{◌<◌};
+ghost use Rattle.gpu_alloc.specs.AlignMasks.{IsAlignMask};
+
+use super::drawn::{Chance, came_often, count};
+use super::same::{holds, same, same_at};
+use gpu_alloc::{AllocationError, FreeRange};
+use std::alloc::{AllocError, Global};
+use std::process::Abort;
+use std::test::Fail;
+
+/// How many lists are drawn, by bytes and by atoms each.
+const LISTS: u64 = 32;
+
+/// How many calls a list has, before those that return what is left.
+pub(super) const CALLS: u64 = 96;
+
+/// How many objects may be held at once.
+pub(super) const MOST: u32 = 3;
+
+/// The size of the first chunk, in bytes, where the first block is not larger.
+pub(super) const FIRST: u64 = 8192;
+
+/// The size of the largest chunk.
+pub(super) const LARGEST: u64 = 32768;
+
+/// A range of a chunk: its object is named by its number, since the device is asked for nothing else.
+pub(super) type Range = FreeRange;
+
+/// The tail of a run with room for this many bytes from a multiple of the mask plus one on: it starts at the last such
+/// multiple.
+pub(super) fn tail_of(run: Range, size: u64, align_mask: u64) -> Option<Range> {
+    let start = run.end.checked_sub(size)? & !align_mask;
+    if start < run.start {
+        return None;
+    }
+    Some(Range { start, ..run })
+}
+
+/// Adds a range to the runs, if it is not empty.
+fn add_run(runs: &mut Vec<Range>, run: Range) -> Result<(), AllocError> {
+    if run.start < run.end {
+        runs.push(run)?;
+    }
+    Ok(())
+}
+
+/// Adds what rising blocks leave of a chunk to the runs.
+fn add_runs(runs: &mut Vec<Range>, chunk: Range, blocks: &[Range]) -> Result<(), AllocError> {
+    let mut rest = chunk;
+    for block in blocks {
+        if block.object == chunk.object {
+            add_run(
+                runs,
+                Range {
+                    end: block.start,
+                    ..rest
+                },
+            )?;
+            rest.start = block.end;
+        }
+    }
+    add_run(runs, rest)
+}
+
+/// The free runs: what the live blocks leave of each chunk.
+pub(super) fn runs_of(
+    alloc: Global,
+    chunks: &[Range],
+    live: &[Range],
+) -> Result<Vec<Range>, AllocError> {
+    let mut blocks = Vec::new(alloc);
+    for block in live {
+        blocks.push(*block)?;
+    }
+    blocks.sort_unstable_by_key(|block| (block.object, block.start));
+    let mut runs = Vec::new(alloc);
+    for chunk in chunks {
+        add_runs(&mut runs, *chunk, blocks.as_slice())?;
+    }
+    Ok(runs)
+}
+
+/// On which sides of a block there are runs: before it, and behind it.
+pub(super) fn sides_of(runs: &[Range], block: Range) -> (bool, bool) {
+    let mut before = false;
+    let mut behind = false;
+    for run in runs {
+        if run.object == block.object {
+            before |= run.end == block.start;
+            behind |= run.start == block.end;
+        }
+    }
+    (before, behind)
+}
+
+/// The size of a chunk for this many bytes: the next one's, doubled until it is enough, and cut at the largest.
+pub(super) fn chunk_size(next: u64, size: u64, largest: u64) -> u64 {
+    let mut length = next;
+    for _ in 0..63 {
+        if length < size {
+            length <<= 1;
+        }
+    }
+    length.min(largest)
+}
+
+/// Whether a range is one of these.
+pub(super) fn is_among(range: Range, ranges: &[Range]) -> bool {
+    for other in ranges {
+        if *other == range {
+            return true;
+        }
+    }
+    false
+}
+
+/// Whether a range lies in one of these.
+pub(super) fn is_within(range: Range, ranges: &[Range]) -> bool {
+    ranges.iter().any(|other| {
+        range.object == other.object && other.start <= range.start && range.end <= other.end
+    })
+}
+
+/// A drawn size: small ones most often, now and then that of a run, which may then be taken whole, or up to the
+/// largest.
+fn drawn_size(runs: &[Range], chance: &mut Chance) -> u64
+    ensures { 0 < result }
+{
+    match chance.next() % 16 {
+        0..=2 => chance.next() % LARGEST + 1,
+        3..=6 => run_length(runs, chance.next() as usize),
+        _ => chance.size(),
+    }
+}
+
+/// The length of a run, whichever the number draws. There is always one where no chunk is full.
+fn run_length(runs: &[Range], drawn: usize) -> u64
+    ensures { 0 < result }
+{
+    let len = runs.len();
+    if len == 0 {
+        return 1;
+    }
+    let run = runs[drawn % len];
+    run.end.saturating_sub(run.start).max(1)
+}
+
+/// Where blocks lie, and which wholly free chunk a return keeps.
+#[derive(Clone, Copy, PartialEq, Eq)]
+pub(super) enum Rule {
+    /// A block is the tail of the last run with room. That run's chunk is kept.
+    Last,
+
+    /// A block is as long as requested, anywhere in a run with room, or the front of a new chunk. One chunk is kept,
+    /// and not the block's where another one is free.
+    Any,
+}
+
+/// How often each case occurred in the drawn lists: rows of [`CASES`], and then how often a block had more bytes than
+/// requested, because of its alignment.
+type Tally = [u64; 15];
+
+/// The cases that must occur in the lists.
+const CASES: [&str; 14] = [
+    "a part of a run",
+    "a whole run",
+    "the last run has no room, and one before it has",
+    "a chunk",
+    "one larger than the next was to be",
+    "no more objects",
+    "the device refuses",
+    "back beside no run",
+    "beside one before",
+    "beside one behind",
+    "between two",
+    "a wholly free chunk stays",
+    "a return releases one",
+    "a cleanup releases one",
+];
+
+/// What is held and live by plain lists, and what must come of a call.
+#[derive(Drop)]
+pub(super) struct Lists {
+    pub(super) alloc: Global,
+    rule: Rule,
+    atom_mask: u64,
+
+    /// The held chunks, the oldest first.
+    chunks: Vec<Range>,
+
+    /// The live blocks, in the order in which they were granted.
+    live: Vec<Range>,
+
+    /// What is free, by chunk, then by start.
+    pub(super) runs: Vec<Range>,
+
+    /// How many chunks were made.
+    made: u64,
+
+    /// The size of the next chunk, if that is enough.
+    next: u64,
+
+    /// How often the device was asked for a chunk, and for how many bytes the last time.
+    pub(super) asked: (u64, Option<u64>),
+
+    /// Which of these questions it refuses.
+    refused: u64,
+
+    tally: Tally,
+}
+
+impl Lists {
+    /// Nothing is held.
+    fn new(alloc: Global, rule: Rule, atom_mask: u64, refused: u64, tally: Tally) -> Lists {
+        Lists {
+            alloc,
+            rule,
+            atom_mask,
+            chunks: Vec::new(alloc),
+            live: Vec::new(alloc),
+            runs: Vec::new(alloc),
+            made: 0,
+            next: FIRST,
+            asked: (0, None),
+            refused,
+            tally,
+        }
+    }
+
+    /// Finds what is free.
+    fn find_runs(&mut self) -> Result<(), AllocError> {
+        self.runs = runs_of(self.alloc, self.chunks.as_slice(), self.live.as_slice())?;
+        Ok(())
+    }
+
+    /// Takes in the result of a request, and the refusal that was told before it, which must be right.
+    fn take(
+        &mut self,
+        rt: &impl Abort,
+        size: u64,
+        align_mask: u64,
+        (told, came): Answer,
+    ) -> Result<(), AllocError> {
+        let size = size.saturating_add(self.atom_mask) & !self.atom_mask;
+        let align_mask = align_mask.max(self.atom_mask);
+        let wanted = match self.last_tail(size, align_mask) {
+            Some(tail) => Ok(self.place(tail, size, align_mask, came)),
+            None => self.begin(size, align_mask)?,
+        };
+        same_at(rt, "the block for", &(size, align_mask), &came, &wanted);
+        let refusal = match wanted {
+            Err(AllocationError::TooManyObjects) => Some(AllocationError::TooManyObjects),
+            _ => None,
+        };
+        same_at(rt, "what is told of", &(size, align_mask), &told, &refusal);
+        if let Ok(block) = wanted {
+            self.hold(block, size)?;
+        }
+        Ok(())
+    }
+
+    /// The tail of the last run with room.
+    fn last_tail(&mut self, size: u64, align_mask: u64) -> Option<Range> {
+        let mut last = None;
+        let mut passed = false;
+        for run in &self.runs {
+            match tail_of(*run, size, align_mask) {
+                Some(tail) => {
+                    last = Some(tail);
+                    passed = false;
+                }
+                None => passed = true,
+            }
+        }
+        if passed && last.is_some() {
+            count(&mut self.tally[2]);
+        }
+        last
+    }
+
+    /// Where a block must lie that some run has room for, which is where it came where the rule allows that.
+    fn place(
+        &self,
+        tail: Range,
+        size: u64,
+        align_mask: u64,
+        came: Result<Range, AllocationError>,
+    ) -> Range {
+        match (self.rule, came) {
+            (Rule::Any, Ok(block))
+                if block.end.checked_sub(block.start) == Some(size)
+                    && block.start & align_mask == 0
+                    && is_within(block, self.runs.as_slice()) => { block }
+            _ => tail,
+        }
+    }
+
+    /// Begins a chunk, and finds the block in it. Where no more objects may be held it is refused without a question,
+    /// and otherwise the device may refuse it.
+    fn begin(
+        &mut self,
+        size: u64,
+        align_mask: u64,
+    ) -> Result<Result<Range, AllocationError>, AllocError> {
+        if self.chunks.len() >= MOST as usize {
+            count(&mut self.tally[5]);
+            return Ok(Err(AllocationError::TooManyObjects));
+        }
+        let length = chunk_size(self.next, size, LARGEST);
+        count(&mut self.asked.0);
+        self.asked.1 = Some(length);
+        if self.asked.0 == self.refused {
+            count(&mut self.tally[6]);
+            return Ok(Err(AllocationError::OutOfDeviceMemory));
+        }
+        let chunk = self.add_chunk(length)?;
+        Ok(Ok(match self.rule {
+            Rule::Last => tail_of(chunk, size, align_mask).unwrap_or(chunk),
+            Rule::Any => Range { end: size, ..chunk },
+        }))
+    }
+
+    /// Adds a chunk of this many bytes. The one after it has twice as many, up to the largest.
+    fn add_chunk(&mut self, length: u64) -> Result<Range, AllocError> {
+        count(&mut self.made);
+        count(&mut self.tally[3]);
+        if length > self.next {
+            count(&mut self.tally[4]);
+        }
+        self.next = LARGEST.min(length << 1);
+        let chunk = Range {
+            object: self.made,
+            start: 0,
+            end: length,
+        };
+        self.chunks.push(chunk)?;
+        Ok(chunk)
+    }
+
+    /// A block for a request of this many bytes is live.
+    fn hold(&mut self, block: Range, size: u64) -> Result<(), AllocError> {
+        if is_within(block, self.runs.as_slice()) {
+            let whole = is_among(block, self.runs.as_slice());
+            count(&mut self.tally[usize::from(whole)]);
+        }
+        if block.end.saturating_sub(block.start) > size {
+            count(&mut self.tally[14]);
+        }
+        self.live.push(block)?;
+        self.find_runs()
+    }
+
+    /// Returns the block at this place.
+    fn put_back(&mut self, rt: &impl Abort, at: usize) -> Result<(), AllocError> {
+        holds(rt, at < self.live.len(), "no such block");
+        let block = self.live.remove(at);
+        match sides_of(self.runs.as_slice(), block) {
+            (false, false) => count(&mut self.tally[7]),
+            (true, false) => count(&mut self.tally[8]),
+            (false, true) => count(&mut self.tally[9]),
+            (true, true) => count(&mut self.tally[10]),
+        }
+        self.find_runs()?;
+        let kept = self.kept_after(block);
+        let gone = self.let_go(kept)?;
+        self.tally[12] = self.tally[12].saturating_add(gone);
+        Ok(())
+    }
+
+    /// The object of the chunk that the return of a block keeps, if that is wholly free, or 0.
+    fn kept_after(&self, block: Range) -> u64 {
+        let mut kept = match (self.rule, self.runs.last()) {
+            (Rule::Any, _) => block.object,
+            (Rule::Last, Some(run)) => return run.object,
+            (Rule::Last, None) => return 0,
+        };
+        for chunk in &self.chunks {
+            if chunk.object != block.object && is_among(*chunk, self.runs.as_slice()) {
+                kept = chunk.object;
+            }
+        }
+        kept
+    }
+
+    /// Releases each wholly free chunk.
+    fn clean(&mut self) -> Result<(), AllocError> {
+        let gone = self.let_go(0)?;
+        self.tally[13] = self.tally[13].saturating_add(gone);
+        Ok(())
+    }
+
+    /// Releases each wholly free chunk, except the one of this number. Returns how many were released.
+    fn let_go(&mut self, kept: u64) -> Result<u64, AllocError> {
+        let mut left = Vec::new(self.alloc);
+        let mut gone = 0;
+        for chunk in &self.chunks {
+            if !is_among(*chunk, self.runs.as_slice()) {
+                left.push(*chunk)?;
+            } else if chunk.object == kept {
+                count(&mut self.tally[11]);
+                left.push(*chunk)?;
+            } else {
+                count(&mut gone);
+            }
+        }
+        self.chunks = left;
+        self.find_runs()?;
+        Ok(gone)
+    }
+
+    /// How many objects are held, of how many bytes, and how many more may be.
+    pub(super) fn held(&self) -> (usize, u128, u32) {
+        let mut bytes = 0u128;
+        let mut remaining = MOST;
+        for chunk in &self.chunks {
+            bytes = bytes.saturating_add(u128::from(chunk.end));
+            remaining = remaining.saturating_sub(1);
+        }
+        (self.chunks.len(), bytes, remaining)
+    }
+}
+
+/// The refusal that is known before a request, and where its block lies or why it is refused.
+pub(super) type Answer = (Option<AllocationError>, Result<Range, AllocationError>);
+
+/// An allocator of one memory type with the blocks that it gave out. Contracts see nothing of it.
+pub(super) trait Hand: Sized {
+    /// One without blocks, by bytes or by atoms of 64 bytes. It has room for as many blocks as a list has calls.
+    fn new(alloc: Global, by_atoms: bool) -> Result<Self, Fail>;
+
+    /// Has the device refuse that question for a chunk.
+    fn refuse(&mut self, rt: &impl Abort, nth: u64);
+
+    /// Asks which refusal is known before a request, and then makes it. Keeps the block.
+    fn take(&mut self, rt: &impl Abort, size: u64, align_mask: u64) -> Answer
+        requires nonempty { 0 < size }
+        requires alignment { IsAlignMask align_mask };
+
+    /// How many blocks are kept.
+    fn len(&self) -> usize;
+
+    /// The key of the block at this place, if there is one.
+    fn key_at(&self, at: usize) -> Option<usize>;
+
+    /// Returns the block at this place of those that are kept, under this key if there is one.
+    fn dealloc(&mut self, rt: &impl Abort, at: usize, key: Option<usize>);
+
+    /// Releases each wholly free chunk.
+    fn clean(&mut self);
+
+    /// Compares what was asked, what is held and what is free.
+    fn compare(&self, rt: &impl Abort, lists: &Lists);
+
+    /// Ends the allocator, which holds nothing.
+    fn end(self, rt: &impl Abort);
+}
+
+/// Under which keys blocks are returned.
+#[derive(Clone, Copy, PartialEq, Eq)]
+pub(super) enum Keys {
+    /// Their own.
+    Own,
+
+    /// A drawn key: the block's own, that of another block, or an invalid one.
+    Drawn,
+}
+
+/// A key, or `None` for the block's own.
+fn draw_key<H: Hand>(hand: &H, chance: &mut Chance, keys: Keys) -> Option<usize> {
+    if keys == Keys::Own {
+        return None;
+    }
+    match chance.next() % 4 {
+        0 => None,
+        1 => Some(usize::MAX),
+        2 => Some(chance.next() as usize % 64),
+        _ => hand.key_at(chance.next() as usize % 8),
+    }
+}
+
+/// Allocates a block of drawn size and alignment, and compares where it lies or why it is refused.
+fn take<H: Hand>(
+    rt: &impl Abort,
+    hand: &mut H,
+    lists: &mut Lists,
+    chance: &mut Chance,
+) -> Result<(), AllocError> {
+    let size = drawn_size(lists.runs.as_slice(), chance);
+    let align_mask = chance.align_mask();
+    let answer = hand.take(rt, size, align_mask);
+    lists.take(rt, size, align_mask, answer)
+}
+
+/// Returns a drawn one of the blocks in hand, if there is one.
+fn dealloc<H: Hand>(
+    rt: &impl Abort,
+    hand: &mut H,
+    lists: &mut Lists,
+    chance: &mut Chance,
+    keys: Keys,
+) -> Result<(), AllocError> {
+    let len = hand.len();
+    if len == 0 {
+        return Ok(());
+    }
+    let at = chance.next() as usize % len;
+    let key = draw_key(hand, chance, keys);
+    hand.dealloc(rt, at, key);
+    lists.put_back(rt, at)
+}
+
+/// Releases each wholly free chunk.
+fn clean<H: Hand>(hand: &mut H, lists: &mut Lists) -> Result<(), AllocError> {
+    hand.clean();
+    lists.clean()
+}
+
+/// Makes the calls of a list, more than half of which allocate a block, and then returns what is left and cleans up.
+fn run<H: Hand>(
+    rt: &impl Abort,
+    hand: &mut H,
+    lists: &mut Lists,
+    chance: &mut Chance,
+    keys: Keys,
+) -> Result<(), AllocError> {
+    for _ in 0..CALLS {
+        match chance.next() % 32 {
+            0 => clean(hand, lists)?,
+            1..=13 => dealloc(rt, hand, lists, chance, keys)?,
+            _ => take(rt, hand, lists, chance)?,
+        }
+        hand.compare(rt, lists);
+    }
+    for _ in 0..hand.len() {
+        dealloc(rt, hand, lists, chance, keys)?;
+        hand.compare(rt, lists);
+    }
+    clean(hand, lists)?;
+    hand.compare(rt, lists);
+    Ok(())
+}
+
+/// Draws a list, makes its calls, and ends the allocator. Returns which cases the lists met.
+fn try_list<H: Hand>(
+    rt: &impl Abort,
+    alloc: Global,
+    chance: &mut Chance,
+    rule: Rule,
+    by_atoms: bool,
+    keys: Keys,
+    tally: Tally,
+) -> Result<Tally, Fail> {
+    let refused = chance.next() % 8;
+    let mut hand = H::new(alloc, by_atoms)?;
+    let atom_mask = if by_atoms { 63 } else { 0 };
+    let mut lists = Lists::new(alloc, rule, atom_mask, refused, tally);
+    hand.refuse(rt, refused);
+    let ran = run(rt, &mut hand, &mut lists, chance, keys);
+    same(rt, "a list", &ran, &Ok(()));
+    same(rt, "what is held at the end", &lists.held(), &(0, 0, MOST));
+    hand.end(rt);
+    Ok(lists.tally)
+}
+
+/// Draws lists by bytes and by atoms, from this seed on.
+pub(super) fn try_lists<H: Hand>(
+    rt: &impl Abort,
+    alloc: Global,
+    seed: u64,
+    rule: Rule,
+    keys: Keys,
+) -> Result<(), Fail> {
+    let mut chance = Chance { state: seed };
+    let mut tally = [0; 15];
+    for _ in 0..LISTS {
+        tally = try_list::<H>(rt, alloc, &mut chance, rule, false, keys, tally)?;
+        tally = try_list::<H>(rt, alloc, &mut chance, rule, true, keys, tally)?;
+    }
+    came_often(rt, &CASES, &tally, LISTS / 2);
+    let longer = rule == Rule::Any || tally[14] >= LISTS / 2;
+    holds(rt, longer, "few blocks are longer than requested");
+    Ok(())
+}
