@@ -3,7 +3,6 @@
 ghost use Rattle.std.specs.Prelude.{◌≡◌, ◌<◌, length, vec_len, IfOk};
 ghost use Rattle.gpu_alloc_types.specs.Properties.{IsUsable, properties_of};
 ghost use Rattle.gpu_alloc.specs.Agreement.{Agrees};
-ghost use Rattle.gpu_sim.specs.Question.{CanRefuse};
 
 use super::same::{below, holds, same, same_at};
 use crate::sim::{Cause, Question, Sim, SimMemory};
@@ -342,27 +341,9 @@ impl<A: Allocator + Copy> Bench<A> {
 }
 
 impl Bench {
-    /// A bench over a device that refuses its first question of this kind.
-    pub(super) fn that_refuses(
-        rt: &impl Abort,
-        alloc: Global,
-        offered: DeviceProperties<'_>,
-        kind: Question,
-        cause: Cause,
-    ) -> Result<Self, Fail>
-        requires { CanRefuse cause kind }
-    {
-        let mut bench = Bench::new(rt, alloc, offered)?;
-        let planned = bench.refuse(kind, cause);
-        assert!(rt; planned.is_ok());
-        Ok(bench)
-    }
-
-    /// Has the device refuse its first question of a kind.
-    fn refuse(&mut self, kind: Question, cause: Cause) -> Result<(), AllocError>
-        requires { CanRefuse cause kind }
-    {
-        self.device.refuse(kind, 1, cause)
+    /// Has the device refuse its first question for an object.
+    fn refuse_object(&mut self) -> Result<(), AllocError> {
+        self.device.refuse(Question::Allocate, 1, Cause::Device)
     }
 
     /// Returns the block that starts there.
@@ -525,8 +506,11 @@ pub(super) fn compare_grants(rt: &impl Abort, bench: &mut Bench, rows: &[(u64, S
     }
 }
 
+/// Which step it is: what its case shows, and its number in it.
+type At<'a> = (&'a str, usize);
+
 /// Compares a grant of memory of a type.
-fn compare_grant(rt: &impl Abort, bench: &mut Bench, at: usize, ask: Ask, place: Place) {
+fn compare_grant(rt: &impl Abort, bench: &mut Bench, at: At<'_>, ask: Ask, place: Place) {
     let answer = bench.ask(rt, ask.request(), ask.hint());
     same_at(rt, "step", &at, &answer, &Ok(place));
 }
@@ -535,7 +519,7 @@ fn compare_grant(rt: &impl Abort, bench: &mut Bench, at: usize, ask: Ask, place:
 fn compare_refusal(
     rt: &impl Abort,
     bench: &mut Bench,
-    at: usize,
+    at: At<'_>,
     ask: Ask,
     error: AllocationError,
     asked: u64,
@@ -554,7 +538,7 @@ fn compare_refusal(
 fn compare_held(
     rt: &impl Abort,
     bench: &Bench,
-    at: usize,
+    at: At<'_>,
     objects: usize,
     remaining: u32,
     used: u128,
@@ -573,7 +557,7 @@ fn compare_held(
 fn compare_asked(
     rt: &impl Abort,
     bench: &Bench,
-    at: usize,
+    at: At<'_>,
     size: u64,
     memory_type: u32,
     flags: u8,
@@ -607,8 +591,8 @@ pub(super) enum Step {
     Held(usize, u32, u128),
 }
 
-/// Takes one step, and compares what comes of it. The number says which one it is.
-pub(super) fn take_step(rt: &impl Abort, bench: &mut Bench, at: usize, step: Step) {
+/// Takes one step, and compares what comes of it.
+pub(super) fn take_step(rt: &impl Abort, bench: &mut Bench, at: At<'_>, step: Step) {
     match step {
         Step::Grant(ask, spot) => compare_grant(rt, bench, at, ask, place_at(0, spot)),
         Step::GrantOf(memory_type, ask, spot) => {
@@ -626,43 +610,76 @@ pub(super) fn take_step(rt: &impl Abort, bench: &mut Bench, at: usize, step: Ste
     }
 }
 
-/// Takes the steps in their order.
-pub(super) fn take_steps(rt: &impl Abort, bench: &mut Bench, steps: &[Step]) {
+/// Takes the steps in their order. The text tells what they show.
+pub(super) fn take_steps(rt: &impl Abort, bench: &mut Bench, shows: &str, steps: &[Step]) {
     for (at, step) in steps.iter().enumerate() {
-        take_step(rt, bench, at, *step);
+        take_step(rt, bench, (shows, at), *step);
     }
 }
 
 /// Takes the steps in their order, and ends the bench.
-pub(super) fn play(rt: &impl Abort, mut bench: Bench, steps: &[Step]) {
-    take_steps(rt, &mut bench, steps);
+pub(super) fn play(rt: &impl Abort, mut bench: Bench, shows: &str, steps: &[Step]) {
+    take_steps(rt, &mut bench, shows, steps);
     bench.end(rt);
 }
 
-/// Takes the steps with a fresh bench over a device that offers these.
-pub(super) fn play_on(
-    rt: &impl Abort,
-    alloc: Global,
-    offered: DeviceProperties<'_>,
-    steps: &[Step],
-) -> Result<(), Fail> {
-    let bench = Bench::new(rt, alloc, offered)?;
-    play(rt, bench, steps);
+/// A device, what is done with a fresh bench over it, and what must come of that.
+#[derive(Clone, Copy)]
+pub(super) struct Case {
+    /// What it shows.
+    pub(super) shows: &'static str,
+
+    pub(super) memory_types: &'static [MemoryType],
+    pub(super) memory_heaps: &'static [MemoryHeap],
+
+    /// How many objects the device allows.
+    pub(super) objects: u32,
+
+    /// Its `non_coherent_atom_size`.
+    pub(super) atom: u64,
+
+    /// Whether it has the address feature.
+    pub(super) has_address: bool,
+
+    /// Whether it refuses its first question for an object.
+    pub(super) refuses: bool,
+
+    pub(super) steps: &'static [Step],
+}
+
+/// No steps, with one memory type in one heap of a device that refuses nothing.
+pub(super) const CASE: Case = Case {
+    shows: "nothing",
+    memory_types: &TYPES,
+    memory_heaps: &HEAPS,
+    objects: 4096,
+    atom: 1,
+    has_address: false,
+    refuses: false,
+    steps: &[],
+};
+
+/// Plays a case.
+fn play_case(rt: &impl Abort, alloc: Global, case: &Case) -> Result<(), Fail> {
+    let offered = DeviceProperties {
+        max_memory_allocation_count: case.objects,
+        non_coherent_atom_size: case.atom,
+        buffer_device_address: case.has_address,
+        ..offering(case.memory_types, case.memory_heaps)
+    };
+    let mut bench = Bench::new(rt, alloc, offered)?;
+    if case.refuses {
+        let planned = bench.refuse_object();
+        assert!(rt; planned.is_ok());
+    }
+    play(rt, bench, case.shows, case.steps);
     Ok(())
 }
 
-/// Takes the steps with a bench whose device refuses its first question of a kind.
-pub(super) fn play_refused(
-    rt: &impl Abort,
-    alloc: Global,
-    offered: DeviceProperties<'_>,
-    kind: Question,
-    cause: Cause,
-    steps: &[Step],
-) -> Result<(), Fail>
-    requires { CanRefuse cause kind }
-{
-    let bench = Bench::that_refuses(rt, alloc, offered, kind, cause)?;
-    play(rt, bench, steps);
+/// Plays each of these cases.
+pub(super) fn play_cases(rt: &impl Abort, alloc: Global, cases: &[Case]) -> Result<(), Fail> {
+    for case in cases {
+        play_case(rt, alloc, case)?;
+    }
     Ok(())
 }

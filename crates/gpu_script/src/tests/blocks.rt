@@ -1,15 +1,166 @@
 //! Where blocks lie: in chunks that they share, or in objects of their own.
 
 use super::bench::{
-    Ask, Bench, DEVICE_LOCAL, Spot, Step, TYPES, compare_grants, offering, one_type, play, play_on,
-    play_refused,
+    Ask, Bench, CASE, Case, DEVICE_LOCAL, Spot, Step, compare_grants, one_type, play, play_cases,
 };
 use super::same::same;
-use crate::sim::{Cause, Question};
-use gpu_alloc::{AllocationError, DeviceProperties, MemoryHeap, MemoryType};
+use gpu_alloc::{AllocationError, MemoryHeap, MemoryType};
 use std::alloc::Global;
 use std::process::Abort;
 use std::test::Fail;
+
+const TINY: [MemoryHeap; 1] = [MemoryHeap { size: 31 }];
+
+/// Two memory types, each in a heap of its own.
+const TWO_TYPES: [MemoryType; 2] = [
+    DEVICE_LOCAL,
+    MemoryType {
+        heap: 1,
+        ..DEVICE_LOCAL
+    },
+];
+
+const TWO_HEAPS: [MemoryHeap; 2] = [MemoryHeap { size: 1 << 20 }, MemoryHeap { size: 1 << 20 }];
+
+const CASES: [Case; 13] = [
+    Case {
+        shows: "the shortest piece is taken, so a chunk is used up before the next one is made",
+        steps: &[
+            Step::Grant(Ask::Bytes(100), (1, 0, 128)),
+            Step::Grant(Ask::Bytes(100), (1, 128, 128)),
+            Step::Grant(Ask::Bytes(200), (1, 256, 256)),
+            Step::Held(1, 4095, 8192),
+            Step::Grant(Ask::Bytes(512), (1, 512, 512)),
+            Step::Grant(Ask::Bytes(1024), (1, 1024, 1024)),
+            Step::Grant(Ask::Bytes(2048), (1, 2048, 2048)),
+            Step::Grant(Ask::Bytes(4096), (1, 4096, 4096)),
+            Step::Held(1, 4095, 8192),
+            Step::Grant(Ask::Bytes(1), (2, 0, 1)),
+            Step::Held(2, 4094, 16384),
+        ],
+        ..CASE
+    },
+    Case {
+        shows: "two free halves are joined",
+        steps: &[
+            Step::Grant(Ask::Bytes(100), (1, 0, 128)),
+            Step::Grant(Ask::Bytes(100), (1, 128, 128)),
+            Step::Grant(Ask::Bytes(200), (1, 256, 256)),
+            Step::Return(1, 0),
+            Step::Return(1, 128),
+            Step::Grant(Ask::Bytes(200), (1, 0, 256)),
+        ],
+        ..CASE
+    },
+    Case {
+        shows: "a block of exactly the threshold has an object of its own",
+        steps: &[
+            Step::Grant(Ask::Bytes(32768), (1, 0, 32768)),
+            Step::Asked(32768, 0, 0),
+        ],
+        ..CASE
+    },
+    Case {
+        shows: "one of a byte less shares a chunk",
+        steps: &[
+            Step::Grant(Ask::Bytes(32767), (1, 0, 32768)),
+            Step::Asked(65536, 0, 0),
+        ],
+        ..CASE
+    },
+    Case {
+        shows: "so has one of exactly the threshold of a hint",
+        steps: &[
+            Step::Grant(Ask::Preferred(1024), (1, 0, 1024)),
+            Step::Asked(1024, 0, 0),
+        ],
+        ..CASE
+    },
+    Case {
+        shows: "one of a byte less shares a chunk in spite of the hint",
+        steps: &[
+            Step::Grant(Ask::Preferred(1023), (1, 0, 1024)),
+            Step::Asked(8192, 0, 0),
+        ],
+        ..CASE
+    },
+    Case {
+        shows: "whatever must have an object of its own has it",
+        steps: &[Step::Grant(Ask::Own(1), (1, 0, 1)), Step::Asked(1, 0, 0)],
+        ..CASE
+    },
+    Case {
+        shows: "a usage of unnamed bits is an empty one",
+        steps: &[
+            Step::Grant(Ask::Unnamed(100), (1, 0, 128)),
+            Step::Asked(8192, 0, 0),
+        ],
+        ..CASE
+    },
+    Case {
+        shows: "a 32nd part of a heap smaller than 32 bytes is 0, so its blocks have objects of their own",
+        memory_heaps: &TINY,
+        steps: &[
+            Step::Grant(Ask::Bytes(31), (1, 0, 31)),
+            Step::Asked(31, 0, 0),
+        ],
+        ..CASE
+    },
+    Case {
+        shows: "chunks are asked for with the address flag where the device has the feature",
+        has_address: true,
+        steps: &[
+            Step::Grant(Ask::Bytes(100), (1, 0, 128)),
+            Step::Asked(8192, 0, 1),
+        ],
+        ..CASE
+    },
+    Case {
+        shows: "a chunk that was made keeps the next ones as large, even after it is released",
+        steps: &[
+            Step::Grant(Ask::Bytes(20000), (1, 0, 32768)),
+            Step::Asked(65536, 0, 0),
+            Step::Return(1, 0),
+            Step::Grant(Ask::Bytes(100), (2, 0, 128)),
+            Step::Asked(65536, 0, 0),
+            Step::Return(2, 0),
+        ],
+        ..CASE
+    },
+    Case {
+        shows: "a chunk that the device refused leaves the next ones as they were",
+        refuses: true,
+        steps: &[
+            Step::Refuse(
+                Ask::Aligned(1, (1 << 14) - 1),
+                AllocationError::OutOfDeviceMemory,
+                1,
+            ),
+            Step::Asked(32768, 0, 0),
+            Step::Grant(Ask::Bytes(100), (1, 0, 128)),
+            Step::Asked(8192, 0, 0),
+        ],
+        ..CASE
+    },
+    Case {
+        shows: "a memory type that the device refuses is passed over, and asked for again later",
+        memory_types: &TWO_TYPES,
+        memory_heaps: &TWO_HEAPS,
+        refuses: true,
+        steps: &[
+            Step::GrantOf(1, Ask::OfTypes(100, 3), (1, 0, 128)),
+            Step::Asked(8192, 1, 0),
+            Step::Grant(Ask::Bytes(100), (2, 0, 128)),
+            Step::Asked(8192, 0, 0),
+        ],
+        ..CASE
+    },
+];
+
+#[test]
+fn blocks_lie_in_shared_chunks_or_have_objects_of_their_own(rt: HostRuntime) -> Result<(), Fail> {
+    play_cases(&rt, rt.alloc(), &CASES)
+}
 
 /// Blocks of 100, 100 and 200 bytes.
 const THREE: [(u64, Spot); 3] = [
@@ -23,25 +174,6 @@ fn open_with_three(rt: &impl Abort, alloc: Global) -> Result<Bench, Fail> {
     let mut bench = Bench::new(rt, alloc, one_type())?;
     compare_grants(rt, &mut bench, &THREE);
     Ok(bench)
-}
-
-const USED_UP: [Step; 8] = [
-    Step::Held(1, 4095, 8192),
-    Step::Grant(Ask::Bytes(512), (1, 512, 512)),
-    Step::Grant(Ask::Bytes(1024), (1, 1024, 1024)),
-    Step::Grant(Ask::Bytes(2048), (1, 2048, 2048)),
-    Step::Grant(Ask::Bytes(4096), (1, 4096, 4096)),
-    Step::Held(1, 4095, 8192),
-    Step::Grant(Ask::Bytes(1), (2, 0, 1)),
-    Step::Held(2, 4094, 16384),
-];
-
-/// The shortest piece that is long enough is taken, so that a chunk is used up before the next one is made.
-#[test]
-fn a_chunk_is_used_up_first(rt: HostRuntime) -> Result<(), Fail> {
-    let bench = open_with_three(&rt, rt.alloc())?;
-    play(&rt, bench, &USED_UP);
-    Ok(())
 }
 
 /// The three are returned in each order of their offsets, and their chunk is released with the last one.
@@ -100,161 +232,9 @@ const RETURNS: [[Step; 6]; 6] = [
 fn a_chunk_goes_with_its_last_block(rt: HostRuntime) -> Result<(), Fail> {
     for steps in &RETURNS {
         let bench = open_with_three(&rt, rt.alloc())?;
-        play(&rt, bench, steps);
+        play(&rt, bench, "an order of returns", steps);
     }
     Ok(())
-}
-
-const JOINED: [Step; 3] = [
-    Step::Return(1, 0),
-    Step::Return(1, 128),
-    Step::Grant(Ask::Bytes(200), (1, 0, 256)),
-];
-
-#[test]
-fn two_free_halves_are_joined(rt: HostRuntime) -> Result<(), Fail> {
-    let bench = open_with_three(&rt, rt.alloc())?;
-    play(&rt, bench, &JOINED);
-    Ok(())
-}
-
-/// First blocks, and for how many bytes the device is asked: a block of exactly a threshold has an object of its own,
-/// one of a byte less shares a chunk.
-const FIRST: [[Step; 2]; 5] = [
-    [
-        Step::Grant(Ask::Bytes(32768), (1, 0, 32768)),
-        Step::Asked(32768, 0, 0),
-    ],
-    [
-        Step::Grant(Ask::Bytes(32767), (1, 0, 32768)),
-        Step::Asked(65536, 0, 0),
-    ],
-    [
-        Step::Grant(Ask::Preferred(1024), (1, 0, 1024)),
-        Step::Asked(1024, 0, 0),
-    ],
-    [
-        Step::Grant(Ask::Preferred(1023), (1, 0, 1024)),
-        Step::Asked(8192, 0, 0),
-    ],
-    [Step::Grant(Ask::Own(1), (1, 0, 1)), Step::Asked(1, 0, 0)],
-];
-
-#[test]
-fn large_blocks_have_objects_of_their_own(rt: HostRuntime) -> Result<(), Fail> {
-    for steps in &FIRST {
-        play_on(&rt, rt.alloc(), one_type(), steps)?;
-    }
-    Ok(())
-}
-
-const UNNAMED: [Step; 2] = [
-    Step::Grant(Ask::Unnamed(100), (1, 0, 128)),
-    Step::Asked(8192, 0, 0),
-];
-
-#[test]
-fn a_usage_of_unnamed_bits_is_an_empty_one(rt: HostRuntime) -> Result<(), Fail> {
-    play_on(&rt, rt.alloc(), one_type(), &UNNAMED)
-}
-
-const TINY: [MemoryHeap; 1] = [MemoryHeap { size: 31 }];
-
-const TINY_BLOCK: [Step; 2] = [
-    Step::Grant(Ask::Bytes(31), (1, 0, 31)),
-    Step::Asked(31, 0, 0),
-];
-
-/// A request in a heap smaller than 32 bytes gets an object of its own, since a 32nd part of it is 0.
-#[test]
-fn blocks_of_a_tiny_heap_have_objects_of_their_own(rt: HostRuntime) -> Result<(), Fail> {
-    play_on(&rt, rt.alloc(), offering(&TYPES, &TINY), &TINY_BLOCK)
-}
-
-const ADDRESSED: [Step; 2] = [
-    Step::Grant(Ask::Bytes(100), (1, 0, 128)),
-    Step::Asked(8192, 0, 1),
-];
-
-#[test]
-fn chunks_are_asked_for_with_the_address_flag_where_the_device_has_it(
-    rt: HostRuntime,
-) -> Result<(), Fail> {
-    let offered = DeviceProperties {
-        buffer_device_address: true,
-        ..one_type()
-    };
-    play_on(&rt, rt.alloc(), offered, &ADDRESSED)
-}
-
-const LATEST: [Step; 6] = [
-    Step::Grant(Ask::Bytes(20000), (1, 0, 32768)),
-    Step::Asked(65536, 0, 0),
-    Step::Return(1, 0),
-    Step::Grant(Ask::Bytes(100), (2, 0, 128)),
-    Step::Asked(65536, 0, 0),
-    Step::Return(2, 0),
-];
-
-/// A chunk that was made keeps the next ones as large, even after it is released.
-#[test]
-fn chunks_stay_as_large_as_the_latest(rt: HostRuntime) -> Result<(), Fail> {
-    play_on(&rt, rt.alloc(), one_type(), &LATEST)
-}
-
-const AFTER_A_REFUSAL: [Step; 4] = [
-    Step::Refuse(
-        Ask::Aligned(1, (1 << 14) - 1),
-        AllocationError::OutOfDeviceMemory,
-        1,
-    ),
-    Step::Asked(32768, 0, 0),
-    Step::Grant(Ask::Bytes(100), (1, 0, 128)),
-    Step::Asked(8192, 0, 0),
-];
-
-/// A chunk that the device refused leaves the next ones as they were.
-#[test]
-fn a_refused_chunk_makes_no_later_one_larger(rt: HostRuntime) -> Result<(), Fail> {
-    play_refused(
-        &rt,
-        rt.alloc(),
-        one_type(),
-        Question::Allocate,
-        Cause::Device,
-        &AFTER_A_REFUSAL,
-    )
-}
-
-/// Two memory types, each in a heap of its own.
-const TWO_TYPES: [MemoryType; 2] = [
-    DEVICE_LOCAL,
-    MemoryType {
-        heap: 1,
-        ..DEVICE_LOCAL
-    },
-];
-
-const TWO_HEAPS: [MemoryHeap; 2] = [MemoryHeap { size: 1 << 20 }, MemoryHeap { size: 1 << 20 }];
-
-const PASSED: [Step; 4] = [
-    Step::GrantOf(1, Ask::OfTypes(100, 3), (1, 0, 128)),
-    Step::Asked(8192, 1, 0),
-    Step::Grant(Ask::Bytes(100), (2, 0, 128)),
-    Step::Asked(8192, 0, 0),
-];
-
-/// A memory type that the device refuses is passed over, and is asked for again by the next request.
-#[test]
-fn the_next_type_serves_where_the_first_is_refused(rt: HostRuntime) -> Result<(), Fail> {
-    play_refused(
-        &rt,
-        rt.alloc(),
-        offering(&TWO_TYPES, &TWO_HEAPS),
-        Question::Allocate,
-        Cause::Device,
-        &PASSED,
-    )
 }
 
 /// Blocks of two allocators may be of objects with one name: their spans tell them apart.

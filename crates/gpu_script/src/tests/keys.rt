@@ -73,8 +73,8 @@ fn blocks_under_other_keys_come_back(rt: HostRuntime) -> Result<(), Fail> {
         let Ok(mut theirs) = opened else {
             panic!(rt; "no second allocator");
         };
-        take_steps(&rt, &mut ours, row.made);
-        take_steps(&rt, &mut theirs, row.remade);
+        take_steps(&rt, &mut ours, "the first", row.made);
+        take_steps(&rt, &mut theirs, "the second", row.remade);
         let owned = (ours.owns_all_of(&theirs), theirs.owns_all_of(&ours));
         same_at(&rt, "row", &at, &owned, &(true, true));
         ours.swap_blocks(&mut theirs);

@@ -1,133 +1,108 @@
 //! Refused requests: which error it is, what the device is asked, and that nothing is left behind.
 
-use super::bench::{
-    Ask, Bench, Counts, DEVICE_LOCAL, HEAPS, Step, TYPES, offering, one_type, play_on,
-};
+use super::bench::{Ask, Bench, CASE, Case, Counts, DEVICE_LOCAL, Step, one_type, play_cases};
 use super::same::{same, same_at};
-use gpu_alloc::{AllocationError, AllocationFlags, DeviceProperties, MemoryHeap, MemoryType};
+use gpu_alloc::{AllocationError, AllocationFlags, MemoryHeap, MemoryType};
 use gpu_sim::ScarceMemory;
 use std::alloc::{Allocator, Global};
 use std::process::Abort;
 use std::test::Fail;
 
-/// Requests of no memory type, how many objects the device allows, and the errors.
-const ORDERED: [(u32, [Step; 1]); 4] = [
-    (
-        4096,
-        [Step::Refuse(
+const TINY: [MemoryHeap; 1] = [MemoryHeap { size: 31 }];
+
+const EMPTY: [MemoryHeap; 1] = [MemoryHeap { size: 0 }];
+
+const TWO_TYPES: [MemoryType; 2] = [DEVICE_LOCAL, DEVICE_LOCAL];
+
+const CASES: [Case; 10] = [
+    Case {
+        shows: "a request of no memory type",
+        steps: &[Step::Refuse(
             Ask::OfTypes(1, 0),
             AllocationError::NoCompatibleMemoryTypes,
             0,
         )],
-    ),
-    (
-        0,
-        [Step::Refuse(
+        ..CASE
+    },
+    Case {
+        shows: "the same where no object may be held",
+        objects: 0,
+        steps: &[Step::Refuse(
             Ask::OfTypes(1, 0),
             AllocationError::NoCompatibleMemoryTypes,
             0,
         )],
-    ),
-    (
-        0,
-        [Step::Refuse(Ask::OwnOfNone(1), AllocationError::TooManyObjects, 0)],
-    ),
-    (
-        0,
-        [Step::Refuse(
+        ..CASE
+    },
+    Case {
+        shows: "the count of objects is tested before the memory types",
+        objects: 0,
+        steps: &[Step::Refuse(Ask::OwnOfNone(1), AllocationError::TooManyObjects, 0)],
+        ..CASE
+    },
+    Case {
+        shows: "a size that is too large is refused before the count is tested",
+        objects: 0,
+        steps: &[Step::Refuse(
             Ask::OwnOfNone((1 << 30) + 1),
             AllocationError::OutOfDeviceMemory,
             0,
         )],
-    ),
-];
-
-/// A request that is too large is refused before the count of objects is tested, and that before the memory types.
-#[test]
-fn refusals_come_in_their_order(rt: HostRuntime) -> Result<(), Fail> {
-    for (count, steps) in &ORDERED {
-        let offered = DeviceProperties {
-            max_memory_allocation_count: *count,
-            ..one_type()
-        };
-        play_on(&rt, rt.alloc(), offered, steps)?;
-    }
-    Ok(())
-}
-
-const TOO_ALIGNED: [Step; 1] = [Step::Refuse(
-    Ask::Aligned(1, (1 << 63) - 1),
-    AllocationError::OutOfDeviceMemory,
-    0,
-)];
-
-#[test]
-fn an_alignment_of_2_to_the_63_fits_no_chunk(rt: HostRuntime) -> Result<(), Fail> {
-    play_on(&rt, rt.alloc(), one_type(), &TOO_ALIGNED)
-}
-
-/// Heaps, and requests that are too large for them.
-const SMALL: [([MemoryHeap; 1], [Step; 1]); 2] = [
-    (
-        [MemoryHeap { size: 31 }],
-        [Step::Refuse(Ask::Bytes(32), AllocationError::OutOfDeviceMemory, 0)],
-    ),
-    (
-        [MemoryHeap { size: 0 }],
-        [Step::Refuse(Ask::Bytes(1), AllocationError::OutOfDeviceMemory, 0)],
-    ),
-];
-
-#[test]
-fn a_heap_that_is_too_small_is_not_asked(rt: HostRuntime) -> Result<(), Fail> {
-    for (heaps, steps) in &SMALL {
-        play_on(&rt, rt.alloc(), offering(&TYPES, heaps), steps)?;
-    }
-    Ok(())
-}
-
-const NO_TYPES: [Step; 1] = [Step::Refuse(
-    Ask::Bytes(1),
-    AllocationError::NoCompatibleMemoryTypes,
-    0,
-)];
-
-#[test]
-fn a_device_without_memory_types_serves_nothing(rt: HostRuntime) -> Result<(), Fail> {
-    play_on(&rt, rt.alloc(), offering(&[], &HEAPS), &NO_TYPES)
-}
-
-/// A device with these memory types in one heap, which allows one object.
-fn one_object(types: &'static [MemoryType]) -> DeviceProperties<'static> {
-    DeviceProperties {
-        max_memory_allocation_count: 1,
-        ..offering(types, &HEAPS)
-    }
-}
-
-const USED_UP: [Step; 3] = [
-    Step::Grant(Ask::Own(10), (1, 0, 10)),
-    Step::Held(1, 0, 10),
-    Step::Refuse(Ask::Bytes(32768), AllocationError::TooManyObjects, 0),
+        ..CASE
+    },
+    Case {
+        shows: "an alignment of 2^63 fits no chunk",
+        steps: &[Step::Refuse(
+            Ask::Aligned(1, (1 << 63) - 1),
+            AllocationError::OutOfDeviceMemory,
+            0,
+        )],
+        ..CASE
+    },
+    Case {
+        shows: "a heap that is too small is not asked",
+        memory_heaps: &TINY,
+        steps: &[Step::Refuse(Ask::Bytes(32), AllocationError::OutOfDeviceMemory, 0)],
+        ..CASE
+    },
+    Case {
+        shows: "nor one without bytes",
+        memory_heaps: &EMPTY,
+        steps: &[Step::Refuse(Ask::Bytes(1), AllocationError::OutOfDeviceMemory, 0)],
+        ..CASE
+    },
+    Case {
+        shows: "a device without memory types serves nothing",
+        memory_types: &[],
+        steps: &[Step::Refuse(Ask::Bytes(1), AllocationError::NoCompatibleMemoryTypes, 0)],
+        ..CASE
+    },
+    Case {
+        shows: "objects are used up",
+        objects: 1,
+        steps: &[
+            Step::Grant(Ask::Own(10), (1, 0, 10)),
+            Step::Held(1, 0, 10),
+            Step::Refuse(Ask::Bytes(32768), AllocationError::TooManyObjects, 0),
+        ],
+        ..CASE
+    },
+    Case {
+        shows: "where no more objects may be held, no later memory type is tried, though it has a free piece",
+        memory_types: &TWO_TYPES,
+        objects: 1,
+        steps: &[
+            Step::GrantOf(1, Ask::OfTypes(100, 2), (1, 0, 128)),
+            Step::Asked(8192, 1, 0),
+            Step::Refuse(Ask::OfTypes(100, 3), AllocationError::TooManyObjects, 0),
+        ],
+        ..CASE
+    },
 ];
 
 #[test]
-fn objects_are_used_up(rt: HostRuntime) -> Result<(), Fail> {
-    play_on(&rt, rt.alloc(), one_object(&TYPES), &USED_UP)
-}
-
-const TWO_TYPES: [MemoryType; 2] = [DEVICE_LOCAL, DEVICE_LOCAL];
-
-const NOT_PASSED: [Step; 3] = [
-    Step::GrantOf(1, Ask::OfTypes(100, 2), (1, 0, 128)),
-    Step::Asked(8192, 1, 0),
-    Step::Refuse(Ask::OfTypes(100, 3), AllocationError::TooManyObjects, 0),
-];
-
-/// A memory type for which no more objects may be held is not passed over, though a later one has a free piece.
-#[test]
-fn a_lack_of_objects_is_not_passed(rt: HostRuntime) -> Result<(), Fail> {
-    play_on(&rt, rt.alloc(), one_object(&TWO_TYPES), &NOT_PASSED)
+fn refusals_tell_their_cause(rt: HostRuntime) -> Result<(), Fail> {
+    play_cases(&rt, rt.alloc(), &CASES)
 }
 
 /// How far a request got where few bytes were left.
