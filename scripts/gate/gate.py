@@ -22,8 +22,8 @@ BEGUN = time.monotonic()
 PRINTING = threading.Lock()
 RUNNER = ("runner",)
 UNKNOWN = ("", 0)
-# The most memory that a check of a crate is seen to take, and a little more.
-EACH = 3_500_000_000
+# The memory of a check: more than most take. The two of tests take up to 7 GB, and run beside smaller ones.
+EACH = 4_500_000_000
 # What is printed of a block in which something is not proved.
 REASON = re.compile(r"error|no proof|NOT|: not proved|^rt: (?!chose)")
 
