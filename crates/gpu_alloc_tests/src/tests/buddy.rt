@@ -242,7 +242,7 @@ impl Chunks {
     /// Compares the free ranges, each by its object, its start and its end.
     fn compare_ranges(&self, rt: &impl Abort, ranges: &[(u64, u64, u64)]) {
         let found = self.free_ranges(rt);
-        compare_ranges(rt, ranges.len(), &found, ranges);
+        compare_ranges(rt, &"an allocator of buddies", &found, ranges);
     }
 
     /// Ends the allocator, which holds nothing.

@@ -49,112 +49,156 @@ const COHERENT_SHARED: Asking = Asking {
 /// What the host sees of non-coherent memory before it writes or invalidates it. The device has zeros there.
 const HOST: u8 = 0xEE;
 
-const MAPPED_ATOMS: [Row; 1] = [(
-    OWN,
-    &[
-        First(Mapped(None)),
-        First(Map(70, 10, Ok((70, 10)))),
-        Range(1, 64, 64),
-        First(Mapped(Some((70, 10)))),
-        Second(Mapped(None)),
-        Second(Map(255, 1, Ok((255, 1)))),
-        Range(2, 192, 64),
-        First(Unmap(true)),
-        First(Map(0, 256, Ok((0, 256)))),
-        Range(1, 0, 256),
-        Asked([2, 3, 0, 0]),
-    ],
-)];
+/// As the first, but of 100 bytes: the second atom is cut at the object's end.
+const CUT: Asking = Asking { size: 100, ..OWN };
 
-#[test]
-fn whole_atoms_are_mapped(rt: HostRuntime) -> Result<(), Fail> {
-    play(&rt, rt.alloc(), &MAPPED_ATOMS)
-}
-
-const MAPPED_ONCE: [Row; 1] = [(
-    SHARED,
-    &[
-        Asked([1, 1, 0, 0]),
-        Second(Map(8, 4, Ok((72, 4)))),
-        Second(Mapped(Some((72, 4)))),
-        Second(Map(0, 1, Err(AlreadyMapped))),
-        First(Mapped(None)),
-        Second(Unmap(true)),
-        Second(Unmap(false)),
-        Second(Mapped(None)),
-        Asked([1, 1, 0, 0]),
-    ],
-)];
-
-#[test]
-fn a_shared_object_is_mapped_once(rt: HostRuntime) -> Result<(), Fail> {
-    play(&rt, rt.alloc(), &MAPPED_ONCE)
-}
-
-const FLUSHED_ATOMS: [Row; 1] = [(
-    OWN,
-    &[
-        First(Write(70, &[0xA5; 10], Ok(()))),
-        Range(1, 64, 64),
-        First(Write(0, &[1], Ok(()))),
-        Range(1, 0, 64),
-        First(Write(255, &[2], Ok(()))),
-        Range(1, 192, 64),
-        First(Write(63, &[3; 2], Ok(()))),
-        Range(1, 0, 128),
-        Second(Write(0, &[4; 256], Ok(()))),
-        Range(2, 0, 256),
-        First(Read(62, &[HOST, 3, 3, HOST])),
-        Range(1, 0, 128),
-        First(Read(69, &[HOST, 0xA5, 0xA5])),
-        First(Read(79, &[0xA5, HOST])),
-        First(Read(254, &[HOST, 2])),
-        Second(Read(0, &[4; 256])),
-        Range(2, 0, 256),
-        Asked([2, 10, 5, 5]),
-    ],
-)];
-
-#[test]
-fn writes_flush_whole_atoms(rt: HostRuntime) -> Result<(), Fail> {
-    play(&rt, rt.alloc(), &FLUSHED_ATOMS)
-}
-
-/// As these, but of 100 bytes: the second atom is cut at the object's end.
-const CUT: Asking = Asking {
-    memory: Memory::NonCoherent,
-    usage: UsageFlags::HOST_ACCESS,
-    size: 100,
+/// Two blocks of 8 bytes with an object each, in device-local memory that is not host-visible.
+const UNSEEN: Asking = Asking {
+    memory: Memory::Unseen,
+    usage: UsageFlags::FAST_DEVICE_ACCESS,
+    size: 8,
     hint: Dedicated::Required,
 };
 
-const CUT_RANGES: [Row; 1] = [(
-    CUT,
-    &[
-        First(Write(70, &[7; 30], Ok(()))),
-        Range(1, 64, 36),
-        First(Write(99, &[8], Ok(()))),
-        Range(1, 64, 36),
-        First(Map(99, 1, Ok((99, 1)))),
-        Range(1, 64, 36),
-        First(Unmap(true)),
-        First(Write(63, &[9], Ok(()))),
-        Range(1, 0, 64),
-        First(Read(62, &[HOST, 9])),
-        First(Read(97, &[7, 7, 8])),
-        Range(1, 64, 36),
-        Second(Read(0, &[0; 100])),
-        Range(2, 0, 100),
-    ],
-)];
-
-#[test]
-fn a_range_is_cut_where_its_block_ends(rt: HostRuntime) -> Result<(), Fail> {
-    play(&rt, rt.alloc(), &CUT_RANGES)
-}
-
-const DEVICE_WRITES: [Row; 3] = [
+/// What is mapped.
+const MAPPINGS: [Row; 7] = [
     (
+        "whole atoms are mapped",
+        OWN,
+        &[
+            First(Mapped(None)),
+            First(Map(70, 10, Ok((70, 10)))),
+            Range(1, 64, 64),
+            First(Mapped(Some((70, 10)))),
+            Second(Mapped(None)),
+            Second(Map(255, 1, Ok((255, 1)))),
+            Range(2, 192, 64),
+            First(Unmap(true)),
+            First(Map(0, 256, Ok((0, 256)))),
+            Range(1, 0, 256),
+            Asked([2, 3, 0, 0]),
+        ],
+    ),
+    (
+        "a shared object is mapped once, and each of its blocks has a mapping of its own",
+        SHARED,
+        &[
+            Asked([1, 1, 0, 0]),
+            Second(Map(8, 4, Ok((72, 4)))),
+            Second(Mapped(Some((72, 4)))),
+            Second(Map(0, 1, Err(AlreadyMapped))),
+            First(Mapped(None)),
+            Second(Unmap(true)),
+            Second(Unmap(false)),
+            Second(Mapped(None)),
+            Asked([1, 1, 0, 0]),
+        ],
+    ),
+    (
+        "a mapped block of a shared object is neither written nor read",
+        COHERENT_SHARED,
+        &[
+            First(Map(0, 1, Ok((0, 1)))),
+            First(Write(0, &[1], Err(AlreadyMapped))),
+            First(Unread(0, 1, AlreadyMapped)),
+            Second(Write(0, &[2], Ok(()))),
+            First(Unmap(true)),
+            First(Unmap(false)),
+            First(Write(0, &[3], Ok(()))),
+            First(Read(0, &[3])),
+            Asked([1, 1, 0, 0]),
+        ],
+    ),
+    (
+        "a mapped block with an object of its own is neither written nor read",
+        COHERENT_OWN,
+        &[
+            First(Map(0, 1, Ok((0, 1)))),
+            First(Write(0, &[1], Err(AlreadyMapped))),
+            First(Unread(0, 1, AlreadyMapped)),
+            First(Map(0, 1, Err(AlreadyMapped))),
+            Asked([2, 1, 0, 0]),
+            First(Unmap(true)),
+            First(Unmap(false)),
+            First(Write(0, &[3], Ok(()))),
+            First(Read(0, &[3])),
+            Asked([2, 3, 0, 0]),
+        ],
+    ),
+    (
+        "mapped blocks with objects of their own are returned",
+        OWN,
+        &[
+            First(Map(0, 256, Ok((0, 256)))),
+            Second(Map(1, 1, Ok((1, 1)))),
+        ],
+    ),
+    (
+        "mapped blocks of a buddy chunk are returned",
+        SHARED,
+        &[
+            First(Map(0, 64, Ok((0, 64)))),
+            Second(Map(1, 1, Ok((65, 1)))),
+        ],
+    ),
+    (
+        "mapped blocks of a free list are returned",
+        RUNS,
+        &[
+            First(Map(0, 64, Ok((8064, 64)))),
+            Second(Map(1, 1, Ok((7937, 1)))),
+        ],
+    ),
+];
+
+/// What is written and read.
+const BYTES: [Row; 11] = [
+    (
+        "writes flush whole atoms, and reads invalidate them",
+        OWN,
+        &[
+            First(Write(70, &[0xA5; 10], Ok(()))),
+            Range(1, 64, 64),
+            First(Write(0, &[1], Ok(()))),
+            Range(1, 0, 64),
+            First(Write(255, &[2], Ok(()))),
+            Range(1, 192, 64),
+            First(Write(63, &[3; 2], Ok(()))),
+            Range(1, 0, 128),
+            Second(Write(0, &[4; 256], Ok(()))),
+            Range(2, 0, 256),
+            First(Read(62, &[HOST, 3, 3, HOST])),
+            Range(1, 0, 128),
+            First(Read(69, &[HOST, 0xA5, 0xA5])),
+            First(Read(79, &[0xA5, HOST])),
+            First(Read(254, &[HOST, 2])),
+            Second(Read(0, &[4; 256])),
+            Range(2, 0, 256),
+            Asked([2, 10, 5, 5]),
+        ],
+    ),
+    (
+        "a range is cut where its object ends",
+        CUT,
+        &[
+            First(Write(70, &[7; 30], Ok(()))),
+            Range(1, 64, 36),
+            First(Write(99, &[8], Ok(()))),
+            Range(1, 64, 36),
+            First(Map(99, 1, Ok((99, 1)))),
+            Range(1, 64, 36),
+            First(Unmap(true)),
+            First(Write(63, &[9], Ok(()))),
+            Range(1, 0, 64),
+            First(Read(62, &[HOST, 9])),
+            First(Read(97, &[7, 7, 8])),
+            Range(1, 64, 36),
+            Second(Read(0, &[0; 100])),
+            Range(2, 0, 100),
+        ],
+    ),
+    (
+        "a read tells what the device wrote",
         OWN,
         &[
             First(Read(0, &[0, 0])),
@@ -164,6 +208,7 @@ const DEVICE_WRITES: [Row; 3] = [
         ],
     ),
     (
+        "a read tells what the device wrote into coherent memory",
         COHERENT_OWN,
         &[
             Command(1, 0, &[1, 2]),
@@ -172,6 +217,7 @@ const DEVICE_WRITES: [Row; 3] = [
         ],
     ),
     (
+        "a read tells what the device wrote across two blocks of an object",
         SHARED,
         &[
             Command(1, 63, &[3, 4]),
@@ -180,15 +226,8 @@ const DEVICE_WRITES: [Row; 3] = [
             Asked([1, 1, 0, 2]),
         ],
     ),
-];
-
-#[test]
-fn reads_tell_what_the_device_wrote(rt: HostRuntime) -> Result<(), Fail> {
-    play(&rt, rt.alloc(), &DEVICE_WRITES)
-}
-
-const NEIGHBOURS: [Row; 3] = [
     (
+        "neighbours in a buddy chunk keep their bytes",
         SHARED,
         &[
             First(Write(0, &[1; 64], Ok(()))),
@@ -205,6 +244,7 @@ const NEIGHBOURS: [Row; 3] = [
         ],
     ),
     (
+        "neighbours in coherent memory keep their bytes",
         COHERENT_SHARED,
         &[
             First(Write(0, &[1; 64], Ok(()))),
@@ -215,6 +255,7 @@ const NEIGHBOURS: [Row; 3] = [
         ],
     ),
     (
+        "neighbours in a free list keep their bytes",
         RUNS,
         &[
             First(Write(0, &[1; 128], Ok(()))),
@@ -226,30 +267,18 @@ const NEIGHBOURS: [Row; 3] = [
             Range(1, 8000, 64),
         ],
     ),
-];
-
-#[test]
-fn neighbours_keep_their_bytes(rt: HostRuntime) -> Result<(), Fail> {
-    play(&rt, rt.alloc(), &NEIGHBOURS)
-}
-
-const COHERENT_BYTES: [Row; 1] = [(
-    COHERENT_OWN,
-    &[
-        First(Write(70, &[5; 10], Ok(()))),
-        Range(1, 70, 10),
-        First(Read(69, &[0, 5])),
-        Asked([2, 2, 0, 0]),
-    ],
-)];
-
-#[test]
-fn coherent_bytes_need_no_flush(rt: HostRuntime) -> Result<(), Fail> {
-    play(&rt, rt.alloc(), &COHERENT_BYTES)
-}
-
-const NO_BYTES: [Row; 2] = [
     (
+        "coherent bytes need no flush",
+        COHERENT_OWN,
+        &[
+            First(Write(70, &[5; 10], Ok(()))),
+            Range(1, 70, 10),
+            First(Read(69, &[0, 5])),
+            Asked([2, 2, 0, 0]),
+        ],
+    ),
+    (
+        "no bytes ask nothing, but are refused while the block is mapped",
         OWN,
         &[
             First(Write(256, &[], Ok(()))),
@@ -262,6 +291,7 @@ const NO_BYTES: [Row; 2] = [
         ],
     ),
     (
+        "no bytes of a shared object ask nothing",
         SHARED,
         &[
             First(Write(64, &[], Ok(()))),
@@ -271,76 +301,23 @@ const NO_BYTES: [Row; 2] = [
     ),
 ];
 
-#[test]
-fn no_bytes_ask_nothing(rt: HostRuntime) -> Result<(), Fail> {
-    play(&rt, rt.alloc(), &NO_BYTES)
-}
-
-const MAPPED_BLOCKS: [Row; 2] = [
+/// What is refused, by the allocator or by the device.
+const REFUSALS: [Row; 7] = [
     (
-        COHERENT_SHARED,
+        "what the host does not see is refused",
+        UNSEEN,
         &[
-            First(Map(0, 1, Ok((0, 1)))),
-            First(Write(0, &[1], Err(AlreadyMapped))),
-            First(Unread(0, 1, AlreadyMapped)),
-            Second(Write(0, &[2], Ok(()))),
-            First(Unmap(true)),
+            First(Map(0, 8, Err(NonHostVisible))),
+            First(Write(0, &[1], Err(NonHostVisible))),
+            First(Write(0, &[], Err(NonHostVisible))),
+            First(Unread(0, 8, NonHostVisible)),
             First(Unmap(false)),
-            First(Write(0, &[3], Ok(()))),
-            First(Read(0, &[3])),
-            Asked([1, 1, 0, 0]),
+            First(Mapped(None)),
+            Asked([2, 0, 0, 0]),
         ],
     ),
     (
-        COHERENT_OWN,
-        &[
-            First(Map(0, 1, Ok((0, 1)))),
-            First(Write(0, &[1], Err(AlreadyMapped))),
-            First(Unread(0, 1, AlreadyMapped)),
-            First(Map(0, 1, Err(AlreadyMapped))),
-            Asked([2, 1, 0, 0]),
-            First(Unmap(true)),
-            First(Unmap(false)),
-            First(Write(0, &[3], Ok(()))),
-            First(Read(0, &[3])),
-            Asked([2, 3, 0, 0]),
-        ],
-    ),
-];
-
-#[test]
-fn mapped_blocks_are_not_written(rt: HostRuntime) -> Result<(), Fail> {
-    play(&rt, rt.alloc(), &MAPPED_BLOCKS)
-}
-
-/// Two blocks of 8 bytes with an object each, in device-local memory that is not host-visible.
-const UNSEEN: Asking = Asking {
-    memory: Memory::Unseen,
-    usage: UsageFlags::FAST_DEVICE_ACCESS,
-    size: 8,
-    hint: Dedicated::Required,
-};
-
-const UNSEEN_BYTES: [Row; 1] = [(
-    UNSEEN,
-    &[
-        First(Map(0, 8, Err(NonHostVisible))),
-        First(Write(0, &[1], Err(NonHostVisible))),
-        First(Write(0, &[], Err(NonHostVisible))),
-        First(Unread(0, 8, NonHostVisible)),
-        First(Unmap(false)),
-        First(Mapped(None)),
-        Asked([2, 0, 0, 0]),
-    ],
-)];
-
-#[test]
-fn what_the_host_does_not_see_is_refused(rt: HostRuntime) -> Result<(), Fail> {
-    play(&rt, rt.alloc(), &UNSEEN_BYTES)
-}
-
-const REFUSED_MAPPINGS: [Row; 2] = [
-    (
+        "a refused mapping changes nothing",
         OWN,
         &[
             First(Write(0, &[1; 4], Ok(()))),
@@ -371,6 +348,7 @@ const REFUSED_MAPPINGS: [Row; 2] = [
         ],
     ),
     (
+        "a refused mapping of coherent memory changes nothing",
         COHERENT_OWN,
         &[
             Refuse(Question::Map, Device),
@@ -396,55 +374,38 @@ const REFUSED_MAPPINGS: [Row; 2] = [
             Asked([2, 10, 0, 0]),
         ],
     ),
-];
-
-#[test]
-fn a_refused_mapping_changes_nothing(rt: HostRuntime) -> Result<(), Fail> {
-    play(&rt, rt.alloc(), &REFUSED_MAPPINGS)
-}
-
-const REFUSED_FLUSHES: [Row; 1] = [(
-    OWN,
-    &[
-        Refuse(Question::Flush, Host),
-        First(Write(60, &[0x11; 8], Err(OutOfHostMemory))),
-        Range(1, 0, 128),
-        First(Mapped(None)),
-        First(Read(60, &[0x11, 0x11, 0x11, 0x11, 0, 0, 0, 0])),
-        Refuse(Question::Flush, Device),
-        First(Write(60, &[0x22; 8], Err(OutOfDeviceMemory))),
-        First(Map(0, 1, Ok((0, 1)))),
-        Asked([2, 4, 2, 1]),
-    ],
-)];
-
-#[test]
-fn a_refused_flush_leaves_the_block_unmapped(rt: HostRuntime) -> Result<(), Fail> {
-    play(&rt, rt.alloc(), &REFUSED_FLUSHES)
-}
-
-const REFUSED_INVALIDATES: [Row; 1] = [(
-    OWN,
-    &[
-        Command(1, 0, &[1; 128]),
-        Refuse(Question::Invalidate, Device),
-        First(Unread(60, 8, OutOfDeviceMemory)),
-        Range(1, 0, 128),
-        First(Mapped(None)),
-        Refuse(Question::Invalidate, Host),
-        First(Unread(0, 256, OutOfHostMemory)),
-        First(Read(60, &[1; 8])),
-        Asked([2, 3, 0, 3]),
-    ],
-)];
-
-#[test]
-fn a_refused_invalidate_leaves_the_block_unmapped(rt: HostRuntime) -> Result<(), Fail> {
-    play(&rt, rt.alloc(), &REFUSED_INVALIDATES)
-}
-
-const REFUSED_NEIGHBOURS: [Row; 2] = [
     (
+        "a refused flush leaves the block unmapped, with what was flushed before",
+        OWN,
+        &[
+            Refuse(Question::Flush, Host),
+            First(Write(60, &[0x11; 8], Err(OutOfHostMemory))),
+            Range(1, 0, 128),
+            First(Mapped(None)),
+            First(Read(60, &[0x11, 0x11, 0x11, 0x11, 0, 0, 0, 0])),
+            Refuse(Question::Flush, Device),
+            First(Write(60, &[0x22; 8], Err(OutOfDeviceMemory))),
+            First(Map(0, 1, Ok((0, 1)))),
+            Asked([2, 4, 2, 1]),
+        ],
+    ),
+    (
+        "a refused invalidate leaves the block unmapped",
+        OWN,
+        &[
+            Command(1, 0, &[1; 128]),
+            Refuse(Question::Invalidate, Device),
+            First(Unread(60, 8, OutOfDeviceMemory)),
+            Range(1, 0, 128),
+            First(Mapped(None)),
+            Refuse(Question::Invalidate, Host),
+            First(Unread(0, 256, OutOfHostMemory)),
+            First(Read(60, &[1; 8])),
+            Asked([2, 3, 0, 3]),
+        ],
+    ),
+    (
+        "refusals of a block in a buddy chunk change no byte of its neighbour",
         SHARED,
         &[
             First(Write(0, &[1; 64], Ok(()))),
@@ -461,6 +422,7 @@ const REFUSED_NEIGHBOURS: [Row; 2] = [
         ],
     ),
     (
+        "refusals of a block in a free list change no byte of its neighbour",
         RUNS,
         &[
             First(Write(0, &[1; 128], Ok(()))),
@@ -479,35 +441,8 @@ const REFUSED_NEIGHBOURS: [Row; 2] = [
 ];
 
 #[test]
-fn a_neighbours_refusals_change_no_byte(rt: HostRuntime) -> Result<(), Fail> {
-    play(&rt, rt.alloc(), &REFUSED_NEIGHBOURS)
-}
-
-const MAPPED_RETURNS: [Row; 3] = [
-    (
-        OWN,
-        &[
-            First(Map(0, 256, Ok((0, 256)))),
-            Second(Map(1, 1, Ok((1, 1)))),
-        ],
-    ),
-    (
-        SHARED,
-        &[
-            First(Map(0, 64, Ok((0, 64)))),
-            Second(Map(1, 1, Ok((65, 1)))),
-        ],
-    ),
-    (
-        RUNS,
-        &[
-            First(Map(0, 64, Ok((8064, 64)))),
-            Second(Map(1, 1, Ok((7937, 1)))),
-        ],
-    ),
-];
-
-#[test]
-fn mapped_blocks_are_returned(rt: HostRuntime) -> Result<(), Fail> {
-    play(&rt, rt.alloc(), &MAPPED_RETURNS)
+fn blocks_are_mapped_written_and_read(rt: HostRuntime) -> Result<(), Fail> {
+    play(&rt, rt.alloc(), &MAPPINGS)?;
+    play(&rt, rt.alloc(), &BYTES)?;
+    play(&rt, rt.alloc(), &REFUSALS)
 }

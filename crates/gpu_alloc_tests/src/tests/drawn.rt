@@ -3,7 +3,7 @@
 ghost use Rattle.std.specs.Prelude.{◌<◌};
 ghost use Rattle.gpu_alloc.specs.AlignMasks.{IsAlignMask};
 
-use super::same::same_at;
+use super::same::{holds, same_at};
 use gpu_alloc::laws::align_masks_of_powers;
 use std::process::Abort;
 
@@ -57,8 +57,9 @@ pub(super) fn count(number: &mut u64) {
     *number = number.saturating_add(1);
 }
 
-/// Each of these cases must have come at least so often.
+/// Each of these cases must have come at least so often. The tally has a number for each.
 pub(super) fn came_often(rt: &impl Abort, cases: &[&str], tally: &[u64], least: u64) {
+    holds(rt, cases.len() <= tally.len(), "a case that is not counted");
     for (case, times) in cases.iter().zip(tally.iter()) {
         same_at(
             rt,

@@ -95,8 +95,11 @@ pub(super) enum Step {
     Range(u64, u64, u64),
 }
 
-/// What two blocks are asked for with, and what is done with them.
-pub(super) type Row = (Asking, &'static [Step]);
+/// What is shown, what two blocks are asked for with, and what is done with them.
+pub(super) type Row = (&'static str, Asking, &'static [Step]);
+
+/// What a row shows, and the number of a step in it.
+pub(super) type At = (&'static str, usize);
 
 /// An allocator over a simulated device, and two blocks of it. Contracts see nothing of them.
 struct Pair {
@@ -156,8 +159,8 @@ impl Pair {
         }
     }
 
-    /// Takes one step, and compares what comes of it. The number says which one it is.
-    fn take_step(&mut self, rt: &impl Abort, at: usize, step: Step) {
+    /// Takes one step, and compares what comes of it.
+    fn take_step(&mut self, rt: &impl Abort, at: At, step: Step) {
         match step {
             Step::First(call) => self.call_first(rt, at, call),
             Step::Second(call) => self.call_second(rt, at, call),
@@ -177,11 +180,11 @@ impl Pair {
         }
     }
 
-    fn call_first(&mut self, rt: &impl Abort, at: usize, call: Call) {
+    fn call_first(&mut self, rt: &impl Abort, at: At, call: Call) {
         call_block(rt, &mut self.device, &mut self.first, at, call);
     }
 
-    fn call_second(&mut self, rt: &impl Abort, at: usize, call: Call) {
+    fn call_second(&mut self, rt: &impl Abort, at: At, call: Call) {
         call_block(rt, &mut self.device, &mut self.second, at, call);
     }
 
@@ -227,17 +230,17 @@ impl Pair {
 
 /// Takes the steps of each row in their order with two fresh blocks, and returns these.
 pub(super) fn play(rt: &impl Abort, alloc: Global, rows: &[Row]) -> Result<(), Fail> {
-    for (asking, steps) in rows {
-        play_row(rt, alloc, *asking, steps)?;
+    for row in rows {
+        play_row(rt, alloc, *row)?;
     }
     Ok(())
 }
 
 /// The same of one row.
-fn play_row(rt: &impl Abort, alloc: Global, asking: Asking, steps: &[Step]) -> Result<(), Fail> {
+fn play_row(rt: &impl Abort, alloc: Global, (shows, asking, steps): Row) -> Result<(), Fail> {
     let mut pair = Pair::new(rt, alloc, asking)?;
-    for (at, step) in steps.iter().enumerate() {
-        pair.take_step(rt, at, *step);
+    for (number, step) in steps.iter().enumerate() {
+        pair.take_step(rt, (shows, number), *step);
     }
     pair.end(rt);
     Ok(())
@@ -327,7 +330,7 @@ fn call_block(
     rt: &impl Abort,
     device: &mut Sim,
     block: &mut MemoryBlock<SimMemory>,
-    at: usize,
+    at: At,
     call: Call,
 )
     requires ready { BlockAgrees block.old device.old.properties (objects_of device.old) }
@@ -401,12 +404,7 @@ fn read(
 }
 
 /// Compares what was read with these bytes.
-fn compare_read(
-    rt: &impl Abort,
-    at: usize,
-    read: (Result<(), MapError>, [u8; MOST]),
-    bytes: &[u8],
-) {
+fn compare_read(rt: &impl Abort, at: At, read: (Result<(), MapError>, [u8; MOST]), bytes: &[u8]) {
     let (given, buffer) = read;
     same_at(rt, "the read of step", &at, &given, &Ok(()));
     holds(rt, bytes.len() <= MOST, "more bytes than the buffer has");
@@ -422,7 +420,7 @@ fn compare_read(
 /// Compares the cause of a refused read. The buffer is unchanged.
 fn compare_unread(
     rt: &impl Abort,
-    at: usize,
+    at: At,
     read: (Result<(), MapError>, [u8; MOST]),
     error: MapError,
 ) {

@@ -2,10 +2,12 @@
 
 use super::bench::Bench;
 use super::offers::LOCAL;
+use super::pair::At;
 use super::same::{holds, never_with, same_at};
 use gpu_alloc::{AllocationError, Dedicated, FreeRange, Request, UsageFlags};
 use gpu_sim::ScarceMemory;
 use std::alloc::{Allocator, Global};
+use std::fmt::Debug;
 use std::process::Abort;
 use std::test::Fail;
 
@@ -31,37 +33,32 @@ enum Step {
     Free(u32, &'static [Range]),
 }
 
-/// Compares free ranges with those of a row. The number says which step it is.
+/// Compares free ranges with those of a row. Messages say where that is.
 pub(super) fn compare_ranges<A: Allocator>(
     rt: &impl Abort,
-    at: usize,
+    at: &impl Debug,
     found: &Vec<FreeRange, A>,
     wanted: &[Range],
 ) {
-    same_at(
-        rt,
-        "how many free ranges at step",
-        &at,
-        &found.len(),
-        &wanted.len(),
-    );
+    let (many, few) = (found.len(), wanted.len());
+    same_at(rt, "how many free ranges at", at, &many, &few);
     for (range, place) in found.iter().zip(wanted) {
         let came = (range.object, range.start, range.end);
-        same_at(rt, "a free range at step", &at, &came, place);
+        same_at(rt, "a free range at", at, &came, place);
     }
 }
 
-/// Compares the free ranges of a memory type with those of a row. The number says which step it is.
+/// Compares the free ranges of a memory type with those of a row. Messages say where that is.
 fn compare_free<A: Allocator + Copy>(
     rt: &impl Abort,
-    at: usize,
+    at: &impl Debug,
     bench: &Bench<A>,
     memory_type: u32,
     wanted: &[Range],
 ) {
     match bench.free_ranges(rt, memory_type) {
         Ok(found) => compare_ranges(rt, at, &found, wanted),
-        Err(error) => never_with(rt, "no free ranges at a step:", &(at, error)),
+        Err(error) => never_with(rt, "no free ranges at", &(at, error)),
     }
 }
 
@@ -88,243 +85,36 @@ fn asked_by(step: Step) -> Option<(Request, Option<Dedicated>)> {
     }
 }
 
-/// Takes one step, and compares what comes of it. The number says which one it is.
-fn take_step<A: Allocator + Copy>(rt: &impl Abort, bench: &mut Bench<A>, at: usize, step: Step) {
+/// Takes one step, and compares what comes of it.
+fn take_step<A: Allocator + Copy>(rt: &impl Abort, bench: &mut Bench<A>, at: At, step: Step) {
     if let Some((request, hint)) = asked_by(step) {
         let taken = bench.take(rt, request, hint);
         same_at(rt, "what is taken at step", &at, &taken, &Ok(()));
     }
     match step {
         Step::Return(place) => bench.dealloc_at(rt, place),
-        Step::Free(memory_type, wanted) => compare_free(rt, at, bench, memory_type, wanted),
+        Step::Free(memory_type, wanted) => compare_free(rt, &at, bench, memory_type, wanted),
         _ => {}
     }
 }
 
-/// Takes all steps in turn.
-fn take_each<A: Allocator + Copy>(rt: &impl Abort, bench: &mut Bench<A>, steps: &[Step]) {
-    for (at, step) in steps.iter().enumerate() {
-        take_step(rt, bench, at, *step);
+/// What is shown, and what is done with a fresh allocator.
+type Row = (&'static str, &'static [Step]);
+
+/// Takes all steps of a row in turn.
+fn take_each<A: Allocator + Copy>(rt: &impl Abort, bench: &mut Bench<A>, (shows, steps): Row) {
+    for (number, step) in steps.iter().enumerate() {
+        take_step(rt, bench, (shows, number), *step);
     }
 }
 
-/// Takes all steps with a fresh allocator.
-fn take_steps(rt: &impl Abort, alloc: Global, steps: &[Step]) -> Result<(), Fail> {
+/// The same with a fresh allocator, which is then ended.
+fn take_row(rt: &impl Abort, alloc: Global, row: Row) -> Result<(), Fail> {
     let mut bench = Bench::new(rt, alloc, LOCAL, 1)?;
-    take_each(rt, &mut bench, steps);
+    take_each(rt, &mut bench, row);
     bench.give_all_back(rt);
     bench.end(rt, 4096);
     Ok(())
-}
-
-const JOINED_PIECES: [Step; 11] = [
-    Step::Shared(100),
-    Step::Shared(100),
-    Step::Shared(200),
-    Step::Free(
-        0,
-        &[
-            (1, 512, 1024),
-            (1, 1024, 2048),
-            (1, 2048, 4096),
-            (1, 4096, 8192),
-        ],
-    ),
-    Step::Return(0),
-    Step::Return(1),
-    Step::Free(
-        0,
-        &[
-            (1, 0, 256),
-            (1, 512, 1024),
-            (1, 1024, 2048),
-            (1, 2048, 4096),
-            (1, 4096, 8192),
-        ],
-    ),
-    Step::Shared(100),
-    Step::Shared(100),
-    Step::Return(0),
-    Step::Free(
-        0,
-        &[
-            (1, 256, 512),
-            (1, 512, 1024),
-            (1, 1024, 2048),
-            (1, 2048, 4096),
-            (1, 4096, 8192),
-        ],
-    ),
-];
-
-/// Free pieces are the longest ones, and halves are joined as they are returned. If not, free space would depend on the
-/// order of the calls before.
-#[test]
-fn free_pieces_are_joined(rt: HostRuntime) -> Result<(), Fail> {
-    take_steps(&rt, rt.alloc(), &JOINED_PIECES)
-}
-
-/// What is free of a chunk with a block of 128 bytes at its start, and of a free list's with one of 100 at its end.
-const PIECES_AND_A_RUN: [Range; 7] = [
-    (1, 128, 256),
-    (1, 256, 512),
-    (1, 512, 1024),
-    (1, 1024, 2048),
-    (1, 2048, 4096),
-    (1, 4096, 8192),
-    (2, 0, 8092),
-];
-
-const ONE_LIST: [Step; 3] = [
-    Step::Shared(100),
-    Step::Transient(100, 0),
-    Step::Free(0, &PIECES_AND_A_RUN),
-];
-
-/// The pieces of buddy chunks and the runs of free lists are one list, by object, then by start. If not, a caller would
-/// see half of what is free.
-#[test]
-fn pieces_and_runs_are_one_list(rt: HostRuntime) -> Result<(), Fail> {
-    take_steps(&rt, rt.alloc(), &ONE_LIST)
-}
-
-const RUNS_FIRST: [Step; 3] = [
-    Step::Transient(100, 0),
-    Step::Shared(4096),
-    Step::Free(0, &[(1, 0, 8092), (2, 4096, 8192)]),
-];
-
-/// A run in an object with a lesser name comes before the pieces of one with a greater name.
-#[test]
-fn runs_may_come_first(rt: HostRuntime) -> Result<(), Fail> {
-    take_steps(&rt, rt.alloc(), &RUNS_FIRST)
-}
-
-const JOINED_RUNS: [Step; 11] = [
-    Step::Transient(100, 0),
-    Step::Transient(100, 255),
-    Step::Free(0, &[(1, 0, 7936)]),
-    Step::Return(0),
-    Step::Free(0, &[(1, 0, 7936), (1, 8092, 8192)]),
-    Step::Return(0),
-    Step::Free(0, &[(1, 0, 8192)]),
-    Step::Transient(10000, 0),
-    Step::Free(0, &[(1, 0, 8192), (2, 0, 6384)]),
-    Step::Return(0),
-    Step::Free(0, &[(2, 0, 16384)]),
-];
-
-/// What is left below an aligned block is one run, and when both blocks are returned it is the chunk. If not, returned
-/// bytes would be lost. A larger chunk next to it keeps the last run, and the smaller one is released.
-#[test]
-fn runs_are_joined(rt: HostRuntime) -> Result<(), Fail> {
-    take_steps(&rt, rt.alloc(), &JOINED_RUNS)
-}
-
-const OTHER_MEMORY: [Step; 7] = [
-    Step::Free(0, &[]),
-    Step::Free(1, &[]),
-    Step::Own(100),
-    Step::Free(0, &[]),
-    Step::Shared(4096),
-    Step::Free(0, &[(2, 4096, 8192)]),
-    Step::Free(1, &[]),
-];
-
-/// Nothing is free of a memory type of which nothing is held, nor of an object of one block. If not, the free ranges
-/// would be another type's, or in use.
-#[test]
-fn other_memory_has_no_free_ranges(rt: HostRuntime) -> Result<(), Fail> {
-    take_steps(&rt, rt.alloc(), &OTHER_MEMORY)
-}
-
-/// Looks at the free ranges where this many bytes are left, and once more with ample memory where they are too few. The
-/// ranges must be these, and nothing else changes. Returns whether those bytes were enough.
-fn look_in<A: Allocator + Copy>(
-    rt: &impl Abort,
-    memory: &ScarceMemory,
-    room: usize,
-    bench: &Bench<A>,
-    wanted: &[Range],
-) -> Result<bool, Fail> {
-    let before = bench.held();
-    memory.leave(room)?;
-    let answer = bench.free_ranges(rt, 0);
-    memory.lift();
-    let after = bench.held();
-    same_at(rt, "what is held after a look in", &room, &after, &before);
-    let served = is_served(rt, room, answer, wanted);
-    if !served {
-        compare_free(rt, room, bench, 0, wanted);
-    }
-    Ok(served)
-}
-
-/// Compares the free ranges with those of a row, or their refusal. Returns which came.
-fn is_served<A: Allocator>(
-    rt: &impl Abort,
-    room: usize,
-    answer: Result<Vec<FreeRange, A>, AllocationError>,
-    wanted: &[Range],
-) -> bool {
-    match answer {
-        Ok(found) => {
-            compare_ranges(rt, room, &found, wanted);
-            true
-        }
-        Err(error) => {
-            let refusal = AllocationError::OutOfHostMemory;
-            same_at(rt, "the refusal in", &room, &error, &refusal);
-            false
-        }
-    }
-}
-
-/// Takes the steps, looks at the free ranges where this many bytes are left, and ends the allocator.
-fn take_and_look<A: Allocator + Copy>(
-    rt: &impl Abort,
-    memory: &ScarceMemory,
-    room: usize,
-    mut bench: Bench<A>,
-    steps: &[Step],
-    wanted: &[Range],
-) -> Result<bool, Fail> {
-    take_each(rt, &mut bench, steps);
-    let served = look_in(rt, memory, room, &bench, wanted);
-    bench.give_all_back(rt);
-    bench.end(rt, 4096);
-    served
-}
-
-/// The same with a fresh allocator.
-fn is_served_in(
-    rt: &impl Abort,
-    alloc: Global,
-    room: usize,
-    steps: &[Step],
-    wanted: &[Range],
-) -> Result<bool, Fail> {
-    let memory = ScarceMemory::new(alloc)?;
-    let bench = Bench::new(rt, memory.host(), LOCAL, 1)?;
-    take_and_look(rt, &memory, room, bench, steps, wanted)
-}
-
-/// Each request of a look for memory is refused in turn, and then served.
-fn compare_refusals(
-    rt: &impl Abort,
-    alloc: Global,
-    steps: &[Step],
-    wanted: &[Range],
-) -> Result<(), Fail> {
-    let mut refused = 0u32;
-    for room in 0..4096 {
-        if is_served_in(rt, alloc, room << 3, steps, wanted)? {
-            holds(rt, refused > 0, "none was refused");
-            return Ok(());
-        }
-        refused = refused.saturating_add(1);
-    }
-    Err(Fail::from("never served"))
 }
 
 /// What is free of a chunk with a block of 128 bytes at its start.
@@ -337,22 +127,221 @@ const PIECES: [Range; 6] = [
     (1, 4096, 8192),
 ];
 
-/// Where the host has no memory for the list of free pieces, which is the only one here, the look is refused and
-/// nothing changes. If not, a look would give a wrong answer where memory runs out.
+/// The same, and what is free of a free list's chunk with a block of 100 bytes at its end.
+const PIECES_AND_A_RUN: [Range; 7] = [
+    (1, 128, 256),
+    (1, 256, 512),
+    (1, 512, 1024),
+    (1, 1024, 2048),
+    (1, 2048, 4096),
+    (1, 4096, 8192),
+    (2, 0, 8092),
+];
+
+const ROWS: [Row; 5] = [
+    (
+        "free pieces are the longest ones, and halves are joined as they are returned",
+        &[
+            Step::Shared(100),
+            Step::Shared(100),
+            Step::Shared(200),
+            Step::Free(
+                0,
+                &[
+                    (1, 512, 1024),
+                    (1, 1024, 2048),
+                    (1, 2048, 4096),
+                    (1, 4096, 8192),
+                ],
+            ),
+            Step::Return(0),
+            Step::Return(1),
+            Step::Free(
+                0,
+                &[
+                    (1, 0, 256),
+                    (1, 512, 1024),
+                    (1, 1024, 2048),
+                    (1, 2048, 4096),
+                    (1, 4096, 8192),
+                ],
+            ),
+            Step::Shared(100),
+            Step::Shared(100),
+            Step::Return(0),
+            Step::Free(
+                0,
+                &[
+                    (1, 256, 512),
+                    (1, 512, 1024),
+                    (1, 1024, 2048),
+                    (1, 2048, 4096),
+                    (1, 4096, 8192),
+                ],
+            ),
+        ],
+    ),
+    (
+        "pieces of buddy chunks and runs of free lists are one list, by object, then by start",
+        &[
+            Step::Shared(100),
+            Step::Transient(100, 0),
+            Step::Free(0, &PIECES_AND_A_RUN),
+        ],
+    ),
+    (
+        "a run in an object with a lesser name comes before the pieces of one with a greater name",
+        &[
+            Step::Transient(100, 0),
+            Step::Shared(4096),
+            Step::Free(0, &[(1, 0, 8092), (2, 4096, 8192)]),
+        ],
+    ),
+    (
+        "what is left below an aligned block is a run, and a larger chunk keeps the last one",
+        &[
+            Step::Transient(100, 0),
+            Step::Transient(100, 255),
+            Step::Free(0, &[(1, 0, 7936)]),
+            Step::Return(0),
+            Step::Free(0, &[(1, 0, 7936), (1, 8092, 8192)]),
+            Step::Return(0),
+            Step::Free(0, &[(1, 0, 8192)]),
+            Step::Transient(10000, 0),
+            Step::Free(0, &[(1, 0, 8192), (2, 0, 6384)]),
+            Step::Return(0),
+            Step::Free(0, &[(2, 0, 16384)]),
+        ],
+    ),
+    (
+        "nothing is free of a type of which nothing is held, nor of an object of one block",
+        &[
+            Step::Free(0, &[]),
+            Step::Free(1, &[]),
+            Step::Own(100),
+            Step::Free(0, &[]),
+            Step::Shared(4096),
+            Step::Free(0, &[(2, 4096, 8192)]),
+            Step::Free(1, &[]),
+        ],
+    ),
+];
+
+/// If not, a caller would not see what is free, or see what is in use, and it would depend on the order of the calls
+/// before.
 #[test]
-fn want_of_memory_for_pieces_is_refused(rt: HostRuntime) -> Result<(), Fail> {
-    compare_refusals(&rt, rt.alloc(), &[Step::Shared(100)], &PIECES)
+fn free_ranges_are_all_that_is_free(rt: HostRuntime) -> Result<(), Fail> {
+    for row in &ROWS {
+        take_row(&rt, rt.alloc(), *row)?;
+    }
+    Ok(())
 }
 
-/// The same of the list of free runs and of the answer that takes it in.
-#[test]
-fn want_of_memory_for_runs_is_refused(rt: HostRuntime) -> Result<(), Fail> {
-    compare_refusals(&rt, rt.alloc(), &[Step::Transient(100, 0)], &[(1, 0, 8092)])
+/// Looks at the free ranges where this many bytes are left, and once more with ample memory where they are too few. The
+/// ranges must be these, and nothing else changes. Returns whether those bytes were enough.
+fn look_in<A: Allocator + Copy>(
+    rt: &impl Abort,
+    memory: &ScarceMemory,
+    (shows, room): At,
+    bench: &Bench<A>,
+    wanted: &[Range],
+) -> Result<bool, Fail> {
+    let before = bench.held();
+    memory.leave(room)?;
+    let answer = bench.free_ranges(rt, 0);
+    memory.lift();
+    let after = bench.held();
+    let at = (shows, room);
+    same_at(rt, "what is held after a look at", &at, &after, &before);
+    let served = is_served(rt, at, answer, wanted);
+    if !served {
+        compare_free(rt, &at, bench, 0, wanted);
+    }
+    Ok(served)
 }
 
-/// The same of both lists.
+/// Compares the free ranges with those of a row, or their refusal. Returns which came.
+fn is_served<A: Allocator>(
+    rt: &impl Abort,
+    at: At,
+    answer: Result<Vec<FreeRange, A>, AllocationError>,
+    wanted: &[Range],
+) -> bool {
+    match answer {
+        Ok(found) => {
+            compare_ranges(rt, &at, &found, wanted);
+            true
+        }
+        Err(error) => {
+            let refusal = AllocationError::OutOfHostMemory;
+            same_at(rt, "the refusal of a look at", &at, &error, &refusal);
+            false
+        }
+    }
+}
+
+/// What is shown, what is done with a fresh allocator, and its free ranges then.
+type Scarce = (&'static str, &'static [Step], &'static [Range]);
+
+/// Takes the steps, looks at the free ranges where this many bytes are left, and ends the allocator.
+fn take_and_look<A: Allocator + Copy>(
+    rt: &impl Abort,
+    memory: &ScarceMemory,
+    room: usize,
+    mut bench: Bench<A>,
+    (shows, steps, wanted): Scarce,
+) -> Result<bool, Fail> {
+    take_each(rt, &mut bench, (shows, steps));
+    let served = look_in(rt, memory, (shows, room), &bench, wanted);
+    bench.give_all_back(rt);
+    bench.end(rt, 4096);
+    served
+}
+
+/// The same with a fresh allocator.
+fn is_served_in(rt: &impl Abort, alloc: Global, room: usize, row: Scarce) -> Result<bool, Fail> {
+    let memory = ScarceMemory::new(alloc)?;
+    let bench = Bench::new(rt, memory.host(), LOCAL, 1)?;
+    take_and_look(rt, &memory, room, bench, row)
+}
+
+/// Each request of a look for memory is refused in turn, and then served.
+fn compare_refusals(rt: &impl Abort, alloc: Global, row: Scarce) -> Result<(), Fail> {
+    let mut refused = 0u32;
+    for room in 0..4096 {
+        if is_served_in(rt, alloc, room << 3, row)? {
+            holds(rt, refused > 0, "none was refused");
+            return Ok(());
+        }
+        refused = refused.saturating_add(1);
+    }
+    Err(Fail::from("never served"))
+}
+
+const SCARCE: [Scarce; 3] = [
+    (
+        "the list of free pieces, which is the only one",
+        &[Step::Shared(100)],
+        &PIECES,
+    ),
+    (
+        "the list of free runs, and the answer that takes it in",
+        &[Step::Transient(100, 0)],
+        &[(1, 0, 8092)],
+    ),
+    (
+        "both lists",
+        &[Step::Shared(100), Step::Transient(100, 0)],
+        &PIECES_AND_A_RUN,
+    ),
+];
+
+/// Where the host has no memory for these, a look is refused and nothing changes. If not, a look would give a wrong
+/// answer where memory runs out.
 #[test]
-fn want_of_memory_for_both_is_refused(rt: HostRuntime) -> Result<(), Fail> {
-    let steps = [Step::Shared(100), Step::Transient(100, 0)];
-    compare_refusals(&rt, rt.alloc(), &steps, &PIECES_AND_A_RUN)
+fn want_of_memory_for_free_ranges_is_refused(rt: HostRuntime) -> Result<(), Fail> {
+    for row in &SCARCE {
+        compare_refusals(&rt, rt.alloc(), *row)?;
+    }
+    Ok(())
 }

@@ -4,7 +4,7 @@ ghost use Rattle.std.specs.Prelude.{◌≡◌, ◌<◌, length, IsTrue};
 ghost use Rattle.gpu_alloc_types.specs.Flags.{has_bit, host_visible, property_bits};
 
 use super::offers::HEAPS;
-use super::pair::plan;
+use super::pair::{At, plan};
 use super::same::{holds, same, same_at};
 use Cause::{Failed, Host};
 use gpu_alloc_types::{
@@ -85,8 +85,8 @@ impl Device {
         same(rt, "a plan", &planned, &Ok(()));
     }
 
-    /// Takes one step, and compares what comes of it. The number says which one it is.
-    fn take_step(&mut self, rt: &impl Abort, at: usize, step: Step) {
+    /// Takes one step, and compares what comes of it.
+    fn take_step(&mut self, rt: &impl Abort, at: At, step: Step) {
         match step {
             Step::Keep(size, answer, objects) => {
                 holds(rt, size > 0, "an object of no bytes");
@@ -216,98 +216,93 @@ fn without_flags(latest: Option<(u64, u32)>) -> Option<(u64, u32, AllocationFlag
     Some((size, memory_type, AllocationFlags::from_bits_retain(0)))
 }
 
-/// Takes the steps in their order with a fresh device, which refuses a question.
-fn play(rt: &impl Abort, alloc: Global, refused: Plan, steps: &[Step]) -> Result<(), Fail> {
+/// What is shown, which question is refused, and what is done.
+type Row = (&'static str, Plan, &'static [Step]);
+
+/// Takes the steps of a row in their order with a fresh device.
+fn play(rt: &impl Abort, alloc: Global, (shows, refused, steps): Row) -> Result<(), Fail> {
     let mut device = Device::new(rt, alloc, false, refused)?;
-    for (at, step) in steps.iter().enumerate() {
-        device.take_step(rt, at, *step);
+    for (number, step) in steps.iter().enumerate() {
+        device.take_step(rt, (shows, number), *step);
     }
     drop(device);
     Ok(())
 }
 
-const REFUSED: [Step; 3] = [
-    Step::Keep(8, Err(OutOfMemory::OutOfDeviceMemory), 0),
-    Step::Keep(8, Ok(1), 1),
-    Step::Keep(9, Ok(2), 2),
-];
-
-#[test]
-fn a_refused_question_uses_no_name(rt: HostRuntime) -> Result<(), Fail> {
-    let refused = (Question::Allocate, 1, Cause::Device);
-    play(&rt, rt.alloc(), refused, &REFUSED)
-}
-
-const RETURNED: [Step; 2] = [Step::Return(8, Ok(1), 0), Step::Keep(8, Ok(2), 1)];
-
-#[test]
-fn a_name_is_given_once(rt: HostRuntime) -> Result<(), Fail> {
-    play(&rt, rt.alloc(), NONE, &RETURNED)
-}
-
-const COUNTED: [Step; 6] = [
-    Step::Asked(0, 0),
-    Step::Latest(None),
-    Step::Keep(8, Ok(1), 1),
-    Step::Keep(16, Err(OutOfMemory::OutOfHostMemory), 1),
-    Step::Asked(2, 0),
-    Step::Latest(Some((16, 0))),
-];
-
-#[test]
-fn a_question_is_counted_and_told(rt: HostRuntime) -> Result<(), Fail> {
-    play(&rt, rt.alloc(), (Question::Allocate, 2, Host), &COUNTED)
-}
-
-const PLANNED: [Step; 1] = [Step::Keep(8, Ok(1), 1)];
-
-#[test]
-fn a_plan_for_a_map_refuses_no_allocation(rt: HostRuntime) -> Result<(), Fail> {
-    play(&rt, rt.alloc(), (Question::Map, 1, Failed), &PLANNED)
-}
-
-/// Plans for maps, the answers to the first one, and how often the device is asked to map.
-const MAPS: [(Plan, [Step; 2]); 4] = [
+const ROWS: [Row; 9] = [
     (
+        "a refused question uses no name",
+        (Question::Allocate, 1, Cause::Device),
+        &[
+            Step::Keep(8, Err(OutOfMemory::OutOfDeviceMemory), 0),
+            Step::Keep(8, Ok(1), 1),
+            Step::Keep(9, Ok(2), 2),
+        ],
+    ),
+    (
+        "a name is given once",
+        NONE,
+        &[Step::Return(8, Ok(1), 0), Step::Keep(8, Ok(2), 1)],
+    ),
+    (
+        "a question is counted and told",
+        (Question::Allocate, 2, Host),
+        &[
+            Step::Asked(0, 0),
+            Step::Latest(None),
+            Step::Keep(8, Ok(1), 1),
+            Step::Keep(16, Err(OutOfMemory::OutOfHostMemory), 1),
+            Step::Asked(2, 0),
+            Step::Latest(Some((16, 0))),
+        ],
+    ),
+    (
+        "a plan for a map refuses no allocation",
+        (Question::Map, 1, Failed),
+        &[Step::Keep(8, Ok(1), 1)],
+    ),
+    (
+        "a map that the device has no memory for is counted and maps nothing",
         (Question::Map, 1, Cause::Device),
-        [
+        &[
             Step::Map(8, Err(DeviceMapError::OutOfDeviceMemory)),
             Step::Asked(1, 2),
         ],
     ),
     (
+        "a map that the host has no memory for is counted and maps nothing",
         (Question::Map, 1, Host),
-        [
+        &[
             Step::Map(8, Err(DeviceMapError::OutOfHostMemory)),
             Step::Asked(1, 2),
         ],
     ),
     (
+        "a map that fails is counted and maps nothing",
         (Question::Map, 1, Failed),
-        [
+        &[
             Step::Map(8, Err(DeviceMapError::MapFailed)),
             Step::Asked(1, 2),
         ],
     ),
     (
+        "a plan for a second map refuses no first one",
         (Question::Map, 2, Failed),
-        [Step::Map(8, Ok(())), Step::Asked(1, 1)],
+        &[Step::Map(8, Ok(())), Step::Asked(1, 1)],
+    ),
+    (
+        "a duplicate is of the same object",
+        NONE,
+        &[Step::Keep(8, Ok(1), 1), Step::Duplicate(8, 2)],
     ),
 ];
 
 #[test]
-fn a_map_is_counted_and_where_it_is_refused_maps_nothing(rt: HostRuntime) -> Result<(), Fail> {
-    for (refused, steps) in &MAPS {
-        play(&rt, rt.alloc(), *refused, steps)?;
+fn questions_are_answered_in_turn(rt: HostRuntime) -> Result<(), Fail> {
+    for row in &ROWS {
+        play(&rt, rt.alloc(), *row)?;
     }
     Ok(())
-}
-
-const DUPLICATED: [Step; 2] = [Step::Keep(8, Ok(1), 1), Step::Duplicate(8, 2)];
-
-#[test]
-fn a_duplicate_is_of_the_same_object(rt: HostRuntime) -> Result<(), Fail> {
-    play(&rt, rt.alloc(), NONE, &DUPLICATED)
 }
 
 /// A device with one memory type and an atom of 64 bytes. Contracts see nothing else of it.

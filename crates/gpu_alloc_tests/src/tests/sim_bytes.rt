@@ -3,6 +3,7 @@
 
 ghost use Rattle.std.specs.Prelude.{◌≡◌, ◌+◌, ◌≤◌, ◌<◌, IsTrue};
 
+use super::pair::At;
 use super::same::{holds, same, same_at};
 use super::sim::{Device, NONE, Plan};
 use Act::{Flush, FlushTwo, Invalidate, Put, Remap, See, Told, Write};
@@ -61,7 +62,7 @@ impl Mapped {
         Ok(Mapped { sim, memory })
     }
 
-    fn act(&mut self, rt: &impl Abort, at: usize, act: Act) {
+    fn act(&mut self, rt: &impl Abort, at: At, act: Act) {
         match act {
             Put(offset, bytes) => self.put(rt, offset, &bytes),
             Write(offset, bytes, answer) => {
@@ -207,124 +208,101 @@ const REFUSED: Result<(), OutOfMemory> = Err(OutOfMemory::OutOfHostMemory);
 /// All that the device has is copied to the host.
 const ALL: Act = Invalidate(0, 8, Ok(()));
 
-/// Does all that in turn with a fresh object, coherent or not, of a device that refuses no question.
-fn act_in_each(rt: &impl Abort, alloc: Global, rows: &[(bool, [Act; 3])]) -> Result<(), Fail> {
-    for (coherent, acts) in rows {
-        act_in_turn(rt, alloc, *coherent, NONE, acts)?;
-    }
-    Ok(())
-}
+/// What is shown, whether the object is coherent, which question the device refuses, and what is done.
+type Row = (&'static str, bool, Plan, &'static [Act]);
 
-/// Does all that in turn with a fresh object, coherent or not, of a device that refuses a question.
+/// Does all that a row has in turn with a fresh object.
 fn act_in_turn(
     rt: &impl Abort,
     alloc: Global,
-    coherent: bool,
-    refused: Plan,
-    acts: &[Act],
+    (shows, coherent, refused, acts): Row,
 ) -> Result<(), Fail> {
     let mut device = Mapped::new(rt, Device::new(rt, alloc, coherent, refused)?)?;
-    for (at, act) in acts.iter().enumerate() {
-        device.act(rt, at, *act);
+    for (number, act) in acts.iter().enumerate() {
+        device.act(rt, (shows, number), *act);
     }
     drop(device);
     Ok(())
 }
 
-/// What the host sees of new coherent bytes, and of new bytes that are not coherent.
-const NEW: [(bool, [Act; 3]); 2] = [
-    (true, [See([0; 8]), Invalidate(3, 5, Ok(())), See([0; 8])]),
+const ROWS: [Row; 11] = [
     (
+        "new coherent bytes are zeros",
+        true,
+        NONE,
+        &[See([0; 8]), Invalidate(3, 5, Ok(())), See([0; 8])],
+    ),
+    (
+        "new bytes that are not coherent show a missing invalidate",
         false,
-        [
+        NONE,
+        &[
             See([238; 8]),
             Invalidate(3, 5, Ok(())),
             See([238, 238, 238, 0, 0, 0, 0, 0]),
         ],
     ),
-];
-
-#[test]
-fn new_bytes_show_a_missing_invalidate(rt: HostRuntime) -> Result<(), Fail> {
-    act_in_each(&rt, rt.alloc(), &NEW)
-}
-
-/// What the device has after a put.
-const AT_ONCE: [(bool, [Act; 3]); 2] = [
-    (true, [Put(2, [3, 4]), ALL, See([0, 0, 3, 4, 0, 0, 0, 0])]),
-    (false, [Put(2, [3, 4]), ALL, See([0; 8])]),
-];
-
-#[test]
-fn the_device_sees_a_put_at_once_where_it_is_coherent(rt: HostRuntime) -> Result<(), Fail> {
-    act_in_each(&rt, rt.alloc(), &AT_ONCE)
-}
-
-const FLUSHED: [Act; 5] = [
-    Put(2, [3, 4]),
-    Put(4, [5, 6]),
-    Flush(3, 2, Ok(())),
-    ALL,
-    See([0, 0, 0, 4, 5, 0, 0, 0]),
-];
-
-#[test]
-fn a_flush_copies_its_range(rt: HostRuntime) -> Result<(), Fail> {
-    act_in_turn(&rt, rt.alloc(), false, NONE, &FLUSHED)
-}
-
-const HALF_FLUSHED: [Act; 5] = [
-    Put(1, [2, 3]),
-    Put(3, [4, 5]),
-    Flush(1, 7, REFUSED),
-    ALL,
-    See([0, 2, 3, 4, 0, 0, 0, 0]),
-];
-
-#[test]
-fn a_refused_flush_copies_the_first_half(rt: HostRuntime) -> Result<(), Fail> {
-    act_in_turn(
-        &rt,
-        rt.alloc(),
+    (
+        "the device sees a put into coherent bytes at once",
+        true,
+        NONE,
+        &[Put(2, [3, 4]), ALL, See([0, 0, 3, 4, 0, 0, 0, 0])],
+    ),
+    (
+        "the device does not see a put that is not flushed",
+        false,
+        NONE,
+        &[Put(2, [3, 4]), ALL, See([0; 8])],
+    ),
+    (
+        "a flush copies its range",
+        false,
+        NONE,
+        &[
+            Put(2, [3, 4]),
+            Put(4, [5, 6]),
+            Flush(3, 2, Ok(())),
+            ALL,
+            See([0, 0, 0, 4, 5, 0, 0, 0]),
+        ],
+    ),
+    (
+        "a refused flush copies the first half",
         false,
         (Question::Flush, 1, Host),
-        &HALF_FLUSHED,
-    )
-}
-
-const HALF_INVALIDATED: [Act; 3] = [
-    Invalidate(7, 1, Ok(())),
-    Invalidate(0, 7, REFUSED),
-    See([0, 0, 0, 238, 238, 238, 238, 0]),
-];
-
-#[test]
-fn a_refused_invalidate_copies_the_first_half(rt: HostRuntime) -> Result<(), Fail> {
-    act_in_turn(
-        &rt,
-        rt.alloc(),
+        &[
+            Put(1, [2, 3]),
+            Put(3, [4, 5]),
+            Flush(1, 7, REFUSED),
+            ALL,
+            See([0, 2, 3, 4, 0, 0, 0, 0]),
+        ],
+    ),
+    (
+        "a refused invalidate copies the first half",
         false,
         (Question::Invalidate, 2, Host),
-        &HALF_INVALIDATED,
-    )
-}
-
-const KEPT: [Act; 3] = [
-    Put(2, [1, 2]),
-    Remap,
-    See([238, 238, 1, 2, 238, 238, 238, 238]),
-];
-
-#[test]
-fn an_unmap_keeps_the_bytes(rt: HostRuntime) -> Result<(), Fail> {
-    act_in_turn(&rt, rt.alloc(), false, NONE, &KEPT)
-}
-
-/// What commands of the device write where that is inside an object, and what the host sees of it.
-const COMMANDS: [(bool, [Act; 6]); 2] = [
+        &[
+            Invalidate(7, 1, Ok(())),
+            Invalidate(0, 7, REFUSED),
+            See([0, 0, 0, 238, 238, 238, 238, 0]),
+        ],
+    ),
     (
+        "an unmap keeps the bytes",
+        false,
+        NONE,
+        &[
+            Put(2, [1, 2]),
+            Remap,
+            See([238, 238, 1, 2, 238, 238, 238, 238]),
+        ],
+    ),
+    (
+        "a command writes inside a coherent object, and the host sees it at once",
         true,
-        [
+        NONE,
+        &[
             Write(7, [1, 1], false),
             Write(u64::MAX, [1, 1], false),
             Write(6, [9, 9], true),
@@ -334,8 +312,10 @@ const COMMANDS: [(bool, [Act; 6]); 2] = [
         ],
     ),
     (
+        "a command writes inside an object, and the host sees it once that is invalidated",
         false,
-        [
+        NONE,
+        &[
             Write(7, [1, 1], false),
             Write(u64::MAX, [1, 1], false),
             Write(6, [9, 9], true),
@@ -344,30 +324,23 @@ const COMMANDS: [(bool, [Act; 6]); 2] = [
             See([0, 0, 0, 0, 0, 0, 9, 9]),
         ],
     ),
-];
-
-#[test]
-fn a_command_writes_inside_an_object(rt: HostRuntime) -> Result<(), Fail> {
-    for (coherent, acts) in &COMMANDS {
-        act_in_turn(&rt, rt.alloc(), *coherent, NONE, acts)?;
-    }
-    Ok(())
-}
-
-const RANGES: [Act; 4] = [
-    Told(0, 0, (1, 0, 8)),
-    FlushTwo,
-    Invalidate(3, 4, REFUSED),
-    Told(2, 1, (1, 3, 4)),
-];
-
-#[test]
-fn the_latest_range_is_told(rt: HostRuntime) -> Result<(), Fail> {
-    act_in_turn(
-        &rt,
-        rt.alloc(),
+    (
+        "the latest range is told, also of a refused question",
         false,
         (Question::Invalidate, 1, Host),
-        &RANGES,
-    )
+        &[
+            Told(0, 0, (1, 0, 8)),
+            FlushTwo,
+            Invalidate(3, 4, REFUSED),
+            Told(2, 1, (1, 3, 4)),
+        ],
+    ),
+];
+
+#[test]
+fn bytes_are_copied_where_they_are_asked_for(rt: HostRuntime) -> Result<(), Fail> {
+    for row in &ROWS {
+        act_in_turn(&rt, rt.alloc(), *row)?;
+    }
+    Ok(())
 }

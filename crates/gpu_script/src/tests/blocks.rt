@@ -61,7 +61,7 @@ const CASES: [Case; 13] = [
         ..CASE
     },
     Case {
-        shows: "one of a byte less shares a chunk",
+        shows: "a block of a byte less than the threshold shares a chunk",
         steps: &[
             Step::Grant(Ask::Bytes(32767), (1, 0, 32768)),
             Step::Asked(65536, 0, 0),
@@ -69,7 +69,7 @@ const CASES: [Case; 13] = [
         ..CASE
     },
     Case {
-        shows: "so has one of exactly the threshold of a hint",
+        shows: "a block of exactly the threshold of a hint has an object of its own",
         steps: &[
             Step::Grant(Ask::Preferred(1024), (1, 0, 1024)),
             Step::Asked(1024, 0, 0),
@@ -77,7 +77,7 @@ const CASES: [Case; 13] = [
         ..CASE
     },
     Case {
-        shows: "one of a byte less shares a chunk in spite of the hint",
+        shows: "a block of a byte less than the threshold of a hint shares a chunk",
         steps: &[
             Step::Grant(Ask::Preferred(1023), (1, 0, 1024)),
             Step::Asked(8192, 0, 0),

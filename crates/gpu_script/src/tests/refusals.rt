@@ -25,7 +25,7 @@ const CASES: [Case; 10] = [
         ..CASE
     },
     Case {
-        shows: "the same where no object may be held",
+        shows: "a request of no memory type where no object may be held",
         objects: 0,
         steps: &[Step::Refuse(
             Ask::OfTypes(1, 0),
@@ -66,7 +66,7 @@ const CASES: [Case; 10] = [
         ..CASE
     },
     Case {
-        shows: "nor one without bytes",
+        shows: "a heap without bytes is not asked",
         memory_heaps: &EMPTY,
         steps: &[Step::Refuse(Ask::Bytes(1), AllocationError::OutOfDeviceMemory, 0)],
         ..CASE
