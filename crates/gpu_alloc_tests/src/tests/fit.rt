@@ -13,14 +13,14 @@ use super::lists::Range;
 use super::offers::{again, are_usable};
 use super::same::{holds, never, same, same_at};
 use gpu_alloc::{
-    AllocationError, Config, Dedicated, DeviceProperties, MemoryForUsage, MemoryHeap,
-    MemoryPropertyFlags, MemoryType, Request, Sharing, UsageFlags,
+    Config, Dedicated, DeviceProperties, MemoryForUsage, MemoryHeap, MemoryPropertyFlags,
+    MemoryType, Request, Sharing, UsageFlags,
 };
 use gpu_report::{ObjectKind, Report};
 use gpu_script_language::SimSession;
 use gpu_session::{Command, Reply, Session};
 use gpu_sim::{Cause, Question, Sim};
-use model::{CASES, Model, Tally};
+use model::{CASES, Came, Model, Tally};
 use std::alloc::{AllocError, Global};
 use std::process::Abort;
 use std::test::Fail;
@@ -52,7 +52,7 @@ fn memory_types() -> [MemoryType; 4] {
 }
 
 /// Which questions the device refuses: to make an object, for want of its own memory or of the host's, and to map one.
-#[derive(Clone, Copy, Debug)]
+#[derive(Clone, Copy)]
 struct Plan {
     device: u64,
     host: u64,
@@ -193,57 +193,48 @@ fn refuse(rt: &impl Abort, device: &mut Sim, refused: Plan)
     same(rt, "a plan", &third, &Ok(()));
 }
 
-/// The answer to a command.
-#[derive(Clone, Copy, Debug, PartialEq, Eq)]
-enum Told {
-    Done,
-    Granted(u32, Range),
-    Refused(AllocationError),
-    Other,
-}
-
-impl Told {
-    fn of(reply: &Reply) -> Told {
-        match *reply {
-            Reply::Done => Told::Done,
+/// What came of a request.
+fn came_of(rt: &impl Abort, replies: &[Reply]) -> Came {
+    match replies.first() {
+        Some(
             Reply::Granted {
                 memory_type,
                 object,
                 offset,
                 size,
-            } => {
-                let range = Range {
-                    object,
-                    start: offset,
-                    end: offset.saturating_add(size),
-                };
-                Told::Granted(memory_type, range)
-            }
-            Reply::Refused(refusal) => Told::Refused(refusal),
-            _ => Told::Other,
+            },
+        ) => {
+            let range = Range {
+                object: *object,
+                start: *offset,
+                end: offset.saturating_add(*size),
+            };
+            Ok((*memory_type, range))
         }
+        Some(Reply::Refused(refusal)) => Err(*refusal),
+        _ => never(rt, "no answer to a request"),
     }
 }
 
-/// Runs a command, and then those that ask what is free and held. Returns the answer to the first.
+/// A return or a cleanup must be done.
+fn is_done(rt: &impl Abort, replies: &[Reply]) {
+    let done = matches!(replies.first(), Some(Reply::Done));
+    holds(rt, done, "a return or a cleanup that is not done");
+}
+
+/// Runs a command, and then those that ask what is free and held.
 fn call(
-    rt: &impl Abort,
     alloc: Global,
     session: &mut SimSession<Global>,
     command: Command,
-) -> Result<(Told, Vec<Reply>), AllocError> {
+) -> Result<Vec<Reply>, AllocError> {
     let mut commands = Vec::new(alloc);
     commands.push(command)?;
     for memory_type in 0..4 {
         commands.push(Command::FreeRanges { memory_type })?;
     }
     commands.push(Command::Counts)?;
-    let replies = session.run(commands.as_slice())?;
-    let told = match replies.first() {
-        Some(reply) => Told::of(reply),
-        None => never(rt, "no reply"),
-    };
-    Ok((told, replies))
+    session.run(commands.as_slice())
 }
 
 /// Compares what is free of each memory type and what is held.
@@ -318,12 +309,8 @@ fn take(
     name: u32,
 ) -> Result<(), AllocError> {
     let ask = draw_ask(model, chance)?;
-    let (told, replies) = call(rt, alloc, session, ask.command(name))?;
-    let came = match told {
-        Told::Granted(memory_type, range) => Ok((memory_type, range)),
-        Told::Refused(refusal) => Err(refusal),
-        Told::Done | Told::Other => never(rt, "no answer to a request"),
-    };
+    let replies = call(alloc, session, ask.command(name))?;
+    let came = came_of(rt, replies.as_slice());
     model.take(rt, name, &ask, came)?;
     compare(rt, model, replies.as_slice())
 }
@@ -343,9 +330,8 @@ fn dealloc(
     let Some(block) = model.live.get(at).copied() else {
         return Ok(());
     };
-    let command = Command::Free { name: block.name };
-    let (told, replies) = call(rt, alloc, session, command)?;
-    same(rt, "a return", &told, &Told::Done);
+    let replies = call(alloc, session, Command::Free { name: block.name })?;
+    is_done(rt, replies.as_slice());
     model.put_back(rt, at)?;
     compare(rt, model, replies.as_slice())
 }
@@ -357,8 +343,8 @@ fn clean(
     session: &mut SimSession<Global>,
     model: &mut Model,
 ) -> Result<(), AllocError> {
-    let (told, replies) = call(rt, alloc, session, Command::Cleanup)?;
-    same(rt, "a cleanup", &told, &Told::Done);
+    let replies = call(alloc, session, Command::Cleanup)?;
+    is_done(rt, replies.as_slice());
     model.clean()?;
     compare(rt, model, replies.as_slice())
 }

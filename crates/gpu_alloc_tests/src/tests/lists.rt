@@ -39,6 +39,14 @@ pub(super) fn tail_of(run: Range, size: u64, align_mask: u64) -> Option<Range> {
     Some(Range { start, ..run })
 }
 
+/// The first bytes of a range, this many.
+pub(super) fn front_of(range: Range, size: u64) -> Range {
+    Range {
+        end: range.start.saturating_add(size),
+        ..range
+    }
+}
+
 /// Adds a range to the runs, if it is not empty.
 fn add_run(runs: &mut Vec<Range>, run: Range) -> Result<(), AllocError> {
     if run.start < run.end {
@@ -290,11 +298,12 @@ impl Lists {
         came: Result<Range, AllocationError>,
     ) -> Range {
         match (self.rule, came) {
+            (Rule::Last, _) => tail,
             (Rule::Any, Ok(block))
                 if block.end.checked_sub(block.start) == Some(size)
                     && block.start & align_mask == 0
                     && is_within(block, self.runs.as_slice()) => { block }
-            _ => tail,
+            (Rule::Any, _) => front_of(tail, size),
         }
     }
 
@@ -319,7 +328,7 @@ impl Lists {
         let chunk = self.add_chunk(length)?;
         Ok(Ok(match self.rule {
             Rule::Last => tail_of(chunk, size, align_mask).unwrap_or(chunk),
-            Rule::Any => Range { end: size, ..chunk },
+            Rule::Any => front_of(chunk, size),
         }))
     }
 

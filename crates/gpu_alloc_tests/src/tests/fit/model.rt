@@ -2,8 +2,10 @@
 
 use super::{Ask, HEAPS, Plan};
 use crate::tests::drawn::count;
-use crate::tests::lists::{Range, chunk_size, is_among, is_within, runs_of, sides_of, tail_of};
-use crate::tests::same::{holds, never_with, same_at};
+use crate::tests::lists::{
+    Range, chunk_size, front_of, is_among, is_within, runs_of, sides_of, tail_of,
+};
+use crate::tests::same::{holds, same_at};
 use gpu_alloc::{AllocationError, Dedicated, MemoryForUsage};
 use std::alloc::{AllocError, Global};
 use std::process::Abort;
@@ -45,7 +47,7 @@ pub(super) const CASES: [&str; 29] = [
 ];
 
 /// How a memory type serves a request.
-#[derive(Clone, Copy, Debug, PartialEq, Eq)]
+#[derive(Clone, Copy, PartialEq, Eq)]
 pub(super) enum Way {
     /// By an object of its own.
     Own,
@@ -74,17 +76,8 @@ pub(super) struct Block {
     range: Range,
 }
 
-/// How a request must be served.
-#[derive(Clone, Copy, Debug)]
-enum Wanted {
-    /// This many bytes at a multiple of the mask plus one, anywhere in the gaps of a memory type's fit chunks.
-    InGap(u32, u64, u64),
-
-    /// Exactly these bytes.
-    At(u32, Way, Range),
-
-    Refused(AllocationError),
-}
+/// What comes of a request: a memory type and a range of it, or a refusal.
+pub(super) type Came = Result<(u32, Range), AllocationError>;
 
 /// What a session holds and has live, how often the device was asked to make and to map an object, which of these
 /// questions it refuses, and which cases the lists met.
@@ -257,11 +250,12 @@ impl Model {
         runs_of(self.alloc, ranges.as_slice(), live.as_slice())
     }
 
-    /// How a request must be served. What is asked of the device for it is counted, and what is made is held.
-    fn decide(&mut self, ask: &Ask) -> Result<Wanted, AllocError> {
+    /// What must come of a request, which is what came where a fit chunk serves that has room there. What is asked of
+    /// the device for it is counted, and what is made is held.
+    fn decide(&mut self, ask: &Ask, came: Came) -> Result<Came, AllocError> {
         if ask.hint == Some(Dedicated::Required) && self.remaining == 0 {
             count(&mut self.tally[22]);
-            return Ok(Wanted::Refused(AllocationError::TooManyObjects));
+            return Ok(Err(AllocationError::TooManyObjects));
         }
         let mut passed = 0u64;
         for rank in 0..32 {
@@ -269,9 +263,8 @@ impl Model {
                 break;
             };
             if ask.memory_types >> (memory_type & 31) & 1 == 1 {
-                if let Some(wanted) = self.try_type(ask, memory_type)? {
-                    let refused = matches!(wanted, Wanted::Refused(_));
-                    if passed > 0 && !refused {
+                if let Some(wanted) = self.try_type(ask, memory_type, came)? {
+                    if passed > 0 && wanted.is_ok() {
                         count(&mut self.tally[21]);
                     }
                     return Ok(wanted);
@@ -281,13 +274,18 @@ impl Model {
         }
         if passed == 0 {
             count(&mut self.tally[27]);
-            return Ok(Wanted::Refused(AllocationError::NoCompatibleMemoryTypes));
+            return Ok(Err(AllocationError::NoCompatibleMemoryTypes));
         }
-        Ok(Wanted::Refused(AllocationError::OutOfDeviceMemory))
+        Ok(Err(AllocationError::OutOfDeviceMemory))
     }
 
     /// How a memory type serves a request, or nothing where it is passed over.
-    fn try_type(&mut self, ask: &Ask, memory_type: u32) -> Result<Option<Wanted>, AllocError> {
+    fn try_type(
+        &mut self,
+        ask: &Ask,
+        memory_type: u32,
+        came: Came,
+    ) -> Result<Option<Came>, AllocError> {
         let (_, heap) = heap_of(memory_type);
         if ask.size > heap {
             count(&mut self.tally[28]);
@@ -308,10 +306,14 @@ impl Model {
             }
         }
         if let Some(tail) = last {
-            return Ok(Some(match way {
-                Way::Fit => Wanted::InGap(memory_type, size, align_mask),
-                Way::Own | Way::List => Wanted::At(memory_type, way, tail),
-            }));
+            let range = match (way, came) {
+                (Way::Fit, Ok(block)) if block.0 == memory_type => {
+                    self.place(gaps.as_slice(), tail, size, align_mask, block)
+                }
+                (Way::Fit, _) => front_of(tail, size),
+                (Way::Own | Way::List, _) => tail,
+            };
+            return Ok(Some(Ok((memory_type, range))));
         }
         let (fit, list) = self.next[memory_type as usize % 4];
         let next = if way == Way::Fit { fit } else { list };
@@ -328,11 +330,11 @@ impl Model {
         length: u64,
         size: u64,
         align_mask: u64,
-    ) -> Result<Option<Wanted>, AllocError> {
+    ) -> Result<Option<Came>, AllocError> {
         let (heap, heap_size) = heap_of(memory_type);
         if self.remaining == 0 {
             count(&mut self.tally[22]);
-            return Ok(Some(Wanted::Refused(AllocationError::TooManyObjects)));
+            return Ok(Some(Err(AllocationError::TooManyObjects)));
         }
         let used = self.used[heap % 3].saturating_add(u128::from(length));
         if used > u128::from(heap_size) {
@@ -346,14 +348,14 @@ impl Model {
         }
         if self.asked == self.plan.host {
             count(&mut self.tally[25]);
-            return Ok(Some(Wanted::Refused(AllocationError::OutOfHostMemory)));
+            return Ok(Some(Err(AllocationError::OutOfHostMemory)));
         }
         count(&mut self.made);
         if way != Way::Own && is_visible(memory_type) {
             count(&mut self.mapped);
             if self.mapped == self.plan.map {
                 count(&mut self.tally[26]);
-                return Ok(Some(Wanted::Refused(AllocationError::OutOfHostMemory)));
+                return Ok(Some(Err(AllocationError::OutOfHostMemory)));
             }
         }
         self.remaining = self.remaining.saturating_sub(1);
@@ -365,11 +367,11 @@ impl Model {
         };
         let block = match way {
             Way::Own => whole,
-            Way::Fit => Range { end: size, ..whole },
+            Way::Fit => front_of(whole, size),
             Way::List => tail_of(whole, size, align_mask).unwrap_or(whole),
         };
         self.hold(memory_type, way, whole)?;
-        Ok(Some(Wanted::At(memory_type, way, block)))
+        Ok(Some(Ok((memory_type, block))))
     }
 
     /// One more object is held. After a chunk, the next one is twice as large.
@@ -418,53 +420,44 @@ impl Model {
         Ok(())
     }
 
-    /// Takes in the result of a request, a block by its memory type and its range, which must be right. The block is
-    /// then live.
+    /// Takes in what came of a request, which must be right. A block is then live.
     pub(super) fn take(
         &mut self,
         rt: &impl Abort,
         name: u32,
         ask: &Ask,
-        came: Result<(u32, Range), AllocationError>,
+        came: Came,
     ) -> Result<(), AllocError> {
-        let wanted = self.decide(ask)?;
-        match (came, wanted) {
-            (Ok((memory_type, range)), Wanted::InGap(wanted_type, size, align_mask)) => {
-                same_at(rt, "the type of", ask, &memory_type, &wanted_type);
-                self.take_in_gap(rt, ask, memory_type, range, size, align_mask)?;
-                self.add(name, memory_type, Way::Fit, range)
-            }
-            (Ok(came), Wanted::At(memory_type, way, range)) => {
-                same_at(rt, "the block for", ask, &came, &(memory_type, range));
-                self.count_way(ask, memory_type, way)?;
-                self.add(name, memory_type, way, range)
-            }
-            (Err(refusal), Wanted::Refused(wanted)) => {
-                same_at(rt, "the refusal of", ask, &refusal, &wanted);
-                Ok(())
-            }
-            (came, wanted) => never_with(rt, "another answer", &(ask, came, wanted)),
+        let wanted = self.decide(ask, came)?;
+        same_at(rt, "what comes of", ask, &came, &wanted);
+        if let Ok((memory_type, range)) = wanted {
+            let way = self.way(ask, memory_type);
+            self.count_way(ask, memory_type, way)?;
+            self.live.push(Block {
+                name,
+                memory_type,
+                way,
+                range,
+            })?;
         }
+        Ok(())
     }
 
-    /// A block lies in a gap of a fit chunk, exactly as long as requested.
-    fn take_in_gap(
+    /// Where a block of a fit chunk must lie for which a gap has room: anywhere in a gap, exactly as long as requested,
+    /// so where it came if that is so, or else where that gap's tail begins.
+    fn place(
         &mut self,
-        rt: &impl Abort,
-        ask: &Ask,
-        memory_type: u32,
-        range: Range,
+        gaps: &[Range],
+        tail: Range,
         size: u64,
         align_mask: u64,
-    ) -> Result<(), AllocError> {
-        let length = range.end.saturating_sub(range.start);
-        same_at(rt, "the size for", ask, &length, &size);
-        same_at(rt, "the start for", ask, &(range.start & align_mask), &0);
-        let gaps = self.gaps(memory_type, Some(Way::Fit))?;
-        let inside = is_within(range, gaps.as_slice());
-        holds(rt, inside, "a block in no gap");
+        (memory_type, range): (u32, Range),
+    ) -> Range {
+        if length_of(range) != size || range.start & align_mask != 0 || !is_within(range, gaps) {
+            return front_of(tail, size);
+        }
         count(&mut self.tally[0]);
-        if is_among(range, gaps.as_slice()) {
+        if is_among(range, gaps) {
             count(&mut self.tally[1]);
         }
         let mask = self.mask(memory_type, Way::Fit);
@@ -474,7 +467,7 @@ impl Model {
         if mask > 255 {
             count(&mut self.tally[8]);
         }
-        Ok(())
+        range
     }
 
     /// Counts why a block has an object of its own, or that it is one of a free list next to fit chunks.
@@ -506,23 +499,6 @@ impl Model {
                 count(&mut self.tally[16]);
             }
         }
-    }
-
-    /// One more block is live.
-    fn add(
-        &mut self,
-        name: u32,
-        memory_type: u32,
-        way: Way,
-        range: Range,
-    ) -> Result<(), AllocError> {
-        self.live.push(Block {
-            name,
-            memory_type,
-            way,
-            range,
-        })?;
-        Ok(())
     }
 
     /// Returns the block at this place. Of fit chunks, its own is released if it is then wholly free and another one is
