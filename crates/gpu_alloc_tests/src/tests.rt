@@ -29,3 +29,4 @@ mod sim_bytes;
 mod slots;
 mod staging;
 mod usage;
+mod uses;

@@ -1,3 +1,4 @@
 pub mod Frames
 pub mod Resources
 pub mod Staging
+pub mod Textures

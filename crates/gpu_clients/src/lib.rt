@@ -1,4 +1,4 @@
-//! Programs that keep a device's memory, over any device and any allocator of host memory.
+//! Programs that keep a device's memory, over any device and any allocator of host memory, and callers of every part.
 #![tactic(auto)]
 
 mod closing;

@@ -1,6 +1,6 @@
 //! What no contract says: what scripts print, that calls succeed with ample memory, and what is left where memory is
-//! missing. The tests of the allocator and of its callers are here, over the simulated device. Those of the device and
-//! of single parts of the allocator are in `gpu_alloc_tests`.
+//! missing. The tests of the allocator are here, over the simulated device. Those of the device, of clients and of
+//! single parts of the allocator are in `gpu_alloc_tests`.
 
 mod allocator;
 mod bench;
@@ -23,6 +23,5 @@ mod same;
 mod scarce;
 mod scripts;
 mod transient;
-mod uses;
 mod whole;
 mod written;

@@ -1,7 +1,7 @@
 use Rattle.std.proofs.Common.{◌≡◌}
 use Rattle.std.specs.FinMap as map
 use Rattle.std.specs.FinSet as set
-use Rattle.gpu_uses.proofs.free_list.end.Given as goal
+use Rattle.gpu_clients.proofs.uses.free_list.end.Given as goal
 
 -- no block is live, and each chunk that goes leaves one fewer
 

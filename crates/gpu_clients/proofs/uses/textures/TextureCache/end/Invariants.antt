@@ -1,6 +1,6 @@
 use Rattle.std.proofs.Common.{◌≡◌, length}
 use Rattle.gpu_alloc.specs.UnderKeys.{AreAllKept}
-use Rattle.gpu_uses.proofs.textures.TextureCache.end.Given as goal
+use Rattle.gpu_clients.proofs.uses.textures.TextureCache.end.Given as goal
 
 -- what the cache keeps, with the textures that are left
 

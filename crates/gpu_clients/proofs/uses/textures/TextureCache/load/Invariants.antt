@@ -1,5 +1,5 @@
 use Rattle.std.proofs.Common.{◌≡◌, length}
-use Rattle.gpu_uses.proofs.textures.TextureCache.load.Given as goal
+use Rattle.gpu_clients.proofs.uses.textures.TextureCache.load.Given as goal
 
 abbrev pub invariant-loop-refusal : goal.invariant-loop-refusal
 invariant-loop-refusal g l = l.self.allocator.properties ≡ l.fn.self.allocator.properties

@@ -1,32 +1,41 @@
-//! The callers of `gpu_uses`, over the simulated device.
+//! A caller from opening to close, and a cache of textures.
 
 ghost use Rattle.std.specs.Prelude.{false};
 ghost use Rattle.gpu_alloc.specs.Request.{IsAskable};
 
-use super::bench::{Ask, again, are_usable, bytes, one_type};
+use super::offers::{LOCAL, again, are_usable, offer};
 use super::same::{holds, same};
-use crate::sim::{Question, Sim, SimMemory};
-use gpu_alloc::{AllocationError, Config, DeviceProperties, Request};
-use gpu_uses::opening::open_and_close;
-use gpu_uses::textures::TextureCache;
+use gpu_alloc::{AllocationError, Config, Request, UsageFlags};
+use gpu_clients::uses::textures::TextureCache;
+use gpu_clients::uses::opening::open_and_close;
+use gpu_sim::{Question, Sim, SimMemory};
 use std::process::Abort;
 use std::test::Fail;
+
+type Cache = TextureCache<SimMemory, Sim>;
+
+/// A request for this many bytes.
+fn request(size: u64, usage: UsageFlags) -> Request {
+    Request {
+        size,
+        align_mask: 0,
+        usage,
+        memory_types: 1,
+    }
+}
 
 /// A block comes from a chunk that is asked for, and after the close the device holds nothing.
 #[test]
 fn an_allocator_is_opened_used_and_closed(rt: HostRuntime) -> Result<(), Fail> {
-    let props = DeviceProperties {
-        max_memory_allocation_count: 16,
-        max_memory_allocation_size: 1 << 20,
-        ..one_type()
-    };
+    let types = [LOCAL];
+    let props = offer(&types, 1);
     are_usable(&rt, &props);
     let mut device: Sim = Sim::new(rt.alloc(), again(&props))?;
     let done = open_and_close::<SimMemory, Sim>(
         rt.alloc(),
         props,
         &mut device,
-        Ask::Transient(100).request(),
+        request(100, UsageFlags::TRANSIENT),
     );
     let counts = (device.asked(Question::Allocate), device.objects());
     drop(device);
@@ -35,15 +44,13 @@ fn an_allocator_is_opened_used_and_closed(rt: HostRuntime) -> Result<(), Fail> {
     Ok(())
 }
 
-type Cache = TextureCache<SimMemory, Sim>;
-
 /// A valid request for a texture of `size` bytes.
 fn texture(rt: &impl Abort, size: u64) -> Request
     ensures { IsAskable false result }
 {
-    let request = bytes(size);
-    holds(rt, request.is_askable(false), "a request");
-    request
+    let asked = request(size, UsageFlags::empty());
+    holds(rt, asked.is_askable(false), "a request");
+    asked
 }
 
 /// The sizes under four keys.
@@ -80,7 +87,8 @@ fn cache_textures(rt: &impl Abort, cache: &mut Cache) {
 /// A cache keeps what the heap has room for, and leaves nothing held.
 #[test]
 fn a_cache_evicts_its_oldest_texture_and_none_in_vain(rt: HostRuntime) -> Result<(), Fail> {
-    let props = one_type();
+    let types = [LOCAL];
+    let props = offer(&types, 1);
     are_usable(&rt, &props);
     let device: Sim = Sim::new(rt.alloc(), again(&props))?;
     match TextureCache::new(rt.alloc(), Config::i_am_potato(), props, device) {

@@ -1,5 +1,5 @@
 use Rattle.std.proofs.Common.{[], ◌∷◌}
-use Rattle.gpu_uses.proofs.buffers.two_buffers.Goals as goal
+use Rattle.gpu_clients.proofs.uses.buffers.two_buffers.Goals as goal
 
 -- both are in hand, and of those the first goes
 pub dealloc-requires-in-Ok-clause-owned : goal.dealloc-requires-in-Ok-clause-owned

@@ -1,6 +1,6 @@
 use Rattle.std.proofs.Common.{◌∙◌}
 use Rattle.gpu_alloc.proofs.UnderKeys.{goes, owned}
-use Rattle.gpu_uses.proofs.textures.TextureCache.end.Goals as goal
+use Rattle.gpu_clients.proofs.uses.textures.TextureCache.end.Goals as goal
 
 pub dealloc-requires-clause-owned : goal.dealloc-requires-clause-owned
 dealloc-requires-clause-owned g c = owned c.loop-block.invariant.cached c.in-Some.ensures.taken

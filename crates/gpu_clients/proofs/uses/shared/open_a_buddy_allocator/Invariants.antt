@@ -1,4 +1,4 @@
-use Rattle.gpu_uses.proofs.shared.open_a_buddy_allocator.Given as goal
+use Rattle.gpu_clients.proofs.uses.shared.open_a_buddy_allocator.Given as goal
 
 -- the ledgers of counts that nobody reads have their blanks' names and parts
 

@@ -1,7 +1,7 @@
 use Rattle.std.proofs.Common.{sym, subst, ◌∙◌}
 use Rattle.gpu_alloc.specs.Allocation.{IsInPages}
 use Rattle.gpu_alloc_base.proofs.Maps.{another_key}
-use Rattle.gpu_clients.proofs.uses.image_and_buffer.Goals as goal
+use Rattle.gpu_clients.proofs.uses.clients.image_and_buffer.Goals as goal
 
 pub returns : goal.returns
 returns g c =

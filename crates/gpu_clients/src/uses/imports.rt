@@ -12,7 +12,7 @@ ghost use Rattle.gpu_alloc.specs.Owned.{Adds, AreOwned, Leaves};
 ghost use Rattle.gpu_alloc.specs.Request.{IsAskable};
 ghost use Rattle.gpu_alloc.specs.State.{IsOwned};
 
-use crate::bytes::fill;
+use super::bytes::fill;
 use gpu_alloc::laws::{
     imports_agree, made_objects_may_be_imported, objects_of_others_may_go,
     which_objects_may_be_imported,

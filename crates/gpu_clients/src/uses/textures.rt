@@ -9,7 +9,7 @@ ghost use Rattle.gpu_alloc.specs.Serving.{MayServe};
 ghost use Rattle.gpu_alloc.specs.Keyed.{under};
 ghost use Rattle.indexmap.specs.IndexMap.{get, spare};
 ghost use Rattle.gpu_alloc.specs.UnderKeys.{PutsUnder, TakesUnder};
-ghost use Rattle.gpu_uses.specs.Textures.{texture_at};
+ghost use Rattle.gpu_clients.specs.Textures.{texture_at};
 
 use gpu_alloc::laws::{agrees_at_first, blocks_under_keys_come_and_go};
 use gpu_alloc::{AllocationError, Config, DeviceProperties, GpuAllocator, MemoryBlock, Request};
@@ -87,7 +87,7 @@ pub struct TextureCache<M: MemoryObject, D: ObjectDevice<M>, A: Allocator + Copy
 
 impl<M: MemoryObject, D: ObjectDevice<M>, A: Allocator + Copy> Model for TextureCache<M, D, A> {
     ghost use Rattle.gpu_alloc.specs.UnderKeys.{AreAllKept};
-    ghost use Rattle.gpu_uses.specs.Textures.{CacheState, cache_code};
+    ghost use Rattle.gpu_clients.specs.Textures.{CacheState, cache_code};
 
     ghost Value = { CacheState D };
 
