@@ -28,41 +28,33 @@ const MOST: u32 = 4096;
 /// The size of the first chunk, in bytes, unless the first block is too large for it.
 const FIRST: u64 = 8192;
 
-/// A range of an object: a free piece, a live block or a chunk.
-#[derive(Clone, Copy, Debug, PartialEq, Eq)]
-struct Piece {
-    object: u64,
-    start: u64,
-    length: u64,
+/// A free piece, a live block or a chunk.
+type Piece = FreeRange;
+
+/// The piece of an object from this start on, of this length.
+fn piece_of(object: u64, start: u64, length: u64) -> Piece {
+    Piece {
+        object,
+        start,
+        end: start.saturating_add(length),
+    }
 }
 
-impl Piece {
-    /// The range with which this one is the two halves of an aligned range.
-    fn other_half(self) -> Piece {
-        Piece {
-            object: self.object,
-            start: self.start ^ self.length,
-            length: self.length,
-        }
-    }
+/// The length of a piece.
+fn length_of(piece: Piece) -> u64 {
+    piece.end.saturating_sub(piece.start)
+}
 
-    /// The aligned range of which this is one half.
-    fn joined(self) -> Piece {
-        Piece {
-            object: self.object,
-            start: self.start & !self.length,
-            length: self.length << 1,
-        }
-    }
+/// The piece with which this one is the two halves of an aligned range.
+fn other_half(piece: Piece) -> Piece {
+    let length = length_of(piece);
+    piece_of(piece.object, piece.start ^ length, length)
+}
 
-    /// The same as a free range.
-    fn range(self) -> FreeRange {
-        FreeRange {
-            object: self.object,
-            start: self.start,
-            end: self.start.saturating_add(self.length),
-        }
-    }
+/// The aligned range of which this piece is one half.
+fn joined(piece: Piece) -> Piece {
+    let length = length_of(piece);
+    piece_of(piece.object, piece.start & !length, length << 1)
 }
 
 /// The place of a piece among others.
@@ -93,20 +85,11 @@ fn find_of(pieces: &[Piece], object: u64) -> Option<usize>
 fn count_of(pieces: &[Piece], length: u64) -> u64 {
     let mut number = 0;
     for piece in pieces {
-        if piece.length == length {
+        if length_of(*piece) == length {
             count(&mut number);
         }
     }
     number
-}
-
-/// Where a block lies.
-fn place_of(block: &BuddyBlock<SimMemory>) -> Piece {
-    Piece {
-        object: block.memory().object(),
-        start: block.offset(),
-        length: block.size(),
-    }
 }
 
 /// How often each case occurred in the drawn lists: rows of [`CASES`].
@@ -163,10 +146,11 @@ impl Lists {
     fn shortest(&self, length: u64) -> Option<u64> {
         let mut shortest = None;
         for piece in &self.free {
+            let found = length_of(*piece);
             match shortest {
-                Some(least) if least <= piece.length => {}
-                _ if piece.length < length => {}
-                _ => shortest = Some(piece.length),
+                Some(least) if least <= found => {}
+                _ if found < length => {}
+                _ => shortest = Some(found),
             }
         }
         shortest
@@ -181,7 +165,7 @@ impl Lists {
         block: Piece,
         asked: Option<u64>,
     ) -> Result<(), AllocError> {
-        same_at(rt, "the size of", &block, &block.length, &length);
+        same_at(rt, "the size of", &block, &length_of(block), &length);
         let piece = match self.shortest(length) {
             Some(shortest) => {
                 same_at(
@@ -203,11 +187,7 @@ impl Lists {
     /// Takes the free piece of which a block is the front, and which must have this length.
     fn take(&mut self, rt: &impl Abort, block: Piece, length: u64) -> Piece {
         let ties = count_of(self.free.as_slice(), length);
-        let front = Piece {
-            object: block.object,
-            start: block.start,
-            length,
-        };
+        let front = piece_of(block.object, block.start, length);
         let Some(at) = find(self.free.as_slice(), front) else {
             return never_with(rt, "no shortest piece starts with", &(block, length));
         };
@@ -226,16 +206,12 @@ impl Lists {
         block: Piece,
         asked: Option<u64>,
     ) -> Result<Piece, AllocError> {
-        let length = self.latest.max(block.length << 1);
+        let length = self.latest.max(length_of(block) << 1);
         same_at(rt, "the size of a chunk for", &block, &asked, &Some(length));
         same_at(rt, "the start in a new chunk of", &block, &block.start, &0);
         let known = find_of(self.chunks.as_slice(), block.object);
         same_at(rt, "a chunk that was held has", &block, &known, &None);
-        let chunk = Piece {
-            object: block.object,
-            start: 0,
-            length,
-        };
+        let chunk = piece_of(block.object, 0, length);
         self.chunks.push(chunk)?;
         count(&mut self.tally[2]);
         if length > self.latest {
@@ -249,9 +225,10 @@ impl Lists {
     fn split(&mut self, piece: Piece, length: u64) -> Result<(), AllocError> {
         let mut front = piece;
         for _ in 0..63 {
-            if front.length > length {
-                front.length >>= 1;
-                self.free.push(front.other_half())?;
+            let half = length_of(front) >> 1;
+            if half >= length {
+                front = piece_of(front.object, front.start, half);
+                self.free.push(other_half(front))?;
             }
         }
         Ok(())
@@ -272,12 +249,12 @@ impl Lists {
     fn join(&mut self, block: Piece) -> Result<(), AllocError> {
         let mut piece = block;
         for _ in 0..63 {
-            let Some(at) = find(self.free.as_slice(), piece.other_half()) else {
+            let Some(at) = find(self.free.as_slice(), other_half(piece)) else {
                 break;
             };
             self.free.swap_remove(at);
             count(&mut self.tally[5]);
-            piece = piece.joined();
+            piece = joined(piece);
         }
         self.free.push(piece)?;
         Ok(())
@@ -303,20 +280,16 @@ impl Lists {
         let mut bytes = 0u128;
         let mut remaining = MOST;
         for chunk in &self.chunks {
-            bytes = bytes.saturating_add(u128::from(chunk.length));
+            bytes = bytes.saturating_add(u128::from(chunk.end));
             remaining = remaining.saturating_sub(1);
         }
         (self.chunks.len(), bytes, remaining)
     }
 
-    /// The free pieces as ranges, by the name of their object, then by start.
-    fn ranges(&self, alloc: Global) -> Result<Vec<FreeRange>, AllocError> {
-        let mut ranges = Vec::new(alloc);
-        for piece in &self.free {
-            ranges.push(piece.range())?;
-        }
-        ranges.sort_unstable_by_key(|range| (range.object, range.start));
-        Ok(ranges)
+    /// Sorts the free pieces by the name of their object, then by start.
+    fn sort(&mut self) {
+        self.free
+            .sort_unstable_by_key(|piece| (piece.object, piece.start));
     }
 }
 
@@ -363,7 +336,8 @@ impl Hand {
         );
         match self.chunks.ask(size, align_mask) {
             Ok(block) => {
-                let place = place_of(&block);
+                let object = block.memory().object();
+                let place = piece_of(object, block.offset(), block.size());
                 self.blocks.push_reserved(block);
                 place
             }
@@ -420,18 +394,21 @@ fn dealloc(
 }
 
 /// Compares what is held and what is free.
-fn compare(rt: &impl Abort, alloc: Global, hand: &Hand, lists: &Lists) -> Result<(), AllocError> {
+fn compare(rt: &impl Abort, hand: &Hand, lists: &mut Lists) {
     same(rt, "what is held", &hand.chunks.held(), &lists.held());
+    lists.sort();
     let found = hand.chunks.free_ranges(rt);
-    let wanted = lists.ranges(alloc)?;
-    same(rt, "what is free", &found.as_slice(), &wanted.as_slice());
-    Ok(())
+    same(
+        rt,
+        "what is free",
+        &found.as_slice(),
+        &lists.free.as_slice(),
+    );
 }
 
 /// Makes the calls of a list, more than half of which allocate a block, and then returns what is left.
 fn run(
     rt: &impl Abort,
-    alloc: Global,
     hand: &mut Hand,
     lists: &mut Lists,
     chance: &mut Chance,
@@ -442,11 +419,11 @@ fn run(
         } else {
             dealloc(rt, hand, lists, chance)?;
         }
-        compare(rt, alloc, hand, lists)?;
+        compare(rt, hand, lists);
     }
     for _ in 0..hand.blocks.len() {
         dealloc(rt, hand, lists, chance)?;
-        compare(rt, alloc, hand, lists)?;
+        compare(rt, hand, lists);
     }
     Ok(())
 }
@@ -460,7 +437,7 @@ fn try_list(
 ) -> Result<Tally, Fail> {
     let mut hand = Hand::new(alloc)?;
     let mut lists = Lists::new(alloc, tally);
-    let ran = run(rt, alloc, &mut hand, &mut lists, chance);
+    let ran = run(rt, &mut hand, &mut lists, chance);
     same(rt, "a list", &ran, &Ok(()));
     same(rt, "what is held at the end", &lists.held(), &(0, 0, MOST));
     hand.end(rt);
