@@ -6,11 +6,13 @@ ghost use Rattle.std.specs.Option.{option_copied};
 ghost use Rattle.gpu_alloc_types.specs.Properties.{IsUsable, properties_of};
 ghost use Rattle.gpu_alloc.specs.Request.{IsAskable};
 ghost use Rattle.gpu_alloc.specs.Serving.{MayServe};
+ghost use Rattle.gpu_alloc.specs.Kept.{outside};
 ghost use Rattle.gpu_alloc.specs.Keyed.{under};
 ghost use Rattle.indexmap.specs.IndexMap.{get, spare};
 ghost use Rattle.gpu_alloc.specs.UnderKeys.{PutsUnder, TakesUnder};
 ghost use Rattle.gpu_clients.specs.Textures.{texture_at};
 
+use crate::closing::close;
 use gpu_alloc::laws::{agrees_at_first, blocks_under_keys_come_and_go};
 use gpu_alloc::{AllocationError, Config, DeviceProperties, GpuAllocator, MemoryBlock, Request};
 use gpu_alloc_types::{MemoryObject, ObjectDevice};
@@ -215,9 +217,10 @@ impl<M: MemoryObject, D: ObjectDevice<M>, A: Allocator + Copy> TextureCache<M, D
         }
     }
 
-    /// Frees every texture, and then returns the device.
+    /// Frees every texture, and then returns the device, which holds nothing of the cache's any more.
     #[tactic(auto, using(gpu_alloc::proofs::UnderKeys::goes))]
     pub fn end(self) -> D
+        ensures beside { (name : ℕ) → D.objects result name ≡ outside self.allocator (D.objects self.device) name }
         ensures properties { D.properties result ≡ D.properties self.device }
     {
         let TextureCache {
@@ -230,8 +233,6 @@ impl<M: MemoryObject, D: ObjectDevice<M>, A: Allocator + Copy> TextureCache<M, D
             allocator.dealloc(&mut device, block);
         }
         textures.destroy_empty();
-        allocator.cleanup(&mut device);
-        allocator.close();
-        device
+        close(allocator, device)
     }
 }
