@@ -1,8 +1,8 @@
 """What an edit of crates/*/must-fail says: the wrong bodies that it holds, each under a line 'FUNCTION: what it does',
 and the texts that they stand in.
 
-An edit in crates/*/must-fail-second holds second wrong bodies of functions that a crate's first edit turns: rt ci tries
-that one alone, and scripts/gate/refuse_each both.
+An edit in crates/*/must-fail-second holds wrong bodies of private functions, or second ones of functions that a crate's
+first edit turns: rt ci tries that one alone, and scripts/gate/refuse_each all.
 """
 import os
 
