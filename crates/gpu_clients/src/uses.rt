@@ -1,6 +1,6 @@
 //! Callers, each over any device. They are checked without a proof of their own: the contracts of earlier calls give what
-//! later calls need. There are three exceptions. A loop's invariant repeats clauses. In `textures` a line says wherever a
-//! block is returned that it is owned. Goals of `two_buffers` and of `image_and_buffer` have lines of proof.
+//! later calls need. There are three exceptions. A loop's invariant repeats clauses. In `textures` lines say that a
+//! returned block is owned, and what the device keeps. Goals of `two_buffers` and of `image_and_buffer` have some too.
 
 pub mod buffers;
 pub mod bytes;
