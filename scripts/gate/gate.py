@@ -16,37 +16,15 @@ import threading
 import time
 
 from edits import apply_edit, edits_of, read
+from parts import print_timed
 
 LAST = re.compile(r"\d+ passed, \d+ failed")
-BEGUN = time.monotonic()
-PRINTING = threading.Lock()
 RUNNER = ("runner",)
 UNKNOWN = ("", 0)
 # The memory of a check: more than most take. The two of tests take up to 7 GB, and run beside smaller ones.
 EACH = 4_500_000_000
 # What is printed of a block in which something is not proved.
 REASON = re.compile(r"error|no proof|NOT|: not proved|^rt: (?!chose)")
-
-
-def print_timed(text, log=None):
-    """Prints a line with the time since the start, and keeps it in the log where it is given."""
-    line = f"{time.monotonic() - BEGUN:6.0f} s  {text}"
-    with PRINTING:
-        for to in (None, log) if log else (None,):
-            print(line, file=to, flush=True)
-
-
-def jobs_at_once():
-    """How many checks run at once: one a processor, as many as memory holds."""
-    found = len(os.sched_getaffinity(0))
-    free = 1024 * int(re.search(r"MemAvailable:\s+(\d+)", read("/proc/meminfo"))[1])
-    # (a control group may grant less)
-    with contextlib.suppress(OSError, ValueError):
-        quota, period = read("/sys/fs/cgroup/cpu.max").split()
-        found = min(found, int(quota) // int(period))
-    with contextlib.suppress(OSError, ValueError):
-        free = min(free, int(read("/sys/fs/cgroup/memory.max")))
-    return max(1, min(found, free // EACH))
 
 
 def bodies(root):

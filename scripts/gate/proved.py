@@ -1,5 +1,5 @@
-"""The proved programs that scripts/run, scripts/report and scripts/picture start and scripts/test leaves:
-out/NAME-HASH, where HASH is of all that each was proved from."""
+"""What scripts/prove keeps of what it proved, and other scripts start: out/NAME-HASH, where HASH is of all that it was
+proved from."""
 import contextlib
 import fcntl
 import glob
@@ -25,26 +25,31 @@ def answered(*words):
     return subprocess.run(["rt", *words], stdin=subprocess.DEVNULL, stdout=subprocess.PIPE, check=True).stdout
 
 
+def sources():
+    """The hash of the sources, specs and proofs as they stand, and of this toolchain."""
+    folders = [f"{ROOT}/crates/*/{part}/**" for part in ("src", "specs", "proofs")]
+    files = [path for folder in folders for path in glob.glob(folder, recursive=True) if os.path.isfile(path)]
+    summed = hashlib.sha256(answered("version"))
+    for path in [f"{ROOT}/crates.txt", *sorted(files)]:
+        with open(path, "rb") as file:
+            text = file.read()
+        summed.update(f"{os.path.relpath(path, ROOT)} {len(text)}\n".encode() + text)
+    return summed.hexdigest()[:32]
+
+
 class Program:
-    """A program of the repository."""
+    """A program of the repository, or another file that is built of a crate."""
 
-    def __init__(self, name):
-        self.name, self.crate = name, f"{ROOT}/crates/{name}"
+    def __init__(self, crate, name=""):
+        self.name, self.crate = name or crate, f"{ROOT}/crates/{crate}"
 
-    def place(self):
-        """Where it is kept as proved from the sources, specs and proofs as they stand, by this toolchain."""
-        folders = [f"{ROOT}/crates/*/{part}/**" for part in ("src", "specs", "proofs")]
-        files = [path for folder in folders for path in glob.glob(folder, recursive=True) if os.path.isfile(path)]
-        summed = hashlib.sha256(answered("version"))
-        for path in [f"{ROOT}/crates.txt", *sorted(files)]:
-            with open(path, "rb") as file:
-                text = file.read()
-            summed.update(f"{os.path.relpath(path, ROOT)} {len(text)}\n".encode() + text)
-        return f"{OUT}/{self.name}-{summed.hexdigest()[:32]}"
+    def place(self, of=""):
+        """Where it is kept as proved from the sources of this hash, or from those that stand."""
+        return f"{OUT}/{self.name}-{of or sources()}"
 
     def keep(self, place):
-        """Keeps the program that was just proved there, in one step, and removes what was kept of other sources. A
-        program that runs goes on."""
+        """Keeps the file that was just proved there, in one step, and removes what was kept of other sources. A program
+        that runs goes on."""
         with tempfile.TemporaryDirectory(dir=OUT) as room:
             shutil.copyfile(f"{self.crate}/out/{self.name}", f"{room}/program")
             os.chmod(f"{room}/program", 0o755)
@@ -54,20 +59,30 @@ class Program:
                 os.remove(old)
 
 
-SCRIPT, VIEW = PROGRAMS = Program("gpu_script"), Program("gpu_view")
+SCRIPT, VIEW = Program("gpu_script"), Program("gpu_view")
+SCRIPT_TESTS, ALLOC_TESTS = (Program(crate, f"{crate}_tests") for crate in ("gpu_script", "gpu_alloc_tests"))
+LIBRARY = Program("wallthyme", "libwallthyme.a")
+# What rt ci leaves when it has passed.
+PASSED = SCRIPT, VIEW, SCRIPT_TESTS, ALLOC_TESTS
 
 
-def record(sources):
+def record(of):
     """Where it is kept what the gate passed of the sources of this hash."""
-    return f"{OUT}/passed-{sources}"
+    return f"{OUT}/passed-{of}"
 
 
-def keep_record(place, text):
-    """Keeps what the gate passed of the sources from which the program at this place was proved, and of no others."""
+def keep_record(of, text):
+    """Keeps what the gate passed of the sources of this hash, and of no others."""
     for old in glob.glob(record("*")):
         os.remove(old)
-    with open(record(place.rpartition("-")[2]), "w", encoding="utf-8") as file:
+    with open(record(of), "w", encoding="utf-8") as file:
         file.write(f"{text}\n")
+
+
+def runner():
+    """The kit's runner of tests, by its path, or nothing where the kit has none there."""
+    file = f"{os.path.dirname(answered('doc').decode().strip())}/bin/rattle-test"
+    return file if os.access(file, os.X_OK) else None
 
 
 @contextlib.contextmanager

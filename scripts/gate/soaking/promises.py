@@ -594,3 +594,14 @@ def judge(script, output, status, seen):
         seen[kind_of(word, reply, said)] += 1
     end = f"end objects 0 allocations {world.asked['allocate']}"
     hold(Promise.END, replies[-2] == end, f"'{end}' is due, not '{replies[-2]}'")
+
+
+def broken_by(script, output, status, seen):
+    """What breaks a promise, or nothing."""
+    try:
+        judge(script, output, status, seen)
+    except Broken as broken:
+        return broken
+    except (ArithmeticError, LookupError, ValueError) as error:
+        return Broken(Promise.FORM, f"the checker cannot read the replies: {error!r}")
+    return None
