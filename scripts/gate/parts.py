@@ -24,8 +24,8 @@ FAILED, USAGE, NO_TOOLCHAIN, NOT_WRITABLE, INTERRUPTED, TERMINATED = 1, 64, 69, 
 # A line by which a check says what it leaves out for want of something: `left out: WHAT, since WHY`, or
 # `WHAT: left out, since WHY`.
 LEFT_OUT = re.compile(r"(?:^|: )left out: (.*), since (.*)|^(.*): left out, since (.*)")
-# The most lines that are printed of why something failed.
-REASONS = 20
+# The most lines that are printed of why something failed, and the most names of what did in the end.
+REASONS, NAMED = 20, 20
 BEGUN = time.monotonic()
 PRINTING = threading.Lock()
 
@@ -164,6 +164,8 @@ class Run:
         return started
 
     def run_part(self, part):
+        if self.is_over:
+            return
         print_timed(f"{part.name}: begins", self.log)
         begun = time.monotonic()
         ran = self.command(part.words, part.cwd, part.text, part.env)
@@ -197,6 +199,11 @@ class Run:
             by_cause.setdefault(why, []).append(what)
         rows = [f"{', '.join(parts)}, since {why}" for why, parts in by_cause.items()]
         return f"left out: {'; '.join(rows)}" if rows else "nothing was left out"
+
+    def told_failed(self):
+        """One line that names what failed."""
+        more = [f"and {len(self.failed) - NAMED} more"] * (len(self.failed) > NAMED)
+        return f"FAILED: {', '.join([*self.failed[:NAMED], *more])}"
 
     def leave_out(self, what, why):
         """Notes what a part leaves out, and why."""
@@ -237,5 +244,5 @@ def start(main):
         hint = ": put the toolchain's folder of programs on the path" if error.filename == "rt" else ""
         stop(NO_TOOLCHAIN, f"{error.filename}: {error.strerror}{hint}")
     except OSError as error:
-        stop(NOT_WRITABLE, f"{error.filename}: {error.strerror}")
+        stop(NOT_WRITABLE, f"{error.filename or OUT}: {error.strerror}")
     sys.exit(status)
