@@ -1,5 +1,5 @@
 """What scripts/test and scripts/prove have in common: parts that run beside each other, each with a line as it begins and
-as it ends; what was left out; and how a run ends where it cannot go on."""
+as it ends, and what was left out."""
 import contextlib
 import dataclasses
 import os
@@ -7,7 +7,6 @@ import re
 import shutil
 import signal
 import subprocess
-import sys
 import tempfile
 import threading
 import time
@@ -15,12 +14,12 @@ from concurrent.futures import ThreadPoolExecutor
 from typing import Callable
 
 from edits import read
-from proved import NAME, OUT, ROOT
+from ending import INTERRUPTED, NOT_WRITABLE, USAGE, Stopped
+from proved import OUT, ROOT
 
 # Checks of pages and sources, which need no proof. The first takes longest.
 CHECKS = tuple(f"scripts/gate/{name}" for name in (
     "refuse_forgotten", "check_readme", "check_edits", "check_pages", "check_quotes", "check_steps", "soaking/test"))
-FAILED, USAGE, NO_TOOLCHAIN, NOT_WRITABLE, INTERRUPTED, TERMINATED = 1, 64, 69, 73, 130, 143
 # A line by which a check says what it leaves out for want of something: `left out: WHAT, since WHY`, or
 # `WHAT: left out, since WHY`.
 LEFT_OUT = re.compile(r"(?:^|: )left out: (.*), since (.*)|^(.*): left out, since (.*)")
@@ -28,14 +27,6 @@ LEFT_OUT = re.compile(r"(?:^|: )left out: (.*), since (.*)|^(.*): left out, sinc
 REASONS, NAMED = 20, 20
 BEGUN = time.monotonic()
 PRINTING = threading.Lock()
-
-
-class Stopped(Exception):
-    """A run that cannot go on: its exit status, and the line that says why."""
-
-    def __init__(self, status, why):
-        super().__init__(why)
-        self.status, self.why = status, why
 
 
 def print_timed(text, log=None):
@@ -219,30 +210,3 @@ def end_all(processes, number, seconds):
     until = time.monotonic() + seconds
     while any(ran.poll() is None for ran in processes) and time.monotonic() < until:
         time.sleep(0.05)
-
-
-def start(main):
-    """Runs a script, and says in one line why it could not go on where it couldn't."""
-
-    def stop(status, why):
-        sys.stdout.flush()
-        print(f"{NAME}: {why}", file=sys.stderr, flush=True)
-        # (threads may still wait for a process that has been ended)
-        os._exit(status)
-
-    def terminated(*_):
-        raise Stopped(TERMINATED, "ended by a signal")
-
-    signal.signal(signal.SIGTERM, terminated)
-    try:
-        status = main()
-    except Stopped as stopped:
-        stop(stopped.status, stopped.why)
-    except KeyboardInterrupt:
-        stop(INTERRUPTED, "ended by Ctrl-C; nothing is left behind")
-    except FileNotFoundError as error:
-        hint = ": put the toolchain's folder of programs on the path" if error.filename == "rt" else ""
-        stop(NO_TOOLCHAIN, f"{error.filename}: {error.strerror}{hint}")
-    except OSError as error:
-        stop(NOT_WRITABLE, f"{error.filename or OUT}: {error.strerror}")
-    sys.exit(status)

@@ -9,24 +9,19 @@ failed, 2 a line is wrong, 3 want of memory. Where no program ran to its end it 
 import os
 import re
 import shutil
-import signal
 import subprocess
 import sys
 import tempfile
 import time
 
+import ending
 import proved
+from ending import NO_INPUT, NOT_BUILT, USAGE, Stopped
 from proved import NAME, say
 
-USAGE, NO_INPUT, NO_TOOLCHAIN, NOT_BUILT, NOT_WRITABLE, INTERRUPTED = 64, 66, 69, 70, 73, 130
 # Scripts of this many bytes have about 1 MiB of replies, and of picture.
 LARGEST = {proved.SCRIPT: 600_000, proved.VIEW: 200_000}
 ENDED = re.compile(r"run=ended status=([0-3]) .*proved=no")
-
-
-def stop(status, why):
-    say(why)
-    sys.exit(status)
 
 
 def copy_of(name):
@@ -36,7 +31,7 @@ def copy_of(name):
         with open(0 if name == "-" else name, "rb", closefd=name != "-") as source:
             shutil.copyfileobj(source, script)
     except OSError as error:
-        stop(NO_INPUT, f"{name} cannot be read: {error.strerror}")
+        raise Stopped(NO_INPUT, f"{name} cannot be read: {error.strerror}")
     return script
 
 
@@ -64,7 +59,7 @@ def run_unproved(program, words, script, replies):
         return status
     if not verdict.startswith("run=no-answer"):
         print(said, end="", file=sys.stderr, flush=True)
-        stop(NOT_BUILT, f"the program did not run (rt try ended with status {status}): the lines above say why")
+        raise Stopped(NOT_BUILT, f"the program did not run (rt try ended with {status}): the lines above say why")
     why = re.findall(r"^checked: no-answer: (.*)", said, re.M)
     say(f"that run gave no answer{': ' + why[-1] if why else ''}; so the program is proved first")
     replies.seek(0)
@@ -101,9 +96,9 @@ def prove(program, words):
         if ran.returncode:
             with open(log, encoding="utf-8") as file:
                 print(*file.read().splitlines()[-20:], sep="\n", file=sys.stderr)
-            stop(NOT_BUILT, f"the program is not proved: {log} says why")
+            raise Stopped(NOT_BUILT, f"the program is not proved: {log} says why")
         if program.place() != place:
-            stop(NOT_BUILT, "the sources changed during the proof, so nothing is kept: run it again")
+            raise Stopped(NOT_BUILT, "the sources changed during the proof, so nothing is kept: run it again")
         program.keep(place)
         return place
 
@@ -122,7 +117,7 @@ def run_program(program, words, proving, script, replies, wants_proof):
             say(f"a script of {size} bytes is too long for a run without proof, so the program is proved first")
     status, _ = run([place if os.path.exists(place) else prove(program, proving), *words], script, replies)
     if status not in range(4):
-        stop(NOT_BUILT, f"the program ended with {status}")
+        raise Stopped(NOT_BUILT, f"the program ended with {status}")
     return status
 
 
@@ -139,15 +134,15 @@ def main(program, words, options, reports, asked):
             names.append(word)
     if len(names) > 1 or not (names or wants_proof) or any(name.startswith("-") and name != "-" for name in names):
         takes = "".join(f" [{option} N]" for option in options)
-        stop(USAGE, f"usage: {NAME}{takes} FILE | {NAME} --proved{takes} [FILE]  (- is standard input)")
+        raise Stopped(USAGE, f"usage: {NAME}{takes} FILE | {NAME} --proved{takes} [FILE]  (- is standard input)")
     proving = [*words, *(word for pair in numbers.items() for word in pair)]
     if not names:
         print(prove(program, proving))
         return 0
     if reports and names[0].endswith(".json"):
         if numbers:
-            stop(USAGE, f"{names[0]} is a report by its name, and has no lines after which it could be drawn:"
-                 f" {NAME} takes {' or '.join(numbers)} with a script alone")
+            raise Stopped(USAGE, f"{names[0]} is a report by its name, and has no lines after which it could be drawn:"
+                          f" {NAME} takes {' or '.join(numbers)} with a script alone")
         words = reports
     else:
         words = proving
@@ -168,15 +163,4 @@ def start(program, words=(), options=(), reports=()):
     """Runs the program, with these words, on the script that this run is asked for; `options` are those that it takes,
     each with a number. `reports` are the words with which it is run on a file whose name ends in .json, where it reads
     reports too."""
-    signal.signal(signal.SIGTERM, lambda *_: sys.exit(INTERRUPTED))
-    try:
-        sys.exit(main(program, list(words), options, list(reports), sys.argv[1:]))
-    except KeyboardInterrupt:
-        sys.exit(INTERRUPTED)
-    except FileNotFoundError as error:
-        hint = ": put the toolchain's folder of programs on the path" if error.filename == "rt" else ""
-        stop(NO_TOOLCHAIN, f"{error.filename}: {error.strerror}{hint}")
-    except OSError as error:
-        stop(NOT_WRITABLE, f"{error.filename}: {error.strerror}")
-    except Exception as error:
-        stop(NOT_BUILT, repr(error))
+    ending.start(lambda: main(program, list(words), options, list(reports), sys.argv[1:]))
