@@ -17,11 +17,13 @@ class Stopped(Exception):
         self.status, self.why = status, why
 
 
-def has_no_words(page):
-    """Whether the script was started without words, as it has to be. Prints its page where it wasn't."""
-    if sys.argv[1:]:
+def want_no_words(page):
+    """Ends a script that was started with words: it takes none but --help, which prints its page."""
+    if sys.argv[1:] in (["-h"], ["--help"]):
         print(page.strip())
-    return not sys.argv[1:]
+        sys.exit(0)
+    if sys.argv[1:]:
+        raise Stopped(USAGE, f"it takes no words but --help: {' '.join(sys.argv[1:])}")
 
 
 def stop(status, why):

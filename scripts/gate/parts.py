@@ -24,16 +24,21 @@ SLOW = "scripts/gate/refuse_forgotten"
 # A line by which a check says what it leaves out for want of something: `left out: WHAT, since WHY`, or
 # `WHAT: left out, since WHY`.
 LEFT_OUT = re.compile(r"(?:^|: )left out: (.*), since (.*)|^(.*): left out, since (.*)")
-# The most lines that are printed of why something failed, and the most names of what did in the end.
-REASONS, NAMED = 20, 20
+# The most lines that are printed of why something failed, and the longest; and the most names of what did in the end.
+REASONS, WIDTH, NAMED = 20, 240, 20
+# After so many seconds without a line, one says what runs.
+SILENT = 30
 BEGUN = time.monotonic()
 PRINTING = threading.Lock()
+printed = BEGUN
 
 
 def print_timed(text, log=None):
     """Prints a line with the time since the start, and keeps it in the log where it is given."""
-    line = f"{time.monotonic() - BEGUN:6.0f} s  {text}"
+    global printed
     with PRINTING:
+        printed = time.monotonic()
+        line = f"{printed - BEGUN:6.0f} s  {text}"
         for to in (None, log) if log else (None,):
             print(line, file=to, flush=True)
 
@@ -72,6 +77,22 @@ class Outcome:
     failed: list
 
 
+def shortened(reasons):
+    """The lines that say why something failed, at most so many and so long. Of two that were compared, and are longer,
+    it shows where they first differ."""
+    compared = [line.split(":", 1)[-1] for line in reasons if re.match(r" *(left|right):", line)]
+    at = len(os.path.commonprefix(compared)) - WIDTH // 2 if len(compared) == 2 else 0
+    for line in reasons[:REASONS]:
+        found = re.match(r" *(left|right):", line)
+        if len(line) <= WIDTH:
+            yield line
+        elif found and at > 0:
+            rest = line[found.end() + at:]
+            yield f"{found[0]} ..{rest[:WIDTH]}{'..' * (len(rest) > WIDTH)}"
+        else:
+            yield f"{line[:WIDTH]}.."
+
+
 def judge_status(name):
     """One check, which passes with status 0."""
 
@@ -105,7 +126,9 @@ class Run:
 
     def __init__(self, name, written=0):
         self.passed, self.failed, self.missing = 0, [], []
-        self.processes, self.lock, self.is_over = set(), threading.Lock(), False
+        self.processes, self.lock, self.over = set(), threading.Lock(), threading.Event()
+        # The names of the parts that run, and how many have ended, of how many.
+        self.now, self.ended, self.count = [], 0, 0
         self.log_file, self.written = f"{OUT}/{name}.log", written
 
     def __enter__(self):
@@ -114,6 +137,7 @@ class Run:
         self.room = tempfile.mkdtemp(prefix="wallthyme-")
         # (rt runs programs as nobody below this folder)
         os.chmod(self.room, 0o711)
+        threading.Thread(target=self.tell_what_runs, daemon=True).start()
         free = shutil.disk_usage(self.room).free
         if free < self.written:
             self.__exit__(Stopped)
@@ -123,7 +147,8 @@ class Run:
 
     def __exit__(self, kind, *_):
         with self.lock:
-            self.is_over, running = True, list(self.processes)
+            self.over.set()
+            running = list(self.processes)
         for number, seconds in ((signal.SIGTERM, 10), (signal.SIGKILL, 5)):
             end_all(running, number, seconds)
         self.log.close()
@@ -139,7 +164,7 @@ class Run:
         how = {"stdin": subprocess.PIPE, "stdout": subprocess.PIPE, "stderr": subprocess.PIPE, "text": True}
         how |= {"errors": "replace", "start_new_session": True, "env": {**os.environ, "TMPDIR": self.room, **(env or {})}}
         with self.lock:
-            if self.is_over:
+            if self.over.is_set():
                 raise Stopped(INTERRUPTED, "ended")
             ran = subprocess.Popen(words, cwd=cwd, **how)
             self.processes.add(ran)
@@ -150,18 +175,27 @@ class Run:
 
     def start(self, parts, jobs):
         """Begins these parts, as many at once as `jobs` says. Each of what it returns has a `result` to wait for."""
-        pool = ThreadPoolExecutor(jobs)
+        pool, parts = ThreadPoolExecutor(jobs), list(parts)
+        self.count += len(parts)
         started = [pool.submit(self.run_part, part) for part in parts]
         pool.shutdown(wait=False)
         return started
 
+    def tell_what_runs(self):
+        """Prints a line after each silence in which parts run."""
+        while not self.over.wait(1):
+            if self.now and time.monotonic() - printed >= SILENT:
+                print_timed(f"{self.ended} of {self.count} parts have ended; now: {', '.join(self.now)}")
+
     def run_part(self, part):
-        if self.is_over:
+        if self.over.is_set():
             return
         print_timed(f"{part.name}: begins", self.log)
+        self.now.append(part.name)
         begun = time.monotonic()
         ran = self.command(part.words, part.cwd, part.text, part.env)
-        if self.is_over:
+        self.now.remove(part.name)
+        if self.over.is_set():
             return
         self.log.write(f"{ran.out}{ran.said}")
         for line in f"{ran.out}{ran.said}".splitlines():
@@ -176,13 +210,13 @@ class Run:
         failed = f"{len(outcome.failed)} FAILED" if outcome.failed else ""
         counts = ", ".join(filter(None, [passed if outcome.passed else "", failed]))
         with self.lock:
+            self.ended += 1
             self.passed += outcome.passed
             self.failed += [failed for failed, _ in outcome.failed]
-        print_timed(f"{name}: {counts}, in {seconds:.0f} s", self.log)
+        lines = [f"{name}: {counts}, in {seconds:.0f} s"]
         for failed, reasons in outcome.failed:
-            print_timed(f"FAILED: {failed}", self.log)
-            for reason in reasons[:REASONS]:
-                print(f"            {reason[:600]}", flush=True)
+            lines += [f"FAILED: {failed}", *(f"          {reason}" for reason in shortened(reasons))]
+        print_timed("\n".join(lines), self.log)
 
     def left_out(self):
         """One line that says what was left out, and why."""

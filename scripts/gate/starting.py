@@ -51,7 +51,8 @@ def run(command, script, replies, **how):
 def run_unproved(program, words, script, replies):
     """Runs the program on the script without proof. Returns the program's status, or nothing where that run gave no
     answer."""
-    say(f"this build is not proved, and keeps nothing: {NAME} --proved or scripts/prove proves the program and keeps it")
+    say("builds the program first, in some 20 seconds, without proof"
+        f" ({NAME} --proved and scripts/prove prove it and keep it)")
     status, said = run(["rt", "try", "--", *words], script, replies, cwd=program.crate, stderr=subprocess.PIPE)
     verdict = said.rstrip("\n").rpartition("\n")[2]
     ended = ENDED.fullmatch(verdict)
