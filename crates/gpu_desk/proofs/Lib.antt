@@ -1,8 +1,10 @@
 pub mod GoneNames
 pub mod Kept
+pub mod Losing
 pub mod NamesEver
 pub mod OpenQuestions
 pub mod Paged
 pub mod Questions
+pub mod Served
 pub mod Walks
 pub mod Rooms

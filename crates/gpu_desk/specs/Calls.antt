@@ -1,15 +1,15 @@
 -- What the calls of a desk do.
-use Rattle.std.specs.Prelude.{◌≡◌, ◌≢◌, ◌⊎◌, ◌↔◌, ℕ, ◌<◌, ◌+◌, min, ◌==◌, ◌&&◌, ◌≤◌, Bool, true, false, not, cond, List}
+use Rattle.std.specs.Prelude.{◌≡◌, ◌≢◌, ◌⊎◌, ◌↔◌, ℕ, ◌<◌, ◌+◌, min, ◌==◌, ◌&&◌, ◌≤◌, Bool, true, false, not, cond, List, []}
 use Rattle.std.specs.Prelude.{◌++◌, length, Option, Some, None, is_some, IsSome, Ok, Err, IsTrue}
 use Rattle.std.specs.FinMap as map
 use Rattle.gpu_alloc_types.specs.Device.{Chain, Event, HeldWith}
 use Rattle.gpu_alloc_types.specs.Flags.{device_address, has_bit, host_visible, usage_bits}
 use Rattle.gpu_alloc_types.specs.declared.usage_flags.UsageFlags.{UsageFlags}
 use Rattle.gpu_alloc_types.specs.Properties.{are_non_coherent}
-use Rattle.gpu_alloc.specs.Allocation.{AllocatesBy, IsGranted, IsInPages, Plan}
+use Rattle.gpu_alloc.specs.Allocation.{AllocatesBy, IsExactFit, IsGranted, IsInPages, Plan}
 use Rattle.gpu_alloc.specs.Budget.{heap_budget, heap_bytes, with_heap_limit}
 use Rattle.gpu_alloc.specs.HeldOnly.{AllocatesHeld}
-use Rattle.gpu_alloc.specs.Importing.{imported_block}
+use Rattle.gpu_alloc.specs.Importing.{Imports}
 use Rattle.gpu_alloc.specs.Mapped.{AsksToMap, mapping_of, unmapping}
 use Rattle.gpu_alloc.specs.Ranges.{rounded_range}
 use Rattle.gpu_alloc.specs.Release.{Cleans, Frees, LetsObjectsGo}
@@ -35,7 +35,8 @@ use Rattle.gpu_session.specs.declared.command.Fault.{Fault as FaultCode}
 use Rattle.gpu_session.specs.declared.command.Fault.TheVariants.{BadSize, NoMemory, UnknownName}
 use Rattle.gpu_slots.specs.SlotMap.{IsGiven, IsGone, SlotState, StaysGone}
 use Rattle.gpu_desk.specs.Desk.{DeskState, OfKey, objects, tag_of}
-use Rattle.gpu_desk.specs.Wishes.{asks_own, is_own, plan_for}
+use Rattle.gpu_desk.specs.Names.{LosesBut}
+use Rattle.gpu_desk.specs.Wishes.{asks_own, is_own, plan_for, served_as}
 use Rattle.gpu_desk.specs.declared.denial.Denial.{Denial}
 use Rattle.gpu_desk.specs.declared.denial.Denial.TheVariants.{Open, Strayed, WouldAsk, Refused, MapRefused, Fault}
 use Rattle.gpu_desk.specs.declared.told.Counts.{Counts}
@@ -54,13 +55,14 @@ KeepsTags old new =
     → tag_of new key ≡ tag_of old key
 
 -- What was given to the allocator and the desk stays, and so do each heap's limit and the total of objects. Freed keys
--- stay invalid, past names stay past, and each block that stays live keeps its tag.
+-- stay invalid, past names stay past, no object is lost, and each block that stays live keeps its tag.
 pub record KeepsDesk (old new : DeskState) : Type 0 where
   pub given : KeepsGiven old.allocator new.allocator
   pub limits : new.allocator.heap_limits ≡ old.allocator.heap_limits
   pub total : total new.allocator ≡ total old.allocator
   pub gone : StaysGone old.blocks new.blocks
   pub names : KeepsNames old.device.held new.device.held
+  pub lost : LosesBut [] old new
   pub tags : KeepsTags old new
   pub page : new.granularity ≡ old.granularity
 
@@ -133,12 +135,19 @@ pub record Gives (old : DeskState) (g : Grant) (b : Block) (t : Tag) (new : Desk
 abbrev pub plan_of : DeskState → Request → Wish → Plan
 plan_of s r w = plan_for s.allocator s.granularity r w
 
--- A request is granted: as it asks, and as the allocator decides it in a run with these answers.
+-- the first condition that a request misses
+abbrev pub fault_of_alloc : DeskState → Request → Option FaultCode
+fault_of_alloc s r = fault_of_request s.allocator.properties.buffer_device_address r
+
+-- A request that misses no condition is granted: as it asks, and as the allocator decides it in a run with these
+-- answers.
 pub record Allocated (old : DeskState) (r : Request) (w : Wish) (answers : List Answered) (new : DeskState) (g : Grant)
     : Type 0 where
+  pub askable : fault_of_alloc old r ≡ None
   pub block : Block
   pub gives : Gives old g block (wished w r.size) new
   pub as_asked : IsGranted old.allocator r new.allocator block
+  pub exact : IsExactFit old.allocator (served_as old.granularity r w) block
   pub own : w.dedicated ≡ Some Required → block.kind ≡ DedicatedObject
   -- it has its object alone exactly where its memory type serves it so
   pub alone : IsTrue (is_own old.allocator (plan_of old r w) block.memory_type) ↔ (block.kind ≡ DedicatedObject)
@@ -160,18 +169,18 @@ abbrev pub IsFaultOf : Option FaultCode → Denial → Type 0
 IsFaultOf missed d =
     (fault : FaultCode) × (d ≡ Fault fault) × ((missed ≡ Some fault) ⊎ ((missed ≡ None) × (fault ≡ NoMemory)))
 
-abbrev pub fault_of_alloc : DeskState → Request → Option FaultCode
-fault_of_alloc s r = fault_of_request s.allocator.properties.buffer_device_address r
-
 unfoldable pub AllocationDenied : DeskState → Request → Wish → List Answered → Denial → Type 0
 AllocationDenied s r w answers d =
     IsFaultOf (fault_of_alloc s r) d ⊎ ((fault_of_alloc s r ≡ None) × RefusesIn s r w answers d)
 
--- A request is granted from what is held: as it asks, and as the allocator decides it. The device is unchanged.
+-- A request that misses no condition is granted from what is held: as it asks, and as the allocator decides it. The
+-- device is unchanged.
 pub record AllocatedHeld (old : DeskState) (r : Request) (w : Wish) (new : DeskState) (g : Grant) : Type 0 where
+  pub askable : fault_of_alloc old r ≡ None
   pub block : Block
   pub gives : Gives old g block (wished w r.size) new
   pub as_asked : IsGranted old.allocator r new.allocator block
+  pub exact : IsExactFit old.allocator (served_as old.granularity r w) block
   pub shared : is_shared block.kind ≡ true
   pub pages : w.optimal ≡ true → IsInPages old.granularity r.size block
   pub decided : AllocatesHeld old.allocator (plan_of old r w) (Ok (Some block)) new.allocator
@@ -188,14 +197,17 @@ HeldDenied s r w d =
     × (((d ≡ WouldAsk) × AllocatesHeld s.allocator (plan_of s r w) (Ok None) s.allocator)
     ⊎ ((e : AllocationError) × (d ≡ Refused e) × AllocatesHeld s.allocator (plan_of s r w) (Err e) s.allocator)))
 
--- An import: the block is the given span of a new object, which the device holds accordingly.
+-- An import that misses no condition: the allocator imports the given span of a new object, which the device holds
+-- accordingly. No other object comes or goes.
 pub record Imported (old : DeskState) (t object_size offset size : ℕ) (new : DeskState) (g : Grant) : Type 0 where
+  pub importable : fault_of_import old.allocator t object_size offset size ≡ None
   pub block : Block
   pub gives : Gives old g block (imported size) new
-  pub as_asked : block ≡ imported_block old.allocator g.object t offset size
+  pub imports : Imports old.allocator g.object t offset size new.allocator block
   pub fresh : g.fresh ≡ false
   pub was_free : objects old g.object ≡ None
   pub held : HeldWith (objects new) g.object (λ o. (o.memory_type ≡ t) × (o.size ≡ object_size))
+  pub others : (name : ℕ) → name ≢ g.object → objects new name ≡ objects old name
 
 abbrev pub ImportDenied : DeskState → (t object_size offset size : ℕ) → Denial → Type 0
 ImportDenied s t object_size offset size d = IsFaultOf (fault_of_import s.allocator t object_size offset size) d
@@ -247,21 +259,22 @@ pub record MapsOnly (old : DeskState) (key : ℕ) (b : Block) (mapping : Option 
   pub allocator : new.allocator ≡ old.allocator
   pub names : new.device.held.gone ≡ old.device.held.gone
 
--- some bytes of the block are mapped, as the block asks for it in a run with these answers
+-- the first condition that a mapping misses
+abbrev pub fault_of_map : DeskState → (key offset size : ℕ) → Option FaultCode
+fault_of_map s key offset size =
+    fault_of_block (map.get s.blocks.live key)
+    (λ b. where_true (size == 0) BadSize (fault_of_range offset size b.size None))
+
+-- Bytes of a block are mapped, as the block asks for it in a run with these answers. No condition is missed.
 pub record Maps (old : DeskState) (key offset size : ℕ) (answers : List Answered) (new : DeskState) (r : ObjectRange)
     : Type 0 where
+  pub able : fault_of_map old key offset size ≡ None
   pub block : Block
   pub only : MapsOnly old key block (Some (mapping_of block offset size)) new
   pub inside : offset + size ≤ block.size
   pub told : r ≡ record { object = block.object; offset = block.offset + offset; size = size }
   pub run : InRun old answers (λ es after. AsksToMap block offset size (Ok (mapping_of block offset size)) es
       × (new.device ≡ after))
-
--- the first condition that it misses
-abbrev pub fault_of_map : DeskState → (key offset size : ℕ) → Option FaultCode
-fault_of_map s key offset size =
-    fault_of_block (map.get s.blocks.live key)
-    (λ b. where_true (size == 0) BadSize (fault_of_range offset size b.size None))
 
 -- the block's mapping is refused in a run that ends so
 abbrev pub MapRefusedIn : DeskState → (key offset size : ℕ) → List Answered → Denial → Type 0
@@ -296,7 +309,8 @@ range_told b offset size =
     }
 
 abbrev pub RangeTold : DeskState → (key offset size : ℕ) → ObjectRange → Type 0
-RangeTold s key offset size r = OfKey s key (λ b. (offset + size ≤ b.size) × (r ≡ range_told b offset size))
+RangeTold s key offset size r =
+    OfKey s key (λ b. (offset + size ≤ b.size) × (has_bit b.props host_visible ≡ true) × (r ≡ range_told b offset size))
 
 -- the first condition that it misses: there is such a block, with such a range, and its memory is host-visible
 abbrev pub RangeDenied : DeskState → (key offset size : ℕ) → Denial → Type 0

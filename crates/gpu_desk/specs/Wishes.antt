@@ -1,6 +1,7 @@
 -- How a wish is asked of the allocator, and which of its questions are for an object of the block's own.
 use Rattle.std.specs.Prelude.{◌≡◌, ◌<◌, ◌==◌, ◌&&◌, ℕ, Bool, false, not, cond, length, Option, Some, None}
 use Rattle.gpu_alloc.specs.Allocation.{Plan, plan, plan_in_pages, serves_alone}
+use Rattle.gpu_alloc.specs.HeldOnly.{in_pages_where}
 use Rattle.gpu_alloc.specs.State.{State}
 use Rattle.gpu_alloc.specs.declared.request.Request.{Request}
 use Rattle.gpu_answers.specs.declared.question.Question.{Question}
@@ -14,6 +15,10 @@ goes_by_pages granularity w = w.optimal && not (granularity == 1)
 -- the granularity of its pages, or `None`
 abbrev pub pages_of : ℕ → Wish → Option ℕ
 pages_of granularity w = cond (goes_by_pages granularity w) (Some granularity) None
+
+-- the request as a shared chunk serves it: in whole pages, if it goes by them
+abbrev pub served_as : ℕ → Request → Wish → Request
+served_as granularity r w = in_pages_where (pages_of granularity w) r
 
 -- how the allocator tries the request
 abbrev pub plan_for : State → ℕ → Request → Wish → Plan

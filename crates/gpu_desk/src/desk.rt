@@ -95,6 +95,8 @@ impl Desk {
         ensures usable { OnOk result (IsUsable (properties_of props.entry) × IsGranularity (page_of granularity)) }
         ensures bad { result ≡ Err OpenError.BadProperties → IsUsable (properties_of props.entry)
             → IsGranularity (page_of granularity) → ⊥ }
+        ensures scarce { result ≡ Err OpenError.OutOfHostMemory → IsUsable (properties_of props.entry)
+            × IsGranularity (page_of granularity) }
     {
         Desk::with_sharing(alloc, config, props, granularity, Sharing::Buddy)
     }
@@ -114,6 +116,8 @@ impl Desk {
         ensures usable { OnOk result (IsUsable (properties_of props.entry) × IsGranularity (page_of granularity)) }
         ensures bad { result ≡ Err OpenError.BadProperties → IsUsable (properties_of props.entry)
             → IsGranularity (page_of granularity) → ⊥ }
+        ensures scarce { result ≡ Err OpenError.OutOfHostMemory → IsUsable (properties_of props.entry)
+            × IsGranularity (page_of granularity) }
     {
         let page = page_of(granularity);
         if !props.is_usable() || page > LARGEST_PAGE || !page.is_power_of_two() {

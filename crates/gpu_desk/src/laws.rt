@@ -1,10 +1,11 @@
 //! Laws of any calls of a desk, over the definitions alone. The functions are lemmas: they do nothing at run time.
 
-ghost use Rattle.std.specs.Prelude.{ℕ, List, All};
+ghost use Rattle.std.specs.Prelude.{◌⊎◌, ℕ, List, All, Contains, IsSome};
 ghost use Rattle.gpu_alloc.specs.Request.{IsGranularity};
 ghost use Rattle.gpu_session.specs.Sound as session;
 ghost use Rattle.gpu_desk.specs.Desk.{DeskState, IsSoundDesk, books, objects};
-ghost use Rattle.gpu_desk.specs.Names.{IsPastName, IsSpentName, MakesEver, NamesNothing, Waits};
+ghost use Rattle.gpu_desk.specs.Names.{FollowsReading, IsPastName, IsSpentName, MakesEver, NamesNothing, Waits};
+ghost use Rattle.gpu_desk.specs.Names.{last_after, read_in};
 ghost use Rattle.gpu_desk.specs.Pages.{ArePaged, ShareNoPage};
 ghost use Rattle.gpu_desk.specs.Walk.{ComesOnce, IsLiveKey, NeverComes, WalksAll};
 
@@ -17,6 +18,15 @@ pub fn no_name_comes_twice()
     ensures waiting { (s : DeskState) → IsSoundDesk s → (name : ℕ) → Waits s name → IsPastName s name }
     ensures nothing { MakesEver IsPastName NamesNothing }
     ensures once { MakesEver IsSpentName (λ s name. Waits s name → ⊥) }
+{}
+
+/// However calls follow one another, no object is lost. One that is held at first, or whose name waits to be read then,
+/// is held in the end, or its name waits, or it was read on the way.
+pub fn no_object_is_lost()
+    ensures { (first : DeskState) (calls : List (List ℕ × DeskState)) → FollowsReading first calls → (name : ℕ)
+        → IsSome (objects first name) ⊎ Waits first name
+        → (IsSome (objects (last_after first calls) name) ⊎ Waits (last_after first calls) name)
+        ⊎ Contains (read_in calls) name }
 {}
 
 /// A whole walk by [`Desk::block_after`] meets each block that lives all along exactly once, and no block that is live

@@ -7,7 +7,7 @@ ghost use Rattle.std.specs.FinMap as map;
 ghost use Rattle.gpu_session.specs.Does.{IsEachFreeRange};
 ghost use Rattle.gpu_answers.specs.Held.{KeepsNames};
 ghost use Rattle.gpu_desk.specs.Calls.{CountsOf, HeapCountsOf, LimitsHeap, OnlyReads, lacks_address};
-ghost use Rattle.gpu_desk.specs.Names.{IsSpentName};
+ghost use Rattle.gpu_desk.specs.Names.{IsSpentName, LosesBut, as_read};
 
 use super::Desk;
 use crate::{Counts, Denial, Fault, FreeRange, HeapCounts, UsageFlags};
@@ -22,6 +22,7 @@ impl Desk {
         ensures none { result ≡ None → (self.old.device.held.gone ≡ []) × (self.new.device.held.gone ≡ []) }
         ensures spent { IfSome result (IsSpentName self.new) }
         ensures kept { OnlyReads self.old self.new }
+        ensures lost { LosesBut (as_read result) self.old self.new }
         ensures names { KeepsNames (self.old.device).held (self.new.device).held }
     {
         let name = self.device.take_gone();
@@ -65,6 +66,7 @@ impl Desk {
         ensures none { (result ≡ None) ↔ (length ((self.old.allocator).properties).memory_heaps ≤ heap) }
         ensures unchanged { result ≡ None → self.new ≡ self.old }
         ensures names { KeepsNames (self.old.device).held (self.new.device).held }
+        ensures lost { LosesBut [] self.old self.new }
     {
         if heap < self.offer.heaps {
             self.allocator.set_heap_limit(heap, limit);
@@ -108,6 +110,7 @@ impl Desk {
             × (2 ^ 32 ≤ remaining + map.len (self.old.allocator).held)) }
         ensures unchanged { OnErr result (self.new ≡ self.old) }
         ensures names { KeepsNames (self.old.device).held (self.new.device).held }
+        ensures lost { LosesBut [] self.old self.new }
     {
         if remaining > u32::MAX - self.allocator.held_objects() {
             return Err(Denial::Fault(Fault::TooManyRemaining));

@@ -5,7 +5,7 @@ ghost use Rattle.std.specs.FinMap as map;
 ghost use Rattle.gpu_alloc_types.specs.Device.{Event, Chain};
 ghost use Rattle.gpu_alloc_block.specs.Agreement.{Agrees, BlockAgrees, KeepsBlocks};
 ghost use Rattle.gpu_alloc_block.specs.State.{total};
-ghost use Rattle.gpu_alloc.specs.Allocation.{AllocatesBy, ObjectsAfter, IsGranted, IsInPages};
+ghost use Rattle.gpu_alloc.specs.Allocation.{AllocatesBy, ObjectsAfter, IsExactFit, IsGranted, IsInPages};
 ghost use Rattle.gpu_alloc.specs.Owned.{Adds, Leaves};
 ghost use Rattle.gpu_alloc.specs.Request.{IsAskable, IsGranularity};
 ghost use Rattle.gpu_alloc.specs.Sound as allocator_sound;
@@ -13,7 +13,7 @@ ghost use Rattle.gpu_answers.specs.Device.{IsStep, objects_of};
 ghost use Rattle.gpu_desk.specs.Calls.{AllocationDenied, Allocated, CleansUp, HasKey, ImportDenied, Imported};
 ghost use Rattle.gpu_desk.specs.Calls.{IsAsBefore, IsUnknown, KeepsDesk, Returns, Tells, TellsTag};
 ghost use Rattle.gpu_desk.specs.Tags.{tag_at};
-ghost use Rattle.gpu_desk.specs.Wishes.{MayCome, asks_own, goes_by_pages, is_own, plan_for};
+ghost use Rattle.gpu_desk.specs.Wishes.{MayCome, asks_own, goes_by_pages, is_own, plan_for, served_as};
 
 use super::{Blocks, Desk, place_of};
 use crate::denial::denial_after;
@@ -50,6 +50,7 @@ fn allocate(
     ensures objects { ObjectsAfter allocator.old result allocator.new (objects_of device.old) (objects_of device.new) }
     ensures agrees { Agrees allocator.new device.new.properties (objects_of device.new) }
     ensures granted { IfOk result (IsGranted allocator.old request allocator.new) }
+    ensures exact { IfOk result (IsExactFit allocator.old (served_as granularity request wish)) }
     ensures pages { IfOk result (λ block. wish.optimal ≡ true → IsInPages granularity request.size block) }
     ensures alone { IfOk result (λ block.
         IsTrue (is_own allocator.old (plan_for allocator.old granularity request wish) block.memory_type)

@@ -3,14 +3,14 @@
 ghost use Rattle.std.specs.Prelude.{◌≡◌, true, None, Ok, IfErr, IfOk, IfSome, OnErr};
 ghost use Rattle.gpu_alloc_block.specs.Agreement.{Agrees, BlockAgrees, KeepsBlocks};
 ghost use Rattle.gpu_alloc_block.specs.State.{is_shared};
-ghost use Rattle.gpu_alloc.specs.Allocation.{IsGranted, IsInPages};
+ghost use Rattle.gpu_alloc.specs.Allocation.{IsExactFit, IsGranted, IsInPages};
 ghost use Rattle.gpu_alloc.specs.HeldOnly.{AllocatesHeld};
 ghost use Rattle.gpu_alloc.specs.Owned.{Adds, Leaves};
 ghost use Rattle.gpu_alloc.specs.Request.{IsAskable, IsGranularity};
 ghost use Rattle.gpu_alloc.specs.Sound as allocator_sound;
 ghost use Rattle.gpu_answers.specs.Device.{objects_of};
 ghost use Rattle.gpu_desk.specs.Calls.{AllocatedHeld, HeldDenied, IsAsBefore, KeepsDesk};
-ghost use Rattle.gpu_desk.specs.Wishes.{pages_of, plan_for};
+ghost use Rattle.gpu_desk.specs.Wishes.{pages_of, plan_for, served_as};
 
 use super::Desk;
 use super::granting::{goes_by_pages, keep, make_room};
@@ -51,6 +51,8 @@ fn allocate_held(
     ensures held { allocator.new.held ≡ allocator.old.held }
     ensures remaining { allocator.new.remaining ≡ allocator.old.remaining }
     ensures granted { IfOk result (λ served. IfSome served (IsGranted allocator.old request allocator.new)) }
+    ensures exact { IfOk result (λ served. IfSome served (IsExactFit allocator.old
+        (served_as granularity request wish))) }
     ensures shared { IfOk result (λ served. IfSome served (λ block. is_shared block.kind ≡ true)) }
     ensures pages { IfOk result (λ served. IfSome served (λ block.
         wish.optimal ≡ true → IsInPages granularity request.size block)) }

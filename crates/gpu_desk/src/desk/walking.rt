@@ -1,10 +1,11 @@
 //! A walk over the live blocks, and what is kept with them for their caller.
 
-ghost use Rattle.std.specs.Prelude.{◌≡◌, None, IfErr, IfSome, IsSome, OnErr, OnOk};
+ghost use Rattle.std.specs.Prelude.{◌≡◌, [], None, IfErr, IfSome, IsSome, OnErr, OnOk};
 ghost use Rattle.std.specs.FinMap as map;
 ghost use Rattle.gpu_answers.specs.Held.{KeepsNames};
 ghost use Rattle.gpu_desk.specs.Calls.{IsUnknown, SetsUser, Told};
 ghost use Rattle.gpu_desk.specs.Desk.{tag_of};
+ghost use Rattle.gpu_desk.specs.Names.{LosesBut};
 ghost use Rattle.gpu_desk.specs.Walk.{IsLast, IsNext, behind};
 
 use super::granting::grant_of;
@@ -57,6 +58,7 @@ impl Desk {
         ensures denied { IfErr result (IsUnknown self.old key) }
         ensures unchanged { OnErr result (self.new ≡ self.old) }
         ensures names { KeepsNames (self.old.device).held (self.new.device).held }
+        ensures lost { LosesBut [] self.old self.new }
     {
         if self.blocks.get(key).is_none() {
             return Err(Denial::Fault(Fault::UnknownName));

@@ -19,6 +19,7 @@ use Rattle.gpu_desk.specs.declared.wish.Tag.{Tag}
 use Rattle.gpu_desk.proofs.Paged.{put_paged}
 use Rattle.gpu_desk.specs.declared.denial.Denial.TheVariants.{Open, Refused}
 use Rattle.gpu_desk.proofs.GoneNames.{names_of_before}
+use Rattle.gpu_desk.proofs.Losing.{all_stay, as_before, given_stay, same_stays}
 use Rattle.gpu_desk.proofs.Kept.{begun_is, begun_keeps_names, forgetting_keeps_names, free_key, fresh_is, given_others, has_key, kept_over, same_objects}
 use Rattle.gpu_desk.proofs.OpenQuestions.{may_come, own_is_as_asked, same_denial}
 use Rattle.gpu_desk.proofs.Questions.{allocation_asks_few}
@@ -62,6 +63,7 @@ returns-in-Ok-answer-clause-granted c =
     let shown_at_first = same_objects c.self.inside.device c.begin.new.self c.begin.ensures.offers (ap (λ (h : HeldState). h.objects) c.begin.ensures.held) in
     let shown_at_last = same_objects mid now forgets.offers forgets.objects in
     rw (← c.self.view_is) (record {
+      askable = tested_request c.self.invariant.kept c.args.request None (sym c.in_default.ensures);
       block = b;
       gives = record {
         tells = c.keep.ensures.tells;
@@ -72,6 +74,7 @@ returns-in-Ok-answer-clause-granted c =
             ∙ ap (λ (h : HeldState). h.gone) c.begin.ensures.held;
       };
       as_asked = done.granted;
+      exact = done.exact;
       own = done.own;
       alone = done.alone;
       pages = done.pages;
@@ -129,6 +132,8 @@ returns-in-Ok-answer-clause-keeps c =
     let mid = c.allocate-answer.new.device in
     let forgets = c.forget_gone_after.ensures in
     let run = begun_keeps_names c.self.inside.device c.begin.new.self done.decided.0 mid c.begin.ensures.held done.decided.1 in
+    let shown_at_first = same_objects c.self.inside.device c.begin.new.self c.begin.ensures.offers (ap (λ (h : HeldState). h.objects) c.begin.ensures.held) in
+    let shown_at_last = same_objects mid c.forget_gone_after.new.self forgets.offers forgets.objects in
     let lives : c.make_room.new.blocks.live ≡ c.self.inside.blocks.live = ap (λ (s : SlotState Block). s.live) c.make_room.ensures.kept in
     rw (← c.self.view_is) (record {
       given = search rules;
@@ -136,6 +141,10 @@ returns-in-Ok-answer-clause-keeps c =
       total = search rules;
       gone = search rules;
       names = forgetting_keeps_names c.self.inside.device.held mid.held c.forget_gone_after.new.self.held _ run forgets.gone forgets.objects forgets.last_name;
+      lost = all_stay _ _
+          (λ q some. same_stays _ _ shown_at_last q (given_stay _ _ _ c.in-Ok-answer.block.object (objects_of c.begin.new.self) (objects_of mid) done.objects q (same_stays _ _ shown_at_first q some)))
+          (forgets.gone ∙ ap (λ (xs : List ℕ). take (length xs) mid.held.gone) c.gone-told.ensures ∙ names_of_before c.begin.new.self done.decided.0 mid done.decided.1
+          ∙ ap (λ (h : HeldState). h.gone) c.begin.ensures.held);
       tags = λ q was is. c.keep.ensures.others q (subst (λ (m : map.FinMap _ Block). IsSome (map.get m q)) (sym lives) was) ∙ ap (λ ts. tag_at ts q) c.make_room.ensures.tags;
       page = refl;
     })
@@ -146,12 +155,17 @@ returns-in-Err-clause-keeps c =
     let mid = c.allocate-answer.new.device in
     let forgets = c.forget_gone_after.ensures in
     let run = begun_keeps_names c.self.inside.device c.begin.new.self done.decided.0 mid c.begin.ensures.held done.decided.1 in
+    let shown_at_first = same_objects c.self.inside.device c.begin.new.self c.begin.ensures.offers (ap (λ (h : HeldState). h.objects) c.begin.ensures.held) in
+    let shown_at_last = same_objects mid c.forget_gone_after.new.self forgets.offers forgets.objects in
     rw (← c.self.view_is) (record {
       given = search rules;
       limits = done.leaves.limits;
       total = search rules;
       gone = search rules;
       names = forgetting_keeps_names c.self.inside.device.held mid.held c.forget_gone_after.new.self.held _ run forgets.gone forgets.objects forgets.last_name;
+      lost = as_before _ _ (shown_at_last ∙ done.objects ∙ shown_at_first)
+          (forgets.gone ∙ ap (λ (xs : List ℕ). take (length xs) mid.held.gone) c.gone-told.ensures ∙ names_of_before c.begin.new.self done.decided.0 mid done.decided.1
+          ∙ ap (λ (h : HeldState). h.gone) c.begin.ensures.held);
       tags = λ q was is. ap (λ ts. tag_at ts q) c.make_room.ensures.tags;
       page = refl;
     })

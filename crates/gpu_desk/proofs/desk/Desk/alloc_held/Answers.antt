@@ -11,6 +11,7 @@ use Rattle.gpu_slots.specs.SlotMap.{SlotState}
 use Rattle.gpu_desk.specs.Calls.{HeldDenied}
 use Rattle.gpu_desk.specs.Tags.{tag_at}
 use Rattle.gpu_desk.specs.declared.wish.Tag.{Tag}
+use Rattle.gpu_desk.proofs.Losing.{same_device}
 use Rattle.gpu_desk.proofs.Kept.{begun_keeps_names, free_key, has_key}
 use Rattle.gpu_desk.proofs.Paged.{put_paged}
 use Rattle.gpu_desk.proofs.Rooms.{room_is_kept}
@@ -61,6 +62,7 @@ returns-in-Ok-Some-clause-granted c =
     let done = rw c.in-Ok-Some.field-0-is at c.in-Ok-Some.ensures in
     let key = c.keep.ensures.kept in
     rw (← c.self.view_is) (record {
+      askable = tested_request c.self.invariant.kept c.args.request None (sym c.in_default.ensures);
       block = c.in-Ok-Some.block;
       gives = record {
         tells = c.keep.ensures.tells;
@@ -70,6 +72,7 @@ returns-in-Ok-Some-clause-granted c =
         names = ap (λ (d : DeviceState). d.held.gone) done.unasked;
       };
       as_asked = done.granted;
+      exact = done.exact;
       shared = done.shared;
       pages = done.pages;
       decided = done.decided;
@@ -88,6 +91,7 @@ returns-in-Ok-Some-clause-keeps c =
       total = search rules;
       gone = search rules;
       names = begun_keeps_names c.self.inside.device c.self.inside.device [] c.allocate_held-answer.new.device refl done.unasked;
+      lost = same_device _ _ done.unasked;
       tags = λ q was is. c.keep.ensures.others q (subst (λ (m : map.FinMap _ Block). IsSome (map.get m q)) (sym lives) was) ∙ ap (λ ts. tag_at ts q) c.make_room.ensures.tags;
       page = refl;
     })

@@ -2,6 +2,7 @@ use Rattle.std.proofs.Common.{refl, rules}
 use Rattle.gpu_session.proofs.Returns.{cleanup_is_kept, nothing_held, nothing_live}
 use Rattle.gpu_desk.proofs.GoneNames.{returns_add}
 use Rattle.gpu_answers.proofs.Naming.{run_keeps_names}
+use Rattle.gpu_desk.proofs.Losing.{by_run}
 use Rattle.gpu_desk.proofs.desk.Desk.cleanup.Goals as goal
 
 pub invariant_of-self : goal.invariant_of-self
@@ -34,6 +35,7 @@ returns-clause-keeps c =
       total = search rules;
       gone = search rules;
       names = run_keeps_names c.self.inside.device done.cleaned.0 c.cleanup.new.device done.cleaned.1;
+      lost = by_run _ _ done.cleaned.0 done.cleaned.1;
       tags = λ key was is. refl;
       page = refl;
     })

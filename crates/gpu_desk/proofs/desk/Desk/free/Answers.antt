@@ -4,6 +4,7 @@ use Rattle.gpu_session.proofs.Returns.{return_is_kept}
 use Rattle.gpu_desk.proofs.GoneNames.{returns_add}
 use Rattle.gpu_answers.proofs.Naming.{run_keeps_names}
 use Rattle.gpu_desk.proofs.Paged.{out_paged}
+use Rattle.gpu_desk.proofs.Losing.{by_run}
 use Rattle.gpu_desk.proofs.desk.Desk.free.Goals as goal
 
 pub invariant_of-self : goal.invariant_of-self
@@ -40,6 +41,7 @@ returns-in-Some-clause-keeps c =
       total = search rules;
       gone = search rules;
       names = run_keeps_names c.self.inside.device done.freed.0 c.dealloc.new.device done.freed.1;
+      lost = by_run _ _ done.freed.0 done.freed.1;
       tags = λ key was is. refl;
       page = refl;
     })

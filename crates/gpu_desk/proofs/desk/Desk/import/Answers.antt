@@ -4,8 +4,8 @@ use Rattle.std.specs.Option.{IsSome}
 use Rattle.gpu_alloc_types.specs.Device.{HeldWith}
 use Rattle.gpu_alloc_types.specs.Device.Event.{Allocated, Deallocated}
 use Rattle.gpu_alloc_types.specs.Flags.{allocation_bits}
-use Rattle.gpu_alloc_types.specs.Objects.{put-same}
-use Rattle.gpu_alloc.specs.Importing.{imported_block}
+use Rattle.gpu_alloc_types.specs.Objects.{put-other, put-same}
+use Rattle.gpu_alloc.specs.Importing.{Imports}
 use Rattle.gpu_alloc.specs.State.{Block}
 use Rattle.gpu_answers.specs.Device.{IsStep, objects_of}
 use Rattle.gpu_answers.specs.DeviceLaws.{step_is_row}
@@ -20,6 +20,7 @@ use Rattle.gpu_desk.specs.Tags.{tag_at}
 use Rattle.gpu_desk.specs.declared.wish.Tag.{Tag}
 use Rattle.gpu_desk.proofs.Paged.{put_paged, retagged}
 use Rattle.gpu_desk.proofs.GoneNames.{names_of_before}
+use Rattle.gpu_desk.proofs.Losing.{as_before, by_begun_run}
 use Rattle.gpu_desk.proofs.Kept.{begun_keeps_names, forgetting_keeps_names, free_key, has_key, kept_over, same_objects}
 use Rattle.gpu_desk.proofs.Rooms.{room_is_kept}
 use Rattle.gpu_desk.proofs.desk.Desk.import.Goals as goal
@@ -104,6 +105,7 @@ returns-in-Ok-import_memory-clause-granted c =
     let name_is : c.keep.result.object ≡ name = c.keep.ensures.tells.object ∙ ap (λ (x : Block). x.object) done.imported.block in
     let shown_at_first = same_objects c.self.inside.device c.begin.new.self c.begin.ensures.offers (ap (λ (h : HeldState). h.objects) c.begin.ensures.held) in
     rw (← c.self.view_is) (record {
+      importable = sym c.in_default.ensures;
       block = c.in-Ok-import_memory.block;
       gives = record {
         tells = c.keep.ensures.tells;
@@ -112,11 +114,13 @@ returns-in-Ok-import_memory-clause-granted c =
         key = has_key c.self.inside.blocks c.make_room.new.blocks _ _ c.in-Ok-import_memory.block c.keep.new.blocks c.make_room.ensures.kept key;
         names = step.names.2 ∙ ap (λ (h : HeldState). h.gone) c.begin.ensures.held;
       };
-      as_asked = done.imported.block ∙ ap (λ n. imported_block c.self.inside.allocator n c.args.memory_type c.args.offset c.args.size) (sym name_is);
+      imports = subst (λ n. Imports c.self.inside.allocator n c.args.memory_type c.args.offset c.args.size c.import_memory.new.self c.in-Ok-import_memory.block) (sym name_is) done.imported;
       fresh = c.keep.ensures.fresh;
       was_free = ap (λ (f : ℕ → _). f c.keep.result.object) (sym shown_at_first) ∙ ap (objects_of c.begin.new.self) name_is ∙ row.0;
       held = subst (λ n. HeldWith (objects_of c.allocate_memory-made.new.self) n (λ o. (o.memory_type ≡ c.args.memory_type) × (o.size ≡ c.args.object_size))) (sym name_is)
           (row.1.0, ap (λ (f : ℕ → _). f name) row.1.2 ∙ put-same (objects_of c.begin.new.self) name (Some row.1.0), (row.1.1.of_type, row.1.1.of_size));
+      others = λ q other. ap (λ (f : ℕ → _). f q) row.1.2 ∙ put-other (objects_of c.begin.new.self) name (Some row.1.0) q (λ same. other (same ∙ sym name_is))
+          ∙ ap (λ (f : ℕ → _). f q) shown_at_first;
     })
 
 pub returns-in-Err-clause-unchanged : goal.returns-in-Err-clause-unchanged
@@ -150,6 +154,7 @@ returns-in_default-made-clause-keeps c =
       total = search rules;
       gone = search rules;
       names = begun_keeps_names c.self.inside.device c.begin.new.self (_ ∷ []) c.allocate_memory-made.new.self c.begin.ensures.held (c.allocate_memory-made.new.self, c.allocate_memory-made.ensures, refl);
+      lost = by_begun_run _ _ c.begin.new.self (_ ∷ []) c.begin.ensures.offers c.begin.ensures.held (c.allocate_memory-made.new.self, c.allocate_memory-made.ensures, refl);
       tags = λ q was is. ap (λ ts. tag_at ts q) c.make_room.ensures.tags;
       page = refl;
     })
@@ -163,6 +168,7 @@ returns-in-Ok-import_memory-clause-keeps c =
       total = search rules;
       gone = search rules;
       names = begun_keeps_names c.self.inside.device c.begin.new.self (_ ∷ []) c.allocate_memory-made.new.self c.begin.ensures.held (c.allocate_memory-made.new.self, c.allocate_memory-made.ensures, refl);
+      lost = by_begun_run _ _ c.begin.new.self (_ ∷ []) c.begin.ensures.offers c.begin.ensures.held (c.allocate_memory-made.new.self, c.allocate_memory-made.ensures, refl);
       tags = λ q was is. c.keep.ensures.others q (subst (λ (m : map.FinMap _ Block). IsSome (map.get m q)) (sym lives) was) ∙ ap (λ ts. tag_at ts q) c.make_room.ensures.tags;
       page = refl;
     })
@@ -172,6 +178,11 @@ returns-in-Err-clause-keeps c =
     let mid = c.allocate_memory-made.new.self in
     let last = c.deallocate_memory.new.self in
     let forgets = c.forget_gone_after.ensures in
+    let name = c.in-Ok-made.memory in
+    let made = rw c.in-Ok-made.is at c.allocate_memory-made.ensures in
+    let gone = rw c.in-Err.ensures.handed_back at c.deallocate_memory.ensures in
+    let shown_at_first = same_objects c.self.inside.device c.begin.new.self c.begin.ensures.offers (ap (λ (h : HeldState). h.objects) c.begin.ensures.held) in
+    let asked = Allocated c.args.object_size c.args.memory_type (allocation_bits c.flags-flags.result) (Ok name) ∷ Deallocated name ∷ [] in
     let run = begun_keeps_names c.self.inside.device c.begin.new.self (_ ∷ _ ∷ []) last c.begin.ensures.held (mid, c.allocate_memory-made.ensures, (last, c.deallocate_memory.ensures, refl)) in
     rw (← c.self.view_is) (record {
       given = search rules;
@@ -179,6 +190,12 @@ returns-in-Err-clause-keeps c =
       total = search rules;
       gone = search rules;
       names = forgetting_keeps_names c.self.inside.device.held last.held c.forget_gone_after.new.self.held _ run forgets.gone forgets.objects forgets.last_name;
+      lost = as_before _ _
+          (same_objects last c.forget_gone_after.new.self forgets.offers forgets.objects
+          ∙ undone (λ (d : DeviceState). d.properties) objects_of IsStep step_is_row c.begin.new.self mid last _ _ _ name made gone
+          ∙ shown_at_first)
+          (forgets.gone ∙ ap (λ (xs : List ℕ). take (length xs) last.held.gone) c.gone-told.ensures
+          ∙ names_of_before c.begin.new.self asked last (mid, made, (last, gone, refl)) ∙ ap (λ (h : HeldState). h.gone) c.begin.ensures.held);
       tags = λ q was is. ap (λ ts. tag_at ts q) c.make_room.ensures.tags;
       page = refl;
     })

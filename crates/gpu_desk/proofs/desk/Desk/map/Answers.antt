@@ -12,6 +12,7 @@ use Rattle.gpu_session.proofs.Moves.{move_is_kept}
 use Rattle.gpu_session.proofs.Names.{put_again}
 use Rattle.gpu_desk.specs.Calls.{MapDenied}
 use Rattle.gpu_desk.proofs.GoneNames.{mapping_adds_none, refused_adds_none}
+use Rattle.gpu_desk.proofs.Losing.{by_begun_run}
 use Rattle.gpu_desk.proofs.Kept.{begun_is, begun_keeps_names, gone_over_write, kept_over, range_is, same_objects}
 use Rattle.gpu_desk.proofs.Paged.{over_paged}
 use Rattle.gpu_desk.proofs.desk.Desk.map.Goals as goal
@@ -42,6 +43,7 @@ returns-clause-mapped c =
           let same_names = mapping_adds_none c.begin.new.self (is_shared b.kind) (rounded_range b c.args.offset c.args.size) (Ok tt) c.map-answer.new.device (subst (λ es. Chain IsStep c.begin.new.self es c.map-answer.new.device) asked.2.1 asked.1)
           ∙ ap (λ (h : HeldState). h.gone) c.begin.ensures.held in
           rw (← c.self.view_is, w.result-is) (record {
+            able = of_block _ b _ _ at (some_bytes_then c.args.size _ c.if-size-eq0.false ∙ good_range c.args.offset c.args.size b.size fits);
             block = b;
             only = record { at = at; live = ap (map.insert c.self.inside.blocks.live c.args.key) w.in-Ok-answer.ensures.mapped; keys = refl; allocator = refl; names = same_names };
             inside = inside (c.args.offset + c.args.size) b.size fits;
@@ -99,6 +101,7 @@ returns-clause-keeps c =
       total = refl;
       gone = gone_over_write c.self.inside.blocks c.args.key c.in-Some-get_mut.block.now c.map-answer.new.self (sym c.in-Some-get_mut.ensures.value);
       names = begun_keeps_names c.self.inside.device c.begin.new.self asked.0 c.map-answer.new.device c.begin.ensures.held asked.1;
+      lost = by_begun_run _ _ c.begin.new.self asked.0 c.begin.ensures.offers c.begin.ensures.held asked.1;
       tags = λ key was is. refl;
       page = refl;
     })

@@ -3,6 +3,7 @@ use Rattle.gpu_session.proofs.Moves.{move_is_kept}
 use Rattle.gpu_desk.proofs.Kept.{gone_over_write}
 use Rattle.gpu_answers.proofs.Naming.{run_keeps_names}
 use Rattle.gpu_desk.proofs.Paged.{over_paged}
+use Rattle.gpu_desk.proofs.Losing.{by_run}
 use Rattle.gpu_desk.proofs.desk.Desk.unmap.Goals as goal
 
 pub invariant_of-self-2 : goal.invariant_of-self-2
@@ -23,6 +24,7 @@ returns-clause-keeps c =
       total = refl;
       gone = gone_over_write c.self.inside.blocks c.args.key c.in-Some.block.now c.unmap.new.self (sym c.in-Some.ensures.value);
       names = run_keeps_names c.self.inside.device c.unmap.ensures.asked.0 c.unmap.new.device c.unmap.ensures.asked.1;
+      lost = by_run _ _ c.unmap.ensures.asked.0 c.unmap.ensures.asked.1;
       tags = λ key was is. refl;
       page = refl;
     })

@@ -1,5 +1,6 @@
 use Rattle.std.proofs.Common.{Some, None, sym, ◌∙◌}
 use Rattle.gpu_alloc.specs.Request.{in_pages}
+use Rattle.gpu_desk.proofs.Served.{bytes_served, exact_then, pages_served}
 use Rattle.gpu_desk.proofs.OpenQuestions.{alone_then, bytes_then, by_bytes, by_pages, own_by_bytes, own_by_pages}
 use Rattle.gpu_desk.proofs.desk.granting.allocate.Goals as goal
 
@@ -40,3 +41,18 @@ returns-in-None-clause-pages c =
 pub returns-in-Some-clause-pages : goal.returns-in-Some-clause-pages
 returns-in-Some-clause-pages c =
     bytes_then c.args.allocator.now c.args.granularity c.args.request c.args.wish c.alloc_with_dedicated.result c.alloc_with_dedicated.new.self (sym c.goes_by_pages.ensures ∙ c.if-goes_by_pages.false) c.alloc_with_dedicated.ensures.granted
+
+pub returns-then-goes_by_pages-clause-exact : goal.returns-then-goes_by_pages-clause-exact
+returns-then-goes_by_pages-clause-exact c =
+    exact_then c.args.allocator.now (in_pages c.args.granularity c.args.request) _ c.alloc_optimal.result
+    (pages_served c.args.granularity c.args.request c.args.wish (sym c.goes_by_pages.ensures ∙ c.if-goes_by_pages.true)) c.alloc_optimal.ensures.exact
+
+pub returns-in-None-clause-exact : goal.returns-in-None-clause-exact
+returns-in-None-clause-exact c =
+    exact_then c.args.allocator.now c.args.request _ c.alloc.result
+    (bytes_served c.args.granularity c.args.request c.args.wish (sym c.goes_by_pages.ensures ∙ c.if-goes_by_pages.false)) c.alloc.ensures.exact
+
+pub returns-in-Some-clause-exact : goal.returns-in-Some-clause-exact
+returns-in-Some-clause-exact c =
+    exact_then c.args.allocator.now c.args.request _ c.alloc_with_dedicated.result
+    (bytes_served c.args.granularity c.args.request c.args.wish (sym c.goes_by_pages.ensures ∙ c.if-goes_by_pages.false)) c.alloc_with_dedicated.ensures.exact
