@@ -1,4 +1,5 @@
 pub mod AsBox
+pub mod Reading
 pub mod Same
 pub mod Unasked
 pub mod Walks

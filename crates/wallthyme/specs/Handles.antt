@@ -1,8 +1,10 @@
 -- What C keeps.
-use Rattle.std.specs.Prelude.{◌≡◌, ℕ, Option, Some, None}
+use Rattle.std.specs.Prelude.{◌≡◌, ℕ, List, Option, Some, None}
 use Rattle.std.specs.FinMap as map
+use Rattle.gpu_answers.specs.Held.{KeepsNames}
 use Rattle.gpu_desk.specs.Calls.{KeepsDesk}
 use Rattle.gpu_desk.specs.Desk.{DeskState, IsSoundDesk}
+use Rattle.gpu_desk.specs.Names.{LosesBut}
 use Rattle.wallthyme.specs.declared.handle.Handle.{Handle}
 
 -- the desk that a handle has, where it is open
@@ -24,7 +26,13 @@ OnDesks R old new = Relates R (desk_of old) (desk_of new)
 abbrev pub NoBlock : DeskState → ℕ → Type 0
 NoBlock s key = map.get s.blocks.live key ≡ None
 
--- what was given stays, live blocks share no memory, and no name of an object comes twice
+-- Live blocks share no memory, no name of an object comes twice, and no object is lost but those whose names were read.
+pub record KeepsBut (read : List ℕ) (old new : DeskState) : Type 0 where
+  pub names : KeepsNames old.device.held new.device.held
+  pub lost : LosesBut read old new
+  pub sound : IsSoundDesk new
+
+-- what was given stays, live blocks share no memory, no name of an object comes twice, and no object is lost
 pub record KeepsSound (old new : DeskState) : Type 0 where
   pub keeps : KeepsDesk old new
   pub sound : IsSoundDesk new

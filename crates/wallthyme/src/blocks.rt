@@ -1,10 +1,9 @@
 //! The calls that allocate, import and free blocks.
 
-ghost use Rattle.std.specs.Prelude.{◌≡◌, ◌≢◌, ◌↔◌, ◌⊎◌, ◌<◌, IsNone, length, true};
+ghost use Rattle.std.specs.Prelude.{◌≡◌, ◌≢◌, ◌↔◌, ◌⊎◌, ◌<◌, [], IsNone, length, true};
 ghost use Rattle.gpu_desk.specs.Calls.{AllocatedHeld, HeldDenied, ImportDenied, Imported, IsAsBefore, KeepsDesk, Returns, SetsUser, Told};
-ghost use Rattle.gpu_desk.specs.Desk.{IsSoundDesk};
 ghost use Rattle.wallthyme.specs.Allocating.{IsAllocated, IsDenied};
-ghost use Rattle.wallthyme.specs.Handles.{KeepsSound, NoBlock, OnDesks, desk_of};
+ghost use Rattle.wallthyme.specs.Handles.{KeepsBut, KeepsSound, NoBlock, OnDesks, desk_of};
 ghost use Rattle.wallthyme.specs.Malformed.{HasFlags, IsAsked, IsMalformed, IsWellFormedRequest};
 ghost use Rattle.wallthyme.specs.Status.{Denies, LeavesOpen};
 ghost use Rattle.wallthyme.specs.Layout.{asks_own_object, grant_of, is_held_only};
@@ -190,7 +189,7 @@ pub extern "C" fn wt_set_user(alloc: Global, handle: &mut Handle, key: u64, user
     ensures set { result ≡ OK → OnDesks (λ old new. SetsUser old key user new) handle.old handle.new }
     ensures unknown { result ≢ OK → OnDesks (λ old _. NoBlock old key) handle.old handle.new }
     ensures unchanged { result ≢ OK → desk_of handle.new ≡ desk_of handle.old }
-    ensures sound { OnDesks (λ _ new. IsSoundDesk new) handle.old handle.new }
+    ensures keeps { OnDesks (KeepsBut []) handle.old handle.new }
 {
     let Some(mut kept) = handle.take(alloc) else {
         return NOT_OPEN;

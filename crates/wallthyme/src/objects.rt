@@ -3,10 +3,10 @@
 ghost use Rattle.std.specs.Prelude.{◌≡◌, ◌≢◌, ◌↔◌, ◌⊎◌, ◌<◌, ◌≤◌, ◌+◌, ◌^◌, [], IsNone, List, drop, length, take};
 ghost use Rattle.std.specs.FinMap as map;
 ghost use Rattle.gpu_desk.specs.Calls.{CleansUp, CountsOf, HeapCountsOf, LimitsHeap};
-ghost use Rattle.gpu_desk.specs.Desk.{IsSoundDesk};
+ghost use Rattle.gpu_answers.specs.Held.{KeepsNames};
 ghost use Rattle.gpu_alloc_types.specs.declared.types.FreeRange.{FreeRange};
 ghost use Rattle.gpu_session.specs.Does.{IsEachFreeRange};
-ghost use Rattle.wallthyme.specs.Handles.{KeepsSound, OnDesks, desk_of};
+ghost use Rattle.wallthyme.specs.Handles.{KeepsBut, KeepsSound, OnDesks, desk_of};
 ghost use Rattle.wallthyme.specs.Objects.{AreRangesTold, Reads};
 ghost use Rattle.wallthyme.specs.Layout.{counts_of, heap_counts_of};
 
@@ -34,6 +34,7 @@ pub extern "C" fn wt_cleanup(alloc: Global, handle: &mut Handle) -> u32
 }
 
 #[unsafe(no_mangle)]
+#[tactic(auto, using(crate::proofs::Reading::reads_lose))]
 pub extern "C" fn wt_gone(
     alloc: Global,
     handle: &mut Handle,
@@ -47,6 +48,7 @@ pub extern "C" fn wt_gone(
     ensures read { result ≡ OK → OnDesks (λ old new. Reads old (take count.new names.new) new) handle.old handle.new }
     ensures all { result ≡ OK → count.new < length names.new
         → OnDesks (λ _ new. new.device.held.gone ≡ []) handle.old handle.new }
+    ensures keeps { result ≡ OK → OnDesks (KeepsBut (take count.new names.new)) handle.old handle.new }
 {
     let Some(mut kept) = handle.take(alloc) else {
         return NOT_OPEN;
@@ -60,6 +62,7 @@ pub extern "C" fn wt_gone(
 fn read_gone(desk: &mut Desk, names: &mut [u64]) -> usize
     ensures fits { result ≤ length names.new }
     ensures read { Reads desk.old (take result names.new) desk.new }
+    ensures names { KeepsNames (desk.old.device).held (desk.new.device).held }
     ensures all { result < length names.new → desk.new.device.held.gone ≡ [] }
 {
     for (count, place) in names.iter_mut().enumerate() {
@@ -133,7 +136,7 @@ pub extern "C" fn wt_set_heap_limit(
     ensures known { result ≡ OK → OnDesks (λ old _. heap < length old.allocator.properties.memory_heaps)
         handle.old handle.new }
     ensures unchanged { result ≢ OK → desk_of handle.new ≡ desk_of handle.old }
-    ensures sound { OnDesks (λ _ new. IsSoundDesk new) handle.old handle.new }
+    ensures keeps { OnDesks (KeepsBut []) handle.old handle.new }
 {
     let Some(mut kept) = handle.take(alloc) else {
         return NOT_OPEN;
@@ -155,6 +158,7 @@ pub extern "C" fn wt_set_remaining(alloc: Global, handle: &mut Handle, remaining
     ensures too_many { result ≢ OK → OnDesks (λ old _. 2 ^ 32 ≤ remaining + map.len old.allocator.held)
         handle.old handle.new }
     ensures unchanged { result ≢ OK → desk_of handle.new ≡ desk_of handle.old }
+    ensures keeps { OnDesks (KeepsBut []) handle.old handle.new }
 {
     let Some(mut kept) = handle.take(alloc) else {
         return NOT_OPEN;
