@@ -43,8 +43,9 @@ def print_timed(text, log=None):
             print(line, file=to, flush=True)
 
 
-def jobs_at_once(each):
-    """How many processes of that many bytes run at once: one a processor, as many as memory holds, at most RT_JOBS."""
+def jobs_at_once(each, spared=0):
+    """How many processes of that many bytes run at once: one a processor, but for one of each `spared`, as many as
+    memory holds, at most RT_JOBS."""
     found = len(os.sched_getaffinity(0))
     free = 1024 * int(re.search(r"MemAvailable:\s+(\d+)", read("/proc/meminfo"))[1])
     # (a control group may grant less)
@@ -53,7 +54,7 @@ def jobs_at_once(each):
         found = min(found, int(quota) // int(period))
     with contextlib.suppress(OSError, ValueError):
         free = min(free, int(read("/sys/fs/cgroup/memory.max")))
-    found = max(1, min(found, free // each))
+    found = max(1, min(found - (found // spared if spared else 0), free // each))
     asked = os.environ.get("RT_JOBS") or str(found)
     if not re.fullmatch("[1-9][0-9]{0,3}", asked):
         raise Stopped(USAGE, f"RT_JOBS is a number from 1 to 9999, and not {asked!r}")
