@@ -1,6 +1,8 @@
+pub mod AllAnswered
 pub mod GoneNames
 pub mod Kept
 pub mod Losing
+pub mod Mappable
 pub mod NamesEver
 pub mod OpenQuestions
 pub mod Paged

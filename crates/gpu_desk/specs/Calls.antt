@@ -90,6 +90,10 @@ denial_after own None refusal = refusal
 denial_after own (Some (Stopped.Open question)) refusal = Open question (own question)
 denial_after own (Some Stopped.Strayed) refusal = Strayed
 
+-- each question that the run of the latest call asked had an answer, to that question
+abbrev pub IsAllAnswered : DeskState → Type 0
+IsAllAnswered s = s.device.run.stop ≡ None
+
 -- no question to map is for an object of its own
 abbrev pub none_own : Question → Bool
 none_own question = false
@@ -154,6 +158,7 @@ pub record Allocated (old : DeskState) (r : Request) (w : Wish) (answers : List 
   pub pages : w.optimal ≡ true → IsInPages old.granularity r.size block
   pub run : InRun old answers (λ es after. AllocatesBy old.allocator (plan_of old r w) es (Ok block) new.allocator
       × (objects new ≡ objects_of after))
+  pub answered : IsAllAnswered new
   -- the object is new, or it was held; no other object comes or goes
   pub fresh : IsTrue g.fresh ↔ (map.get old.allocator.held block.object ≡ None)
   pub others : (name : ℕ) → name ≢ block.object → objects new name ≡ objects old name
@@ -275,6 +280,7 @@ pub record Maps (old : DeskState) (key offset size : ℕ) (answers : List Answer
   pub told : r ≡ record { object = block.object; offset = block.offset + offset; size = size }
   pub run : InRun old answers (λ es after. AsksToMap block offset size (Ok (mapping_of block offset size)) es
       × (new.device ≡ after))
+  pub answered : IsAllAnswered new
 
 -- the block's mapping is refused in a run that ends so
 abbrev pub MapRefusedIn : DeskState → (key offset size : ℕ) → List Answered → Denial → Type 0

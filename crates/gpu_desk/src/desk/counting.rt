@@ -108,6 +108,7 @@ impl Desk {
         ensures set { OnOk result (self.new ≡ record self.old { allocator = record (self.old.allocator) { remaining = remaining } }) }
         ensures denied { IfErr result (λ e. (e ≡ Denial.Fault Fault.TooManyRemaining)
             × (2 ^ 32 ≤ remaining + map.len (self.old.allocator).held)) }
+        ensures few { OnOk result (remaining + map.len (self.old.allocator).held < 2 ^ 32) }
         ensures unchanged { OnErr result (self.new ≡ self.old) }
         ensures names { KeepsNames (self.old.device).held (self.new.device).held }
         ensures lost { LosesBut [] self.old self.new }

@@ -11,7 +11,7 @@ ghost use Rattle.gpu_alloc.specs.Request.{IsAskable, IsGranularity};
 ghost use Rattle.gpu_alloc.specs.Sound as allocator_sound;
 ghost use Rattle.gpu_answers.specs.Device.{IsStep, objects_of};
 ghost use Rattle.gpu_desk.specs.Calls.{AllocationDenied, Allocated, CleansUp, HasKey, ImportDenied, Imported};
-ghost use Rattle.gpu_desk.specs.Calls.{IsAsBefore, IsUnknown, KeepsDesk, Returns, Tells, TellsTag};
+ghost use Rattle.gpu_desk.specs.Calls.{IsAsBefore, IsUnknown, KeepsDesk, Returns, Tells, TellsTag, fault_of_alloc};
 ghost use Rattle.gpu_desk.specs.Tags.{tag_at};
 ghost use Rattle.gpu_desk.specs.Wishes.{MayCome, asks_own, goes_by_pages, is_own, plan_for, served_as};
 
@@ -163,6 +163,15 @@ pub(super) fn keep(
 }
 
 impl Desk {
+    /// The first condition that a request misses: `BadSize`, `BadAlignment` or `NoDeviceAddress`. `None` where it misses
+    /// none, so that [`alloc`](Desk::alloc) and [`alloc_held`](Desk::alloc_held) deny it for another reason, if at all.
+    /// It allocates nothing.
+    pub fn request_fault(&self, request: Request) -> Option<Fault>
+        ensures { result ≡ fault_of_alloc self.now request }
+    {
+        request_fault(request, self.offer.buffer_device_address)
+    }
+
     /// Allocates a block as `GpuAllocator::alloc` does, or with a hint as `alloc_with_dedicated`, in a run with these
     /// answers. The wish's value is kept with the block, with the requested size and whether it is for an optimal
     /// resource.
@@ -173,7 +182,7 @@ impl Desk {
     ///
     /// It denies:
     ///
-    /// - a request that is not askable, with its first fault
+    /// - a request that is not askable, with its first fault ([`request_fault`](Desk::request_fault))
     /// - `Fault::NoMemory` for want of memory for the key or the answers
     /// - `Open`, with the question that has no answer
     /// - `Strayed`
@@ -203,7 +212,7 @@ impl Desk {
         ensures unchanged { OnErr result (IsAsBefore self.old self.new) }
         ensures keeps { KeepsDesk self.old self.new }
     {
-        if let Some(fault) = request_fault(request, self.offer.buffer_device_address) {
+        if let Some(fault) = self.request_fault(request) {
             return Err(Denial::Fault(fault));
         }
         if make_room(&mut self.blocks, &mut self.tags).is_err() {

@@ -18,7 +18,6 @@ use crate::wish::Tag;
 use crate::{Denial, Fault, Grant, Wish};
 use gpu_alloc::{AllocationError, GpuAllocator, MemoryBlock, Request};
 use gpu_answers::{AnsweredDevice, ObjectName};
-use gpu_session::request_fault;
 
 /// The granularity of pages for a request, if it goes by pages.
 fn pages_of(wish: Wish, granularity: u64) -> Option<u64>
@@ -76,7 +75,7 @@ impl Desk {
     ///
     /// It denies:
     ///
-    /// - a request that is not askable, with its first fault
+    /// - a request that is not askable, with its first fault ([`request_fault`](Desk::request_fault))
     /// - `Fault::NoMemory` for want of memory for the key
     /// - `WouldAsk` where no memory type of the request has a place in a held chunk; a type that serves it by an object
     ///   of its own has none
@@ -91,7 +90,7 @@ impl Desk {
         ensures unchanged { OnErr result (IsAsBefore self.old self.new) }
         ensures keeps { KeepsDesk self.old self.new }
     {
-        if let Some(fault) = request_fault(request, self.offer.buffer_device_address) {
+        if let Some(fault) = self.request_fault(request) {
             return Err(Denial::Fault(fault));
         }
         if make_room(&mut self.blocks, &mut self.tags).is_err() {

@@ -2,7 +2,7 @@
 
 ghost use Rattle.std.specs.Prelude.{◌≡◌, false, Bool, length, Err, IfOk, IfErr, OnErr};
 ghost use Rattle.gpu_desk.specs.Calls.{IsAsBefore, IsUnknown, KeepsDesk, MapDenied, Maps, RangeDenied, RangeTold, Told};
-ghost use Rattle.gpu_desk.specs.Calls.{Unmaps, object_to_unmap};
+ghost use Rattle.gpu_desk.specs.Calls.{Unmaps, fault_of_map, object_to_unmap};
 
 use super::Desk;
 use super::granting::grant_of;
@@ -37,6 +37,25 @@ impl Desk {
         }
     }
 
+    /// The first condition that a mapping misses: `UnknownName` for a key that has no live block, `BadSize` for 0 bytes,
+    /// `BadRange` for a range that ends past the block. `offset` is in bytes from the block's start, `size` in bytes.
+    /// `None` where it misses none, so that [`map`](Desk::map) denies it for another reason, if at all. It allocates
+    /// nothing.
+    pub fn map_fault(&self, key: u64, offset: u64, size: u64) -> Option<Fault>
+        ensures { result ≡ fault_of_map self.now key offset size }
+    {
+        let Some(block) = self.blocks.get(key) else {
+            return Some(Fault::UnknownName);
+        };
+        if size == 0 {
+            return Some(Fault::BadSize);
+        }
+        if passes_end(offset, size, block.size()) {
+            return Some(Fault::BadRange);
+        }
+        None
+    }
+
     /// Maps `size` bytes of a block from `offset` on, in bytes from its start, as `MemoryBlock::map` does, in a run
     /// with these answers. It returns where they lie in its object.
     ///
@@ -45,8 +64,8 @@ impl Desk {
     ///
     /// It denies:
     ///
-    /// - `Fault::UnknownName`, `BadSize` for 0 bytes, `BadRange` for a range that ends past the block, and `NoMemory`
-    ///   for want of memory for the answers
+    /// - a mapping that misses a condition, with its first fault ([`map_fault`](Desk::map_fault))
+    /// - `Fault::NoMemory` for want of memory for the answers
     /// - `Open`, with the question that has no answer
     /// - `Strayed`
     /// - `MapRefused`, with the block's error.
@@ -67,14 +86,8 @@ impl Desk {
         ensures unchanged { OnErr result (IsAsBefore self.old self.new) }
         ensures keeps { KeepsDesk self.old self.new }
     {
-        let Some(block) = self.blocks.get(key) else {
-            return Err(Denial::Fault(Fault::UnknownName));
-        };
-        if size == 0 {
-            return Err(Denial::Fault(Fault::BadSize));
-        }
-        if passes_end(offset, size, block.size()) {
-            return Err(Denial::Fault(Fault::BadRange));
+        if let Some(fault) = self.map_fault(key, offset, size) {
+            return Err(Denial::Fault(fault));
         }
         let Ok(()) = self.device.begin(answers) else {
             return Err(Denial::Fault(Fault::NoMemory));

@@ -1,4 +1,4 @@
-use Rattle.std.proofs.Common.{rules, ◌≡◌, true, Err, None, length, take, refl, sym, ◌∙◌, ap, subst, inr, List, ℕ, arith}
+use Rattle.std.proofs.Common.{rules, ◌≡◌, true, Err, length, take, refl, sym, ◌∙◌, ap, subst, inr, List, ℕ, arith}
 use Rattle.std.specs.FinMap as map
 use Rattle.std.specs.Option.{IsSome}
 use Rattle.gpu_alloc_types.specs.Device.{Chain}
@@ -6,7 +6,6 @@ use Rattle.gpu_alloc.specs.State.{Block}
 use Rattle.gpu_answers.specs.Asking.{RunState, begun}
 use Rattle.gpu_answers.specs.Device.{IsStep, objects_of}
 use Rattle.gpu_answers.specs.Held.{HeldState}
-use Rattle.gpu_session.proofs.Conditions.{tested_request}
 use Rattle.gpu_session.proofs.Grants.{grant_is_kept}
 use Rattle.gpu_session.proofs.Returns.{kept_block}
 use Rattle.gpu_slots.specs.SlotMap.{SlotState}
@@ -18,6 +17,7 @@ use Rattle.gpu_desk.specs.Wishes.{asks_own, plan_for}
 use Rattle.gpu_desk.specs.declared.wish.Tag.{Tag}
 use Rattle.gpu_desk.proofs.Paged.{put_paged}
 use Rattle.gpu_desk.specs.declared.denial.Denial.TheVariants.{Open, Refused}
+use Rattle.gpu_desk.proofs.AllAnswered.{grant_is_answered}
 use Rattle.gpu_desk.proofs.GoneNames.{names_of_before}
 use Rattle.gpu_desk.proofs.Losing.{all_stay, as_before, given_stay, same_stays}
 use Rattle.gpu_desk.proofs.Kept.{begun_is, begun_keeps_names, forgetting_keeps_names, free_key, fresh_is, given_others, has_key, kept_over, same_objects}
@@ -63,7 +63,7 @@ returns-in-Ok-answer-clause-granted c =
     let shown_at_first = same_objects c.self.inside.device c.begin.new.self c.begin.ensures.offers (ap (λ (h : HeldState). h.objects) c.begin.ensures.held) in
     let shown_at_last = same_objects mid now forgets.offers forgets.objects in
     rw (← c.self.view_is) (record {
-      askable = tested_request c.self.invariant.kept c.args.request None (sym c.in_default.ensures);
+      askable = sym (rw (← c.self.view_is) at c.in_default.ensures);
       block = b;
       gives = record {
         tells = c.keep.ensures.tells;
@@ -79,6 +79,8 @@ returns-in-Ok-answer-clause-granted c =
       alone = done.alone;
       pages = done.pages;
       run = (done.decided.0, mid, subst (λ d. Chain IsStep d done.decided.0 mid) begins done.decided.1, (done.decided.2, shown_at_last));
+      answered = ap (λ (r : RunState). r.stop) forgets.run ∙ grant_is_answered c.self.inside.allocator (plan_for c.self.inside.allocator c.self.inside.granularity c.args.request c.args.wish) c.begin.new.self done.decided.0 mid done.decided.1
+          (ap (λ (r : RunState). r.stop) c.in-Ok.ensures.run) b _ done.decided.2;
       fresh = rw (c.keep.ensures.fresh, c.remaining_allocations.ensures, c.remaining_allocations-remaining.ensures) (fresh_is c.self.inside.allocator c.allocate-answer.new.allocator b done.added.held done.granted.owned done.total);
       others = λ q other. ap (λ (f : ℕ → _). f q) shown_at_last ∙ given_others _ _ _ b.object (objects_of c.begin.new.self) (objects_of mid) done.objects q other ∙ ap (λ (f : ℕ → _). f q) shown_at_first;
     })
@@ -92,7 +94,7 @@ returns-in-Err-clause-denied c =
     let begins = begun_is c.self.inside.device c.begin.new.self (begun c.args.answers.now) c.in-Ok.ensures.run c.begin.ensures.offers c.begin.ensures.held in
     let decided = rw done.refused at done.decided in
     rw (← c.self.view_is) (inr (
-      tested_request c.self.invariant.kept c.args.request None (sym c.in_default.ensures),
+      sym (rw (← c.self.view_is) at c.in_default.ensures),
       (
         decided.0,
         mid,

@@ -1,10 +1,9 @@
-use Rattle.std.proofs.Common.{rules, ◌≡◌, [], None, refl, sym, ◌∙◌, ap, subst, inr}
+use Rattle.std.proofs.Common.{rules, ◌≡◌, [], refl, sym, ◌∙◌, ap, subst, inr}
 use Rattle.std.specs.FinMap as map
 use Rattle.std.specs.Option.{IsSome}
 use Rattle.gpu_alloc.specs.Allocation.{IsInPages}
 use Rattle.gpu_alloc.specs.State.{Block}
 use Rattle.gpu_answers.specs.DeviceState.{DeviceState}
-use Rattle.gpu_session.proofs.Conditions.{tested_request}
 use Rattle.gpu_session.proofs.Grants.{grant_is_kept}
 use Rattle.gpu_session.proofs.Returns.{kept_block}
 use Rattle.gpu_slots.specs.SlotMap.{SlotState}
@@ -62,7 +61,7 @@ returns-in-Ok-Some-clause-granted c =
     let done = rw c.in-Ok-Some.field-0-is at c.in-Ok-Some.ensures in
     let key = c.keep.ensures.kept in
     rw (← c.self.view_is) (record {
-      askable = tested_request c.self.invariant.kept c.args.request None (sym c.in_default.ensures);
+      askable = sym (rw (← c.self.view_is) at c.in_default.ensures);
       block = c.in-Ok-Some.block;
       gives = record {
         tells = c.keep.ensures.tells;
@@ -100,4 +99,4 @@ pub returns-in-Err-clause-denied : goal.returns-in-Err-clause-denied
 unfolding HeldDenied
 returns-in-Err-clause-denied c =
     let done = c.in-Err.ensures in
-    rw (← c.self.view_is) (inr (tested_request c.self.invariant.kept c.args.request None (sym c.in_default.ensures), inr (c.in-Err.refusal, refl, rw done.refused at done.decided)))
+    rw (← c.self.view_is) (inr (sym (rw (← c.self.view_is) at c.in_default.ensures), inr (c.in-Err.refusal, refl, rw done.refused at done.decided)))

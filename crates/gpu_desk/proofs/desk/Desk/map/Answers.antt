@@ -1,18 +1,19 @@
-use Rattle.std.proofs.Common.{◌≡◌, false, ◌+◌, Some, Ok, nat_lt, refl, sym, ◌∙◌, ap, subst, inr}
+use Rattle.std.proofs.Common.{◌≡◌, Some, Ok, refl, sym, ◌∙◌, ap, subst, inr}
 use Rattle.std.specs.FinMap as map
 use Rattle.gpu_alloc_types.specs.Device.{Chain}
 use Rattle.gpu_alloc.specs.Mapped.{mapping_of}
 use Rattle.gpu_alloc.specs.Ranges.{rounded_range}
 use Rattle.gpu_alloc.specs.State.{Block, is_shared}
-use Rattle.gpu_answers.specs.Asking.{begun}
+use Rattle.gpu_answers.specs.Asking.{RunState, begun}
 use Rattle.gpu_answers.specs.Device.{IsStep}
 use Rattle.gpu_answers.specs.Held.{HeldState}
-use Rattle.gpu_session.proofs.Conditions.{good_range, inside, of_block, some_bytes_then}
 use Rattle.gpu_session.proofs.Moves.{move_is_kept}
 use Rattle.gpu_session.proofs.Names.{put_again}
 use Rattle.gpu_desk.specs.Calls.{MapDenied}
+use Rattle.gpu_desk.proofs.AllAnswered.{mapping_is_answered}
 use Rattle.gpu_desk.proofs.GoneNames.{mapping_adds_none, refused_adds_none}
 use Rattle.gpu_desk.proofs.Losing.{by_begun_run}
+use Rattle.gpu_desk.proofs.Mappable.{maps_inside}
 use Rattle.gpu_desk.proofs.Kept.{begun_is, begun_keeps_names, gone_over_write, kept_over, range_is, same_objects}
 use Rattle.gpu_desk.proofs.Paged.{over_paged}
 use Rattle.gpu_desk.proofs.desk.Desk.map.Goals as goal
@@ -34,22 +35,22 @@ returns-clause-mapped c =
     let b = c.in-Some-get_mut.block.now in
     let at : map.get c.self.inside.blocks.live c.args.key ≡ Some b = sym c.in-Some-get_mut.ensures.value in
     let begins = begun_is c.self.inside.device c.begin.new.self (begun c.args.answers.now) c.in-Ok.ensures.run c.begin.ensures.offers c.begin.ensures.held in
-    let one : c.in-Some.block.now ≡ b = (let first = c.in-Some.ensures in cc) in
-    let fits : nat_lt b.size (c.args.offset + c.args.size) ≡ false =
-    subst (λ (x : Block). nat_lt x.size (c.args.offset + c.args.size) ≡ false) one (ap (λ n. nat_lt n (c.args.offset + c.args.size)) (sym c.size.ensures) ∙ sym c.passes_end.ensures ∙ c.if-passes_end.false) in
+    let able = sym (rw (← c.self.view_is) at c.in_default.ensures) in
     elim c.match-answer.branch [
       | in-Ok-answer w ↦
           let asked = rw w.in-Ok-answer.is at c.map-answer.ensures.asked in
           let same_names = mapping_adds_none c.begin.new.self (is_shared b.kind) (rounded_range b c.args.offset c.args.size) (Ok tt) c.map-answer.new.device (subst (λ es. Chain IsStep c.begin.new.self es c.map-answer.new.device) asked.2.1 asked.1)
           ∙ ap (λ (h : HeldState). h.gone) c.begin.ensures.held in
           rw (← c.self.view_is, w.result-is) (record {
-            able = of_block _ b _ _ at (some_bytes_then c.args.size _ c.if-size-eq0.false ∙ good_range c.args.offset c.args.size b.size fits);
+            able = able;
             block = b;
             only = record { at = at; live = ap (map.insert c.self.inside.blocks.live c.args.key) w.in-Ok-answer.ensures.mapped; keys = refl; allocator = refl; names = same_names };
-            inside = inside (c.args.offset + c.args.size) b.size fits;
+            inside = maps_inside c.args.offset c.args.size _ b able at;
             told = range_is c.object-object.result b.object w.in-Ok-answer.mapping (mapping_of b c.args.offset c.args.size)
                 (c.object-object.ensures ∙ c.memory.ensures ∙ ap (λ (x : Block). x.object) w.in-Ok-answer.ensures.mapped) w.in-Ok-answer.ensures.mapping;
             run = (asked.0, c.map-answer.new.device, subst (λ d. Chain IsStep d asked.0 c.map-answer.new.device) begins asked.1, (asked.2, refl));
+            answered = mapping_is_answered c.begin.new.self (is_shared b.kind) (rounded_range b c.args.offset c.args.size) c.map-answer.new.device (subst (λ es. Chain IsStep c.begin.new.self es c.map-answer.new.device) asked.2.1 asked.1)
+                (ap (λ (r : RunState). r.stop) c.in-Ok.ensures.run);
           })
       | in-Err w ↦ rw w.result-is tt
     ]
@@ -60,15 +61,12 @@ returns-clause-denied c =
     let b = c.in-Some-get_mut.block.now in
     let at : map.get c.self.inside.blocks.live c.args.key ≡ Some b = sym c.in-Some-get_mut.ensures.value in
     let begins = begun_is c.self.inside.device c.begin.new.self (begun c.args.answers.now) c.in-Ok.ensures.run c.begin.ensures.offers c.begin.ensures.held in
-    let one : c.in-Some.block.now ≡ b = (let first = c.in-Some.ensures in cc) in
-    let fits : nat_lt b.size (c.args.offset + c.args.size) ≡ false =
-    subst (λ (x : Block). nat_lt x.size (c.args.offset + c.args.size) ≡ false) one (ap (λ n. nat_lt n (c.args.offset + c.args.size)) (sym c.size.ensures) ∙ sym c.passes_end.ensures ∙ c.if-passes_end.false) in
+    let able = sym (rw (← c.self.view_is) at c.in_default.ensures) in
     elim c.match-answer.branch [
       | in-Ok-answer w ↦ rw w.result-is tt
       | in-Err w ↦
           let asked = rw w.in-Err.is at c.map-answer.ensures.asked in
           let chain = subst (λ d. Chain IsStep d asked.0 c.map-answer.new.device) begins asked.1 in
-          let able = of_block _ b _ _ at (some_bytes_then c.args.size _ c.if-size-eq0.false ∙ good_range c.args.offset c.args.size b.size fits) in
           rw (← c.self.view_is, w.result-is) (inr (able, (b, at, (asked.0, c.map-answer.new.device, chain, (w.in-Err.refusal, asked.2, w.denial_after.ensures)))))
     ]
 
