@@ -8,11 +8,11 @@ ghost use Rattle.wallthyme.specs.Malformed.{HasFlags, IsAsked, IsMalformed, IsWe
 ghost use Rattle.wallthyme.specs.Status.{Denies, LeavesOpen};
 ghost use Rattle.wallthyme.specs.Layout.{asks_own_object, grant_of, is_held_only};
 
-use crate::answers::{answers_of, denied_or_asked};
+use crate::answers::{answers_of, are_answered, denied_or_asked};
 use crate::handle::Handle;
 use crate::kept::KeptDesk;
 use crate::layout;
-use crate::status::{ASK, NOT_OPEN, OK, OUT_OF_HOST_MEMORY, UNKNOWN_KEY, denied};
+use crate::status::{ASK, BAD_ANSWER, NOT_OPEN, OK, UNKNOWN_KEY, denied};
 use gpu_desk::{Answered, Desk, Request, Wish};
 use std::alloc::Global;
 
@@ -29,7 +29,7 @@ pub extern "C" fn wt_alloc(
     ensures granted { result ≡ OK → OnDesks (IsAllocated request.now asked.now block.new) handle.old handle.new }
     ensures asks { result ≡ ASK
         → OnDesks (λ old _. LeavesOpen (IsDenied request.now asked.now old) question.new) handle.old handle.new }
-    ensures denied { result ≢ OK → result ≢ NOT_OPEN → result ≢ OUT_OF_HOST_MEMORY
+    ensures denied { result ≢ OK → result ≢ NOT_OPEN
         → IsMalformed request.now asked.now result ⊎ OnDesks (λ old _.
         Denies (IsDenied request.now asked.now old) result) handle.old handle.new }
     ensures unasked { is_held_only request.now ≡ true → result ≢ ASK }
@@ -38,6 +38,8 @@ pub extern "C" fn wt_alloc(
     ensures unanswered { result ≡ ASK → IsAsked question.new }
     ensures own { result ≡ ASK → asks_own_object question.new ≡ true → question.new.size ≡ request.now.size }
     ensures limit { result ≡ ASK → length asked.now < 64 }
+    ensures kept { result ≢ OK → block.new ≡ block.old }
+    ensures question_kept { result ≢ ASK → question.new ≡ question.old }
     ensures unchanged { result ≢ OK → OnDesks IsAsBefore handle.old handle.new }
     ensures keeps { OnDesks KeepsSound handle.old handle.new }
 {
@@ -69,7 +71,7 @@ fn allocate(
     ensures is_open { result ≢ NOT_OPEN }
     ensures granted { result ≡ OK → IsAllocated request.now asked.now block.new desk.old desk.new }
     ensures asks { result ≡ ASK → LeavesOpen (IsDenied request.now asked.now desk.old) question.new }
-    ensures denied { result ≢ OK → result ≢ OUT_OF_HOST_MEMORY → IsMalformed request.now asked.now result
+    ensures denied { result ≢ OK → IsMalformed request.now asked.now result
         ⊎ Denies (IsDenied request.now asked.now desk.old) result }
     ensures unasked { is_held_only request.now ≡ true → result ≢ ASK }
     ensures formed { (result ≡ OK) ⊎ (result ≡ ASK) → IsWellFormedRequest request.now asked.now }
@@ -77,6 +79,8 @@ fn allocate(
     ensures unanswered { result ≡ ASK → IsAsked question.new }
     ensures own { result ≡ ASK → asks_own_object question.new ≡ true → question.new.size ≡ request.now.size }
     ensures limit { result ≡ ASK → length asked.now < 64 }
+    ensures kept { result ≢ OK → block.new ≡ block.old }
+    ensures question_kept { result ≢ ASK → question.new ≡ question.old }
     ensures unchanged { result ≢ OK → IsAsBefore desk.old desk.new }
     ensures keeps { KeepsDesk desk.old desk.new }
 {
@@ -85,11 +89,14 @@ fn allocate(
         Ok(parts) => parts,
         Err(status) => return status,
     };
-    if let Err(status) = answers_of(answers, asked) {
-        return status;
-    }
     if is_held_only {
+        if !are_answered(asked) {
+            return BAD_ANSWER;
+        }
         return allocate_held(desk, request, wish, block);
+    }
+    if let Err(unread) = answers_of(answers, asked) {
+        return unread.status(desk.request_fault(request));
     }
     match desk.alloc(request, wish, answers) {
         Ok(grant) => {
@@ -107,6 +114,7 @@ fn allocate_held(desk: &mut Desk, request: Request, wish: Wish, block: &mut layo
     ensures denied { result ≢ OK → Denies (HeldDenied desk.old request wish) result }
     ensures flags { result ≡ OK → HasFlags block.new }
     ensures unasked { result ≢ ASK }
+    ensures kept { result ≢ OK → block.new ≡ block.old }
     ensures unchanged { result ≢ OK → IsAsBefore desk.old desk.new }
     ensures keeps { KeepsDesk desk.old desk.new }
 {
@@ -136,6 +144,7 @@ pub extern "C" fn wt_import(
         Denies (ImportDenied old memory_type object_size offset size) result) handle.old handle.new }
     ensures fresh { result ≡ OK → block.new.fresh ≡ 0 }
     ensures flags { result ≡ OK → HasFlags block.new }
+    ensures kept { result ≢ OK → block.new ≡ block.old }
     ensures unchanged { result ≢ OK → OnDesks IsAsBefore handle.old handle.new }
     ensures keeps { OnDesks KeepsSound handle.old handle.new }
 {
@@ -166,6 +175,7 @@ pub extern "C" fn wt_block_of(
     ensures fresh { result ≡ OK → block.new.fresh ≡ 0 }
     ensures flags { result ≡ OK → HasFlags block.new }
     ensures unknown { result ≢ OK → OnDesks (λ old _. NoBlock old key) handle.old handle.new }
+    ensures kept { result ≢ OK → block.new ≡ block.old }
     ensures same { desk_of handle.new ≡ desk_of handle.old }
 {
     let Some(kept) = handle.take(alloc) else {

@@ -26,10 +26,12 @@ pub extern "C" fn wt_candidates(
         handle.old handle.new }
     ensures count { result ≡ OK → OnDesks (λ old _. count.new ≡ length (candidates_for old usage memory_types))
         handle.old handle.new }
-    ensures named { result ≡ OK → IsUsage usage }
+    ensures named { result ≢ NOT_OPEN → result ≢ BAD_USAGE → IsUsage usage }
     ensures unnamed { result ≡ BAD_USAGE → IsUsage usage → ⊥ }
     ensures lacks { result ≡ NO_DEVICE_ADDRESS → OnDesks (λ old _. needs_feature old usage ≡ true) handle.old handle.new }
-    ensures able { result ≡ OK → OnDesks (λ old _. needs_feature old usage ≡ false) handle.old handle.new }
+    ensures able { result ≢ BAD_USAGE → result ≢ NO_DEVICE_ADDRESS
+        → OnDesks (λ old _. needs_feature old usage ≡ false) handle.old handle.new }
+    ensures kept { result ≢ OK → (types.new ≡ types.old) × (count.new ≡ count.old) }
     ensures same { desk_of handle.new ≡ desk_of handle.old }
 {
     let Some(kept) = handle.take(alloc) else {

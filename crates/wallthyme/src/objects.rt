@@ -48,6 +48,7 @@ pub extern "C" fn wt_gone(
     ensures read { result ≡ OK → OnDesks (λ old new. Reads old (take count.new names.new) new) handle.old handle.new }
     ensures all { result ≡ OK → count.new < length names.new
         → OnDesks (λ _ new. new.device.held.gone ≡ []) handle.old handle.new }
+    ensures kept { result ≢ OK → (names.new ≡ names.old) × (count.new ≡ count.old) }
     ensures keeps { result ≡ OK → OnDesks (KeepsBut (take count.new names.new)) handle.old handle.new }
 {
     let Some(mut kept) = handle.take(alloc) else {
@@ -80,6 +81,7 @@ pub extern "C" fn wt_count(alloc: Global, handle: &mut Handle, counts: &mut layo
     ensures status { (result ≡ OK) ⊎ (result ≡ NOT_OPEN) }
     ensures told { result ≡ OK → OnDesks (λ old _. CountsOf old (counts_of counts.new))
         handle.old handle.new }
+    ensures kept { result ≢ OK → counts.new ≡ counts.old }
     ensures same { desk_of handle.new ≡ desk_of handle.old }
 {
     let Some(kept) = handle.take(alloc) else {
@@ -105,6 +107,7 @@ pub extern "C" fn wt_heap(
         handle.old handle.new }
     ensures known { result ≡ OK → OnDesks (λ old _. heap < length old.allocator.properties.memory_heaps)
         handle.old handle.new }
+    ensures kept { result ≢ OK → counts.new ≡ counts.old }
     ensures same { desk_of handle.new ≡ desk_of handle.old }
 {
     let Some(kept) = handle.take(alloc) else {
@@ -157,6 +160,8 @@ pub extern "C" fn wt_set_remaining(alloc: Global, handle: &mut Handle, remaining
         new ≡ record old { allocator = record (old.allocator) { remaining = remaining } }) handle.old handle.new }
     ensures too_many { result ≢ OK → OnDesks (λ old _. 2 ^ 32 ≤ remaining + map.len old.allocator.held)
         handle.old handle.new }
+    ensures few { result ≡ OK → OnDesks (λ old _. remaining + map.len old.allocator.held < 2 ^ 32)
+        handle.old handle.new }
     ensures unchanged { result ≢ OK → desk_of handle.new ≡ desk_of handle.old }
     ensures keeps { OnDesks (KeepsBut []) handle.old handle.new }
 {
@@ -189,6 +194,7 @@ pub extern "C" fn wt_free_ranges(
         length old.allocator.properties.memory_types ≤ memory_type) handle.old handle.new }
     ensures known { result ≢ BAD_MEMORY_TYPE → OnDesks (λ old _.
         memory_type < length old.allocator.properties.memory_types) handle.old handle.new }
+    ensures kept { result ≢ OK → (ranges.new ≡ ranges.old) × (count.new ≡ count.old) }
     ensures same { desk_of handle.new ≡ desk_of handle.old }
 {
     let Some(kept) = handle.take(alloc) else {

@@ -11,7 +11,7 @@ use crate::answers::{answers_of, denied_or_asked};
 use crate::handle::Handle;
 use crate::kept::KeptDesk;
 use crate::layout;
-use crate::status::{ASK, BAD_ANSWER, NOT_OPEN, OK, OUT_OF_HOST_MEMORY, UNKNOWN_KEY, denied};
+use crate::status::{ASK, BAD_ANSWER, NOT_OPEN, OK, UNKNOWN_KEY, denied};
 use gpu_desk::{Answered, Desk};
 use std::alloc::Global;
 
@@ -34,12 +34,14 @@ pub extern "C" fn wt_map(
         Maps old key offset size (map answered_of asked.now) new (object_range_of mapped.new)) handle.old handle.new }
     ensures asks { result ≡ ASK → OnDesks (λ old _. LeavesOpen (MapDenied old key offset size (map answered_of asked.now))
         question.new) handle.old handle.new }
-    ensures denied { result ≢ OK → result ≢ NOT_OPEN → result ≢ OUT_OF_HOST_MEMORY
+    ensures denied { result ≢ OK → result ≢ NOT_OPEN
         → ((result ≡ BAD_ANSWER) × HasNoAnswer asked.now) ⊎ OnDesks (λ old _.
         Denies (MapDenied old key offset size (map answered_of asked.now)) result) handle.old handle.new }
     ensures formed { (result ≡ OK) ⊎ (result ≡ ASK) → AreAnswered asked.now }
     ensures unanswered { result ≡ ASK → IsAsked question.new }
     ensures limit { result ≡ ASK → length asked.now ≡ 0 }
+    ensures kept { result ≢ OK → mapped.new ≡ mapped.old }
+    ensures question_kept { result ≢ ASK → question.new ≡ question.old }
     ensures unchanged { result ≢ OK → OnDesks IsAsBefore handle.old handle.new }
     ensures keeps { OnDesks KeepsSound handle.old handle.new }
 {
@@ -84,16 +86,18 @@ fn map_part(
         (object_range_of mapped.new) }
     ensures asks { result ≡ ASK → LeavesOpen (MapDenied desk.old part.key part.offset part.size (map answered_of asked.now))
         question.new }
-    ensures denied { result ≢ OK → result ≢ OUT_OF_HOST_MEMORY → ((result ≡ BAD_ANSWER) × HasNoAnswer asked.now)
+    ensures denied { result ≢ OK → ((result ≡ BAD_ANSWER) × HasNoAnswer asked.now)
         ⊎ Denies (MapDenied desk.old part.key part.offset part.size (map answered_of asked.now)) result }
     ensures formed { (result ≡ OK) ⊎ (result ≡ ASK) → AreAnswered asked.now }
     ensures unanswered { result ≡ ASK → IsAsked question.new }
     ensures limit { result ≡ ASK → length asked.now ≡ 0 }
+    ensures kept { result ≢ OK → mapped.new ≡ mapped.old }
+    ensures question_kept { result ≢ ASK → question.new ≡ question.old }
     ensures unchanged { result ≢ OK → IsAsBefore desk.old desk.new }
     ensures keeps { KeepsDesk desk.old desk.new }
 {
-    if let Err(status) = answers_of(answers, asked) {
-        return status;
+    if let Err(unread) = answers_of(answers, asked) {
+        return unread.status(desk.map_fault(part.key, part.offset, part.size));
     }
     match desk.map(part.key, part.offset, part.size, answers) {
         Ok(range) => {
@@ -112,6 +116,7 @@ pub extern "C" fn wt_unmap(alloc: Global, handle: &mut Handle, key: u64, object:
         Unmaps old key new (Some object.new) ⊎ (Unmaps old key new None × (object.new ≡ NO_OBJECT)))
         handle.old handle.new }
     ensures unknown { result ≢ OK → OnDesks (λ old _. NoBlock old key) handle.old handle.new }
+    ensures kept { result ≢ OK → object.new ≡ object.old }
     ensures unchanged { result ≢ OK → desk_of handle.new ≡ desk_of handle.old }
     ensures keeps { OnDesks KeepsSound handle.old handle.new }
 {
@@ -147,6 +152,7 @@ pub extern "C" fn wt_range_of(
         handle.old handle.new }
     ensures denied { result ≢ OK → result ≢ NOT_OPEN → OnDesks (λ old _.
         Denies (RangeDenied old key offset size) result) handle.old handle.new }
+    ensures kept { result ≢ OK → range.new ≡ range.old }
     ensures same { desk_of handle.new ≡ desk_of handle.old }
 {
     let Some(kept) = handle.take(alloc) else {

@@ -25,6 +25,7 @@ pub extern "C" fn wt_statistics(
         length old.allocator.properties.memory_types ≤ memory_type) handle.old handle.new }
     ensures known { result ≡ OK → OnDesks (λ old _.
         memory_type < length old.allocator.properties.memory_types) handle.old handle.new }
+    ensures kept { result ≢ OK → statistics.new ≡ statistics.old }
     ensures same { desk_of handle.new ≡ desk_of handle.old }
 {
     let Some(kept) = handle.take(alloc) else {
@@ -52,7 +53,7 @@ pub extern "C" fn wt_report(
     ensures closed { (result ≡ NOT_OPEN) ↔ IsNone (desk_of handle.old) }
     ensures status { (result ≡ OK) ⊎ ((result ≡ NOT_OPEN) ⊎ (result ≡ OUT_OF_HOST_MEMORY)) }
     ensures told { result ≡ OK → OnDesks (λ old _. Reports old text.old text.new needed.new) handle.old handle.new }
-    ensures unchanged { result ≢ OK → text.new ≡ text.old }
+    ensures kept { result ≢ OK → (text.new ≡ text.old) × (needed.new ≡ needed.old) }
     ensures same { desk_of handle.new ≡ desk_of handle.old }
 {
     let Some(kept) = handle.take(alloc) else {

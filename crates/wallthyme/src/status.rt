@@ -112,7 +112,7 @@ fn map_refused(refusal: MapError) -> u32
 
 /// The status of a fault. The desk chooses the keys and moves no bytes, so `NameInUse` and `NotMapped` never come: they
 /// count as `UnknownName`.
-fn misused(fault: Fault) -> u32
+pub(crate) fn misused(fault: Fault) -> u32
     ensures status { result ≡ status_of_fault fault }
     ensures failed { result ≢ OK }
     ensures unasked { result ≢ ASK }

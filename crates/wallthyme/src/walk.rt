@@ -25,6 +25,7 @@ pub extern "C" fn wt_blocks(
     ensures next { result ≡ OK → OnDesks (λ old _. AreNext old after (take count.new blocks.new)) handle.old handle.new }
     ensures all { result ≡ OK → count.new < length blocks.new
         → OnDesks (λ old _. IsLast old (key_behind after (take count.new blocks.new))) handle.old handle.new }
+    ensures kept { result ≢ OK → (blocks.new ≡ blocks.old) × (count.new ≡ count.old) }
     ensures same { desk_of handle.new ≡ desk_of handle.old }
 {
     let Some(kept) = handle.take(alloc) else {
