@@ -78,8 +78,8 @@ pub(crate) fn are_answered(asked: &[layout::Question]) -> bool
 }
 
 impl Unread {
-    /// The status of a call whose answers cannot be read. Where only memory is missing, it is that of the first condition
-    /// that the call misses, if it misses one.
+    /// The status of a call whose answers cannot be read. Where only memory is missing, it is that of the first
+    /// condition that the call misses, if it misses one.
     pub(crate) fn status(self, missed: Option<Fault>) -> u32
         ensures invalid { self ≡ Unread.Invalid → result ≡ BAD_ANSWER }
         ensures denied { self ≡ Unread.NoMemory → Denies (IsFaultOf missed) result }

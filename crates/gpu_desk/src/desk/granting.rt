@@ -163,9 +163,10 @@ pub(super) fn keep(
 }
 
 impl Desk {
-    /// The first condition that a request misses: `BadSize`, `BadAlignment` or `NoDeviceAddress`. `None` where it misses
-    /// none, so that [`alloc`](Desk::alloc) and [`alloc_held`](Desk::alloc_held) deny it for another reason, if at all.
-    /// It allocates nothing.
+    /// The first condition that a request misses: `BadSize` for 0 bytes, `BadAlignment` for a mask that is not one less
+    /// than a power of two of at most 2^63, `NoDeviceAddress` for the usage `DEVICE_ADDRESS` without the device's
+    /// feature. `None` where it misses none: [`alloc`](Desk::alloc) and [`alloc_held`](Desk::alloc_held) then deny it
+    /// for other reasons alone. It allocates nothing.
     pub fn request_fault(&self, request: Request) -> Option<Fault>
         ensures { result ≡ fault_of_alloc self.now request }
     {

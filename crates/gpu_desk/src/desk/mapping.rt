@@ -37,10 +37,10 @@ impl Desk {
         }
     }
 
-    /// The first condition that a mapping misses: `UnknownName` for a key that has no live block, `BadSize` for 0 bytes,
-    /// `BadRange` for a range that ends past the block. `offset` is in bytes from the block's start, `size` in bytes.
-    /// `None` where it misses none, so that [`map`](Desk::map) denies it for another reason, if at all. It allocates
-    /// nothing.
+    /// The first condition that the mapping of `size` bytes of a block misses, from `offset` on, in bytes from its
+    /// start: `UnknownName` for a key that has no live block, `BadSize` for 0 bytes, `BadRange` for a range that ends
+    /// past the block. `None` where it misses none: [`map`](Desk::map) then denies it for other reasons alone. It
+    /// allocates nothing.
     pub fn map_fault(&self, key: u64, offset: u64, size: u64) -> Option<Fault>
         ensures { result ≡ fault_of_map self.now key offset size }
     {
