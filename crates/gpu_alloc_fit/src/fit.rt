@@ -20,7 +20,7 @@ ghost use Rattle.gpu_alloc_fit.specs.Fit.{IsGranted, KeepsSettings, Leaves, Leav
 ghost use Rattle.gpu_alloc_fit.specs.Fit.{ObjectsFreed, Removes, case_of, chunk_size, fit_case, opened};
 ghost use Rattle.gpu_alloc_fit.specs.FitSound.{FitsAChunk, IsSoundFitting};
 ghost use Rattle.gpu_alloc_fits.specs.Listed.{AddsSlots, ListsChunks};
-ghost use Rattle.gpu_alloc_fits.specs.Space.{IsFitRunOf, IsLiveFitSpan, IsLiveSlot, IsNoLiveFitSpan};
+ghost use Rattle.gpu_alloc_fits.specs.Space.{IsFitRunOf, IsLiveFitSpan, IsLiveSlot, IsNoLiveFitSpan, neighbours};
 
 use gpu_alloc_base::buddy_block::Leaf;
 use gpu_alloc_base::free_list_block::Slot;
@@ -235,8 +235,9 @@ impl<M: MemoryObject, A: Allocator> FitAllocator<M, A> {
     /// be held plus the number of held chunks must fit 32 bits. Both hold again after the call.
     ///
     /// Each other block that a caller has in hand is still live, and may be returned next (`removed`). The settings
-    /// stay (`settings`), and the ledger does not grow (`ledger`). `looks` counts the tiles next to the block that are
-    /// looked at: at most two (`few`).
+    /// stay (`settings`), and the ledger does not grow (`ledger`). `looks` counts the free runs and blocks that are
+    /// looked at: the block's neighbours in its chunk, at most two (`looks`). With the block's own key no other one is;
+    /// with any other key it is searched for, which [`searches`](FitAllocator::searches) counts.
     pub fn dealloc<D: ObjectDevice<M>, L: Ledger>(
         &mut self,
         device: &mut D,
@@ -262,7 +263,7 @@ impl<M: MemoryObject, A: Allocator> FitAllocator<M, A> {
         ensures counted { IsCounted (self.new).space.chunks heap.new allocations_remains.new }
         ensures total { chunks_and_remaining (self.new).space.chunks allocations_remains.new ≡ chunks_and_remaining
             (self.old).space.chunks allocations_remains.old }
-        ensures few { looks.new ≤ looks.old + 2 }
+        ensures looks { looks.new ≡ looks.old + neighbours (self.old).space block }
     {
         let gone = self.fits.put_back(block, looks);
         self.fits.keeps_sound();
@@ -320,13 +321,14 @@ impl<M: MemoryObject, A: Allocator> FitAllocator<M, A> {
     /// `offset` is where it starts in the object and `size` how long it is, in bytes: any two numbers.
     ///
     /// The answer is the same for any `key`. With the block's own key it takes constant time, and with any other time
-    /// linear in the live blocks and free runs.
+    /// linear in the live blocks and free runs, as [`searches`](FitAllocator::searches) counts. Nothing else changes.
     #[inline(always)]
-    pub fn find(&self, key: usize, object: u64, offset: u64, size: u64) -> Option<(Slot, usize)>
-        ensures found { MatchOption result (IsNoLiveFitSpan (self.now).space object offset size)
-            (λ found. IsLiveFitSpan (self.now).space object offset size found.0) }
-        ensures exact { (slot : LiveSlot) → IsLiveFitSpan (self.now).space object offset size slot
+    pub fn find(&mut self, key: usize, object: u64, offset: u64, size: u64) -> Option<(Slot, usize)>
+        ensures found { MatchOption result (IsNoLiveFitSpan (self.old).space object offset size)
+            (λ found. IsLiveFitSpan (self.old).space object offset size found.0) }
+        ensures exact { (slot : LiveSlot) → IsLiveFitSpan (self.old).space object offset size slot
             → IfSome result (λ found. found.0 ≡ slot) }
+        ensures kept { self.new ≡ self.old }
     {
         self.fits.find(key, object, offset, size)
     }
@@ -348,13 +350,20 @@ impl<M: MemoryObject, A: Allocator> FitAllocator<M, A> {
         self.fits.list_live(rows)
     }
 
-    /// How many times all live blocks and free runs were searched for a place, modulo 2^64. Tests look at it, and no
-    /// contract.
+    /// How many times all live blocks and free runs were searched, for a place or for a block that came with another
+    /// key than its own, modulo 2^64. Tests look at it, and no contract.
     pub fn searches(&self) -> u64 {
         self.fits.searches()
     }
 
-    /// Ends an allocator that holds no chunk.
+    /// Whether it holds no chunk, so that it may be closed.
+    pub fn is_empty(&self) -> bool
+        ensures { IsTrue result ↔ (map.len ((self.now).space.chunks) ≡ 0) }
+    {
+        self.fits.is_empty()
+    }
+
+    /// Ends an allocator that holds no chunk, as [`is_empty`](FitAllocator::is_empty) tells.
     pub fn close(self)
         requires { map.len ((self.space).chunks) ≡ 0 }
     {

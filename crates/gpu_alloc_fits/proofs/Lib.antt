@@ -9,6 +9,7 @@ pub mod Links
 pub mod Listed
 pub mod Live
 pub mod Made
+pub mod Neighbours
 pub mod Nodes
 pub mod Returned
 pub mod Runs

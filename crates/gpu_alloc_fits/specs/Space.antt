@@ -1,6 +1,6 @@
 -- Shared chunks and the live blocks in them: what is free, where there is room, and how a grant and a return change
 -- them.
-use Rattle.std.specs.Prelude.{◌≡◌, ◌≢◌, ℕ, ◌+◌, ◌<◌, ◌≤◌, ◌^◌, Some, None, IsSome, IsTrue}
+use Rattle.std.specs.Prelude.{◌≡◌, ◌≢◌, ◌==◌, ℕ, ◌+◌, ◌<◌, ◌≤◌, ◌^◌, Option, Some, None, IsSome, IsTrue, cond}
 use Rattle.std.specs.FinMap as map
 use Rattle.std.specs.FinSet as set
 use Rattle.gpu_alloc_types.specs.declared.types.FreeRange.{FreeRange}
@@ -119,6 +119,21 @@ pub record IsSoundFitSpace (s : FitSpace) : Type 0 where
   pub apart : (x y : Slot) → IsLiveSlot s x → IsLiveSlot s y → x.chunk ≡ y.chunk → (at : ℕ) → IsIn x.offset x.size at
       → IsIn y.offset y.size at → x ≡ y
   pub one_free : (i k : ℕ) → IsWhollyFree s i → IsWhollyFree s k → i ≡ k
+
+-- Neighbours.
+
+-- how many neighbours a block has in its chunk, which has this many bytes: one before it unless it begins the chunk, and
+-- one behind it unless it ends the chunk. A neighbour is a free run or a live block
+abbrev pub neighbours_in : ℕ → ℕ → ℕ → ℕ
+neighbours_in whole start end = cond (start == 0) 0 1 + cond (end == whole) 0 1
+
+-- the size of a chunk, 0 where there is none
+abbrev pub size_of : Option Chunk → ℕ
+size_of None = 0
+size_of (Some chunk) = chunk.size
+
+abbrev pub neighbours : FitSpace → Slot → ℕ
+neighbours s slot = neighbours_in (size_of (map.get s.chunks slot.chunk)) slot.offset (slot.offset + slot.size)
 
 -- Blocks in hand.
 

@@ -15,7 +15,7 @@ ghost use Rattle.gpu_alloc_fits.specs.Inside.{chunk_size_in, chunks_of_rows, fre
 ghost use Rattle.gpu_alloc_fits.specs.Links.{AreNodesKept};
 ghost use Rattle.gpu_alloc_fits.specs.Listed.{AddsSlots, ListsChunks};
 ghost use Rattle.gpu_alloc_fits.specs.Space.{Adds, BeginsFitChunk, HasPlace, IsFitRunOf, IsLiveFitSpan, IsLiveSlot, IsNoLiveFitSpan};
-ghost use Rattle.gpu_alloc_fits.specs.Space.{IsSoundFitSpace, IsSpare, IsUnheld, IsWhollyFree, Leaves, Removes, no_fit_space};
+ghost use Rattle.gpu_alloc_fits.specs.Space.{IsSoundFitSpace, IsSpare, IsUnheld, IsWhollyFree, Leaves, Removes, neighbours, no_fit_space};
 ghost use Rattle.gpu_alloc_fits.specs.Space.{with_chunk, with_slot, without_chunk, without_slot};
 ghost use Rattle.gpu_alloc_fits.specs.Tiles.{KeepsElsewhere, KeepsLive, tile_in};
 
@@ -261,7 +261,8 @@ impl<M: MemoryObject, A: Allocator> Fits<M, A> {
     /// nothing and cannot fail.
     ///
     /// Each other block that a caller has in hand is still live, and may be returned next (`removed`). `looks` counts
-    /// the tiles next to the block that are looked at: at most two.
+    /// the free runs and blocks that are looked at: the block's neighbours in its chunk, at most two. With the block's
+    /// own key no other one is; with any other key it is searched for, which [`searches`](Fits::searches) counts.
     pub fn put_back<L: Ledger>(
         &mut self,
         block: FitBlock<M>,
@@ -275,12 +276,13 @@ impl<M: MemoryObject, A: Allocator> Fits<M, A> {
             ≡ Some (record { object = M.object gone.0; size = gone.1 }))
             × ((self.new).space ≡ without_chunk (without_slot (self.old).space block) block.chunk))) }
         ensures removed { Removes (self.old).space block (self.new).space }
-        ensures few { looks.new ≤ looks.old + 2 }
+        ensures looks { looks.new ≡ looks.old + neighbours (self.old).space block }
     {
         let (_, slot, hint) = into_parts(block);
         let Some(place) = place_of(
             &self.chunks,
             &self.tiles,
+            &mut self.known,
             hint,
             slot.object,
             slot.offset,
@@ -343,15 +345,24 @@ impl<M: MemoryObject, A: Allocator> Fits<M, A> {
     /// `offset` is where it starts in the object and `size` how long it is, in bytes: any two numbers.
     ///
     /// The answer is the same for any `key`. With the block's own key it takes constant time, and with any other time
-    /// linear in the tiles.
+    /// linear in the tiles, as [`searches`](Fits::searches) counts. Nothing else changes.
     #[inline(always)]
-    pub fn find(&self, key: usize, object: u64, offset: u64, size: u64) -> Option<(Slot, usize)>
-        ensures found { MatchOption result (IsNoLiveFitSpan (self.now).space object offset size)
-            (λ found. IsLiveFitSpan (self.now).space object offset size found.0) }
-        ensures exact { (slot : LiveSlot) → IsLiveFitSpan (self.now).space object offset size slot
+    pub fn find(&mut self, key: usize, object: u64, offset: u64, size: u64) -> Option<(Slot, usize)>
+        ensures found { MatchOption result (IsNoLiveFitSpan (self.old).space object offset size)
+            (λ found. IsLiveFitSpan (self.old).space object offset size found.0) }
+        ensures exact { (slot : LiveSlot) → IsLiveFitSpan (self.old).space object offset size slot
             → IfSome result (λ found. found.0 ≡ slot) }
+        ensures kept { self.new ≡ self.old }
     {
-        let place = place_of(&self.chunks, &self.tiles, key, object, offset, size)?;
+        let place = place_of(
+            &self.chunks,
+            &self.tiles,
+            &mut self.known,
+            key,
+            object,
+            offset,
+            size,
+        )?;
         let slot = Slot {
             object,
             chunk: place.node.tile.chunk as u64,
@@ -381,8 +392,8 @@ impl<M: MemoryObject, A: Allocator> Fits<M, A> {
         Ok(())
     }
 
-    /// How many times all tiles were searched for a place, modulo 2^64: about once for each new chunk. Tests look at
-    /// it, and no contract.
+    /// How many times all tiles were searched, modulo 2^64: for a place, about once for each new chunk, and for each
+    /// block that came with another key than its own. Tests look at it, and no contract.
     pub fn searches(&self) -> u64 {
         self.known.searches()
     }
@@ -394,7 +405,14 @@ impl<M: MemoryObject, A: Allocator> Fits<M, A> {
         let _ = &self.chunks;
     }
 
-    /// Ends a store without chunks.
+    /// Whether it has no chunk, so that it may be closed.
+    pub fn is_empty(&self) -> bool
+        ensures { IsTrue result ↔ (map.len ((self.now).space.chunks) ≡ 0) }
+    {
+        self.chunks.is_empty()
+    }
+
+    /// Ends a store without chunks, as [`is_empty`](Fits::is_empty) tells.
     pub fn close(self)
         requires { map.len ((self.space).chunks) ≡ 0 }
     {
@@ -456,13 +474,15 @@ fn let_chunk_go<M: MemoryObject, A: Allocator>(
 fn place_of<M: MemoryObject, A: Allocator>(
     chunks: &Slab<Chunk<M>, A>,
     tiles: &Slab<Node, A>,
+    known: &mut Known,
     key: usize,
     object: u64,
     offset: u64,
     size: u64,
 ) -> Option<Place>
     requires kept { AreNodesKept (chunk_size_in chunks.now) tiles.now }
-    ensures { MatchOption result
+    ensures full { known.new.full ≡ known.old.full }
+    ensures place { MatchOption result
         ((k : ℕ) → IsAtKey (chunks_of_rows M.object chunks.now) (tile_in tiles.now) object offset size k → ⊥)
         (IsBlockPlace M.object chunks.now tiles.now object offset size) }
 {
@@ -475,7 +495,7 @@ fn place_of<M: MemoryObject, A: Allocator>(
             });
         }
     }
-    let found = search(chunks, tiles, object, offset, size)?;
+    let found = search(chunks, tiles, known, object, offset, size)?;
     let node = tiles[found];
     Some(Place {
         key: found,
@@ -484,21 +504,24 @@ fn place_of<M: MemoryObject, A: Allocator>(
     })
 }
 
-/// The key of the tile that is the live block of this span, by a search of all tiles.
+/// The key of the tile that is the live block of this span, by a search of all tiles, which is counted.
 #[cold]
 #[inline(never)]
 fn search<M: MemoryObject, A: Allocator>(
     chunks: &Slab<Chunk<M>, A>,
     tiles: &Slab<Node, A>,
+    known: &mut Known,
     object: u64,
     offset: u64,
     size: u64,
 ) -> Option<usize>
     requires kept { AreNodesKept (chunk_size_in chunks.now) tiles.now }
-    ensures { MatchOption result
+    ensures full { known.new.full ≡ known.old.full }
+    ensures found { MatchOption result
         ((k : ℕ) → IsAtKey (chunks_of_rows M.object chunks.now) (tile_in tiles.now) object offset size k → ⊥)
         (IsAtKey (chunks_of_rows M.object chunks.now) (tile_in tiles.now) object offset size) }
 {
+    known.count();
     for (key, node) in tiles.iter() {
         if is_of(chunks, node.tile, object, offset, size) {
             return Some(key);

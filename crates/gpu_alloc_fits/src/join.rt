@@ -1,9 +1,10 @@
 //! How a live tile is freed, and joined with the free tiles next to it.
 
-ghost use Rattle.std.specs.Prelude.{◌≡◌, ◌≤◌, ◌+◌, ◌↔◌, ℕ, Some, true, false, IsTrue};
+ghost use Rattle.std.specs.Prelude.{◌≡◌, ◌==◌, ◌≤◌, ◌+◌, ◌↔◌, ℕ, Some, true, false, IsTrue, cond};
 ghost use Rattle.slab.specs.Slab.{ContainsKey, get};
 ghost use Rattle.gpu_alloc_fits.specs.Inside.{chunk_size_in};
 ghost use Rattle.gpu_alloc_fits.specs.Links.{AreNodesKept, AreNodesKeptBut, with_free};
+ghost use Rattle.gpu_alloc_fits.specs.Space.{neighbours_in};
 ghost use Rattle.gpu_alloc_fits.specs.Tiles.{IsFirst, IsFreeTileOf, KeepsElsewhere, KeepsLive, PutsTileBack, tile_in};
 ghost use Rattle.gpu_alloc_fits.specs.declared.tile.Tile.{Tile as TileOf};
 
@@ -24,7 +25,7 @@ struct Joint {
 }
 
 /// Frees a live tile and joins it with the free ones next to it. Returns the joint with its key: that of the free tile
-/// before it, or else its own. `looks` counts the tiles that are looked at: at most two. It allocates nothing.
+/// before it, or else its own. `looks` counts the tiles that are looked at: its neighbours. It allocates nothing.
 #[inline(always)]
 pub(crate) fn put_back<M: MemoryObject, A: Allocator, L: Ledger>(
     nodes: &mut Slab<Node, A>,
@@ -41,7 +42,8 @@ pub(crate) fn put_back<M: MemoryObject, A: Allocator, L: Ledger>(
     ensures back { PutsTileBack (tile_in nodes.old) (tile_in nodes.new) place.key }
     ensures joint { IsFreeTileOf place.node.tile.chunk (tile_in nodes.new) result.1 result.0 }
     ensures elsewhere { KeepsElsewhere place.node.tile.chunk (tile_in nodes.old) (tile_in nodes.new) }
-    ensures few { looks.new ≤ looks.old + 2 }
+    ensures looks { looks.new ≡ looks.old
+        + neighbours_in place.whole place.node.tile.start place.node.tile.end }
 {
     set_free(nodes, place.key, true);
     let joint = join_before(nodes, chunks, place, looks);
@@ -82,8 +84,9 @@ fn join_before<M: MemoryObject, A: Allocator, L: Ledger>(
     ensures first { IsFirst result.key (tile_in nodes.new) }
     ensures lives { KeepsLive (tile_in nodes.old) (tile_in nodes.new) }
     ensures joint { (b : TileOf) × IsFreeTileOf place.node.tile.chunk (tile_in nodes.new) result.key b }
+    ensures end { (b : TileOf) → tile_in nodes.new result.key ≡ Some b → b.end ≡ place.node.tile.end }
     ensures elsewhere { KeepsElsewhere place.node.tile.chunk (tile_in nodes.old) (tile_in nodes.new) }
-    ensures few { looks.new ≤ looks.old + 1 }
+    ensures looks { looks.new ≡ looks.old + cond (place.node.tile.start == 0) 0 1 }
 {
     let Place { key, node, whole } = place;
     if node.tile.start == 0 {
@@ -121,7 +124,8 @@ fn join_after<M: MemoryObject, A: Allocator, L: Ledger>(
     ensures joint { (a : TileOf) → tile_in nodes.old key ≡ Some a → IsFreeTileOf a.chunk (tile_in nodes.new) key result }
     ensures elsewhere { (a : TileOf) → tile_in nodes.old key ≡ Some a
         → KeepsElsewhere a.chunk (tile_in nodes.old) (tile_in nodes.new) }
-    ensures few { looks.new ≤ looks.old + 1 }
+    ensures looks { (a : TileOf) → tile_in nodes.old key ≡ Some a
+        → looks.new ≡ looks.old + cond (a.end == whole) 0 1 }
 {
     let node = nodes[key];
     if node.tile.end == whole {

@@ -58,6 +58,14 @@ impl Known {
         }
     }
 
+    /// Counts a search of all tiles.
+    #[inline(always)]
+    pub(crate) fn count(&mut self)
+        ensures { self.new.full ≡ self.old.full }
+    {
+        self.searches = self.searches.wrapping_add(1);
+    }
+
     /// How many searches of all tiles were made, modulo 2^64.
     pub(crate) fn searches(&self) -> u64 {
         self.searches
@@ -196,7 +204,7 @@ fn find_beyond<A: Allocator>(
             return Some(last);
         }
     }
-    known.searches = known.searches.wrapping_add(1);
+    known.count();
     let found = search_room(nodes, size, align_mask);
     if let Some(key) = found {
         known.found = key;

@@ -123,6 +123,20 @@ impl Chunks {
         )
     }
 
+    /// Finds a block under its own key.
+    fn seek(&mut self, rt: &impl Abort, block: &FitBlock<SimMemory>)
+        ensures { self.new ≡ self.old }
+    {
+        let (object, own) = (block.memory().object(), key_of(block));
+        let found = self
+            .allocator
+            .find(own, object, block.offset(), block.size());
+        match found {
+            Some((_, key)) => holds(rt, key == own, "a block under another key"),
+            None => panic!(rt; "a block that is not found"),
+        }
+    }
+
     /// Releases the chunk in which no block is live, if there is one.
     fn clean(&mut self)
         ensures leaves { Leaves self.old self.new }
@@ -163,6 +177,7 @@ impl Chunks {
         } = self;
         drop(device);
         holds(rt, remaining == MOST, "objects held at the end");
+        assert!(rt; allocator.is_empty());
         allocator.close();
     }
 }
@@ -282,7 +297,16 @@ impl Hand for Exact {
     fn dealloc(&mut self, rt: &impl Abort, at: usize, key: Option<usize>) {
         assert!(rt; at < self.blocks.len());
         let block = self.blocks.remove(at);
+        let before = self.chunks.allocator.searches();
+        self.chunks.seek(rt, &block);
         put_back::<Brand>(&mut self.chunks, block, key, Blank::new(1));
+        let searched = self.chunks.allocator.searches();
+        let most = if key.is_some() { 1 } else { 0 };
+        holds(
+            rt,
+            searched <= before.saturating_add(most),
+            "a block with its own key was searched for",
+        );
     }
 
     fn clean(&mut self) {
@@ -307,7 +331,7 @@ impl Hand for Exact {
 /// Whatever is allocated and returned, each block lies exactly as long as requested in a free run with room, or begins
 /// a chunk where no run has room. A wholly free chunk is released where there is another one, and no call searches
 /// twice. If not, blocks would share bytes, a device would be asked for chunks that nobody needs, or a full allocator
-/// would be slow.
+/// would be slow, as a return would be that searched for a block with its own key.
 #[test]
 fn drawn_calls_leave_exact_runs(rt: HostRuntime) -> Result<(), Fail> {
     try_lists::<Exact>(&rt, rt.alloc(), 31, Rule::Any, Keys::Own)
