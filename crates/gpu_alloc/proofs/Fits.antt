@@ -1,6 +1,7 @@
 -- Each memory type's allocator of fit chunks, as the whole allocator's state tells of it.
 pub mod Answers
 pub mod Going
+pub mod Grains
 pub mod Grants
 pub mod Returns
 pub mod Served

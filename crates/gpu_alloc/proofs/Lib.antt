@@ -24,6 +24,7 @@ pub mod InHand
 pub mod InPages
 pub mod Ledgers
 pub mod Linked
+pub mod Links
 pub mod LongestRanges
 pub mod MayAsk
 pub mod NewObjects

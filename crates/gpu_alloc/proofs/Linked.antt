@@ -23,8 +23,8 @@ use Rattle.gpu_alloc_block.proofs.Parts.Steps.{holds_of, own_part, part_span}
 use Rattle.gpu_alloc_block.proofs.Parts.Unions.{live_of}
 use Rattle.gpu_alloc_buddy.specs.BuddyState.{IsLiveBuddyLeaf}
 use Rattle.gpu_alloc_freelist.specs.FreeListState.{IsLiveSlot}
-use Rattle.gpu_alloc.specs.Inside.{fit_object, AreFits, IsChosen, IsFitChunkOf, IsFitFor, IsFitForType, IsFitLinked}
-use Rattle.gpu_alloc.specs.Inside.{chunk_object, leaf_at, list_object, properties_in, slot_at, span_of_leaf, span_of_slot, state_in, AreBuddies, AreLists, IsBooked, IsBuddyFor, IsChunkOf, IsForType, IsTableOfBuddy, IsListFor, IsListForType, IsListLinked, IsNumberedChunk}
+use Rattle.gpu_alloc.specs.Inside.{fit_object, AreFits, IsChosen, IsFitFor, IsFitForType, HasFitSizes}
+use Rattle.gpu_alloc.specs.Inside.{chunk_object, list_object, properties_in, span_of_leaf, span_of_slot, state_in, AreBuddies, AreLists, IsBooked, IsBuddyFor, IsForType, IsListFor, IsListForType}
 use Rattle.gpu_alloc.specs.Own.{OwnTable}
 use Rattle.gpu_alloc.specs.declared.limits.Limits.{Limits}
 use Rattle.gpu_alloc.specs.Whole.{buddy_part, fit_part, list_part, parts_of, whole, AreOneWhole, IsKept, IsPartFor}
@@ -35,6 +35,7 @@ use Rattle.gpu_alloc_fit.specs.Fit.{Fitting}
 use Rattle.gpu_alloc_fit.specs.FitSound as fit
 use Rattle.gpu_alloc_fits.specs.Space.{IsLiveSlot as IsLiveFit}
 use Rattle.gpu_alloc.specs.Sound.{is_chosen}
+use Rattle.gpu_alloc.proofs.Links.{IsChunkOf, IsFitChunkOf, IsFitLinked, IsListLinked, IsNumberedChunk, IsTableOfBuddy, leaf_at, slot_at}
 use Rattle.gpu_alloc_block.specs.declared.sharing.Sharing.{Sharing}
 use Rattle.gpu_alloc_base.proofs.Maps.{own_inserted}
 use Rattle.gpu_alloc_base.proofs.Names.{one_or_two, get_put-other, get_removed, get_removed-other}
@@ -56,6 +57,7 @@ pub record IsListOf (c : Config) (p : Properties) (t : Table) (index : ℕ) (l :
 
 pub record IsFitOf (c : Config) (p : Properties) (t : Table) (index : ℕ) (f : Fitting) : Type 0 where
   pub for_type : IsFitForType c p index f
+  pub sized : HasFitSizes c p index f
   pub sound : fit.IsSoundFitting f
   pub linked : IsFitLinked t f
 
@@ -212,7 +214,7 @@ module _ (sharing : Sharing) (c : Config) (p : Properties) (heaps : List Heap) (
 
       fits_each : (i : ℕ) (o : Option Fitting) → slice_get fits i ≡ o → IfSome o (IsFitFor c p i) → IfSome o (IsFitOf c p t i)
       fits_each i None there is = tt
-      fits_each i (Some f) there is = record { for_type = is.for_type; sound = is.sound; linked = fit_linked i f there is }
+      fits_each i (Some f) there is = record { for_type = is.for_type; sized = is.sized; sound = is.sound; linked = fit_linked i f there is }
 
 -- And back: what is not said of the whole.
 
@@ -227,7 +229,7 @@ pub lists_for : (c : Config) (p : Properties) (t : Table) (lists : List Listing)
 lists_for c p t lists has = record { count = has.count; each = λ i. some_for (IsListOf c p t i) (IsListFor c p i) (slice_get lists i) (λ l of. record { for_type = of.for_type; sound = of.sound }) (has.each i) }
 
 pub fits_for : (c : Config) (p : Properties) (t : Table) (fits : List Fitting) → HasFits c p t fits → AreFits c p fits
-fits_for c p t fits has = record { count = has.count; each = λ i. some_for (IsFitOf c p t i) (IsFitFor c p i) (slice_get fits i) (λ f of. record { for_type = of.for_type; sound = of.sound }) (has.each i) }
+fits_for c p t fits has = record { count = has.count; each = λ i. some_for (IsFitOf c p t i) (IsFitFor c p i) (slice_get fits i) (λ f of. record { for_type = of.for_type; sized = of.sized; sound = of.sound }) (has.each i) }
 
 -- What is held is as it was chosen: as before, with one more that is, or with fewer.
 

@@ -24,7 +24,7 @@ use Rattle.gpu_alloc_base.specs.FreeSpace.{IsMultipleOf}
 use Rattle.gpu_alloc_base.specs.Heap.{unused}
 use Rattle.gpu_alloc_base.proofs.ChunkSizes.{cut_whole, starting_fits}
 use Rattle.gpu_alloc_base.proofs.Multiples.{multiple_min, multiple_times}
-use Rattle.gpu_alloc.specs.FitSharing.{grain, largest_fit}
+use Rattle.gpu_alloc.specs.FitSharing.{IsFitChunkSize, grain, largest_fit}
 use Rattle.gpu_alloc.specs.Inside.{IsBooked, IsBuddyFor, IsFitFor, IsKnown, IsLedger, IsListFor, IsLiveIn, AreSmall, types_in, lists_in, fits_in}
 use Rattle.gpu_alloc.specs.Own.{OwnTable}
 use Rattle.gpu_alloc.specs.Whole.{whole, IsKept}
@@ -81,6 +81,9 @@ largest_whole c heap g = multiple_min g (4 * starting_size c heap g) (final_size
 -- and no less than the first one's
 pub starting_within : (c : Config) (heap g : ℕ) → 0 < g → starting_size c heap g ≤ largest_fit c heap g
 starting_within c heap g some = let fits = starting_fits c heap g some in omega arith
+
+pub first_sized : (c : Config) (heap g : ℕ) → 0 < g → IsFitChunkSize c heap g (starting_size c heap g)
+first_sized c heap g some = let fits = starting_within c heap g some in (0, omega (arith, fits))
 
 -- what holds of each element by its index, with one more
 each_more : {X : Type 0} (P : ℕ → X → Type 0) (xs : List X) (x : X) → ((i : ℕ) → IfSome (slice_get xs i) (P i)) → P (length xs) x → (i : ℕ) → IfSome (slice_get (xs ++ x ∷ []) i) (P i)
@@ -258,6 +261,13 @@ fit_for c p i f is sound = record {
     props = ap (λ (x : Fitting). x.props) is;
     atom = ap (λ (x : Fitting). x.atom) is;
     final_chunk = ap (λ (x : Fitting). x.final_chunk) is;
+  };
+  sized = record {
+    next = subst (IsFitChunkSize c (heap_size p i) (grain (atom_of p i))) (sym (ap (λ (x : Fitting). x.next_chunk) is)) (first_sized c (heap_size p i) (grain (atom_of p i)) (omega arith));
+    chunks = λ key chunk held. absurd (
+        let none = ap (λ (x : Fitting). finite.get x.space.chunks key) is ∙ finite.get-empty nat_cmp key in
+        let never : None ≡ Some chunk = sym none ∙ held in
+        cc);
   };
   sound = sound;
 }

@@ -3,25 +3,26 @@ use Rattle.std.proofs.Common.{◌≡◌, ◌≢◌, ◌⊎◌, inl, inr, ℕ, ze
 use Rattle.std.proofs.lemmas.Bool.{cases_eq, cases_lt, cases_Bool}
 use Rattle.std.proofs.lemmas.Nat.{pow_pos}
 use Rattle.std.specs.FinMap as map
-use Rattle.gpu_alloc_types.specs.Properties.{Properties, atom_of, is_non_coherent}
+use Rattle.gpu_alloc_types.specs.Properties.{Properties, atom_of, heap_size, is_non_coherent}
 use Rattle.gpu_alloc_buddy.specs.BuddyState.{Buddy, IsLiveBuddyLeaf}
 use Rattle.gpu_alloc_base.specs.Chunks.{Chunk}
 use Rattle.gpu_alloc_freelist.specs.FreeListState.{Listing, IsLiveSlot}
 use Rattle.gpu_alloc_base.specs.FreeSpace.{IsIn, IsMultipleOf, IsPowerOfTwo}
 use Rattle.gpu_alloc.specs.Atoms.{KeepsAtoms, IsNextFitChunk, IsNextListChunk}
-use Rattle.gpu_alloc.specs.FitSharing.{next_fit_chunk, IsFitChunk}
+use Rattle.gpu_alloc.specs.FitSharing.{grain, grain_of, next_fit_chunk, IsFitChunk, IsFitChunkSize, IsFitSize}
 use Rattle.gpu_alloc.specs.FreeListSharing.{IsListChunk, latest_number, next_list_chunk}
 use Rattle.gpu_alloc.specs.FirstTypes.{first_types, first_type_state}
-use Rattle.gpu_alloc.specs.Inside.{state_in, properties_in, types_in, lists_in, span_of_leaf, leaf_at, span_of_slot, slot_at, IsLiveIn, IsChunkOf, IsFitChunkOf, IsNumberedChunk, IsKnown, offer_of}
+use Rattle.gpu_alloc.specs.Inside.{state_in, properties_in, types_in, lists_in, span_of_leaf, span_of_slot, IsLiveIn, IsKnown, offer_of}
 use Rattle.gpu_alloc.proofs.Linked.{IsBuddyOf, IsFitOf, IsListOf, IsConsistent}
 use Rattle.gpu_alloc.specs.Sound.{IsSound, IsUnused, LiesIn, may_be_unused}
-use Rattle.gpu_alloc.specs.Spans.{Place, Table}
+use Rattle.gpu_alloc.specs.Spans.{Table}
 use Rattle.gpu_alloc_block.specs.State.{HeldObject, Span, State, TypeState, AreSpansApart, is_shared}
 use Rattle.gpu_alloc_block.specs.declared.block.Kind.TheVariants.{BuddyChunk, FreeListChunk, FitChunk}
 use Rattle.gpu_alloc_block.specs.declared.sharing.Sharing.{Sharing}
 use Rattle.gpu_alloc_base.specs.declared.config.Config.{Config}
 use Rattle.gpu_alloc_base.specs.declared.heap.Heap.{Heap}
 use Rattle.gpu_alloc.specs.declared.limits.Limits.{Limits}
+use Rattle.gpu_alloc.proofs.Links.{IsChunkOf, IsFitChunkOf, IsNumberedChunk, Place, leaf_at, slot_at}
 use Rattle.gpu_alloc.proofs.Consistency.{chunk_kinds}
 use Rattle.gpu_alloc.proofs.HeapLists.{heap_is}
 use Rattle.std.proofs.lemmas.List.{length-map}
@@ -175,6 +176,12 @@ module _ {c : Config} {p : Properties} {t : Table} {f : Fitting} {object : ℕ} 
       let of' = of_fit y slot'.0 slot'.1 same in
       ranges_apart x.offset x.size y.offset y.size of.2 of'.2
       (λ at i j. other (ap span_of_slot (is.sound.space.apart (slot_at x slot.0) (slot_at y slot'.0) slot.1 slot'.1 (of.0 ∙ sym of'.0) at i j)))
+
+  -- a live span lies in it from grain to grain
+  fit_grains : (span : Span) → IsLiveIn t span → span.object ≡ object → IsMultipleOf (grain (atom_of p h.memory_type)) span.offset × IsMultipleOf (grain (atom_of p h.memory_type)) span.size
+  fit_grains span live named =
+      let slot = fit_slot span live named in
+      subst (λ g. IsMultipleOf g span.offset × IsMultipleOf g span.size) is.for_type.atom (is.sound.slots (slot_at span slot.0) slot.1)
 
   -- without a live span it is wholly free
   wholly_free : ((span : Span) → IsLiveIn t span → span.object ≢ object) → IsWhollyFree f.space fit_key.0
@@ -340,6 +347,9 @@ module _ {A : Type 0} (l : Limits A) (heaps : List Heap) (buddies : List Buddy) 
           bound = omega (arith, given.final_chunk, sound.final_chunk.1);
         }
 
+    next_fit_sized : IsFitSize s index (next_fit_chunk s index)
+    next_fit_sized = subst (IsFitSize s index) (sym next_fit_is) fitting_own.sized.next
+
   -- The chunks of its free list.
 
   type_known : (object : ℕ) → IsListChunk s index number object → index < length (properties_in l heaps).memory_types
@@ -380,7 +390,22 @@ module _ {A : Type 0} (l : Limits A) (heaps : List Heap) (buddies : List Buddy) 
       let own = list_own known in
       subst (λ n. IsMultipleOf n span.offset) own.for_type.atom (own.sound.slots (slot_at span number) (own.linked.spans span number of.chunk live (numbered_in (own_list known).0 own span.object of))).0
 
-  -- Its fit chunks: of those without a live span there is one.
+  -- Its fit chunks: their sizes, and the live spans in them.
+
+  fit_sized : (object : ℕ) (of : IsFitChunk s index object) → IsFitSize s index of.chunk.counted
+  fit_sized object of =
+      let there = fit_at is object of.chunk of.held in
+      let key = fit_key there.1 of.held of.of_kind in
+      let p = properties_in l heaps in
+      subst (λ i. IsFitChunkSize l.config (heap_size p i) (grain (atom_of p i)) of.chunk.counted) of.of_type (there.1.sized.chunks key.0 (chunk_at object of.chunk) key.1)
+
+  fit_whole : (span : Span) → IsFitChunk s index span.object → IsLiveIn t span → IsMultipleOf (grain_of s index) span.offset × IsMultipleOf (grain_of s index) span.size
+  fit_whole span of live =
+      let there = fit_at is span.object of.chunk of.held in
+      let p = properties_in l heaps in
+      subst (λ i. IsMultipleOf (grain (atom_of p i)) span.offset × IsMultipleOf (grain (atom_of p i)) span.size) of.of_type (fit_grains there.1 of.held of.of_kind span live refl)
+
+  -- Of those without a live span there is one.
 
   module _ (f : Fitting) (own : IsFitOf l.config (properties_in l heaps) t index f) where
     own_fit : (object : ℕ) (of : IsFitChunk s index object) → IsFitOf l.config (properties_in l heaps) t of.chunk.memory_type f
@@ -411,6 +436,9 @@ sound_is l heaps buddies lists fits t remaining is = record {
   numbered = λ index number object. within l heaps buddies lists fits t remaining is index number object;
   chosen = is.chosen;
   one_unused = λ index a b. one_idle l heaps buddies lists fits t remaining is index 0 a b;
+  fit_sizes = λ index object. fit_sized l heaps buddies lists fits t remaining is index 0 object;
+  next_fit = λ index. next_fit_sized l heaps buddies lists fits t remaining is index 0;
+  fit = λ index span. fit_whole l heaps buddies lists fits t remaining is index 0 span;
   within = λ heap inside.
       let there : heap < length heaps = omega (arith, inside, length-map heaps offer_of) in
       let own = there_is heaps heap there in

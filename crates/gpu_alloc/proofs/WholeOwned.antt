@@ -20,12 +20,13 @@ use Rattle.gpu_alloc_buddy.specs.BuddyState.{Buddy, IsLiveBuddySpan, IsNoLiveBud
 use Rattle.gpu_alloc_fit.specs.Fit.{Fitting}
 use Rattle.gpu_alloc_fits.specs.Space.{IsLiveFitSpan, IsNoLiveFitSpan}
 use Rattle.gpu_alloc_freelist.specs.FreeListState.{Listing, IsLiveSlot}
-use Rattle.gpu_alloc.specs.Inside.{IsBuddyFor, IsFitFor, IsListFor, chunk_object, fit_object, list_object, properties_in, slot_at, span_of_leaf, span_of_slot, state_in}
+use Rattle.gpu_alloc.specs.Inside.{IsBuddyFor, IsFitFor, IsListFor, chunk_object, fit_object, list_object, properties_in, span_of_leaf, span_of_slot, state_in}
 use Rattle.gpu_alloc.specs.Own.{OwnTable, IsRowOf, own_held, own_span}
 use Rattle.gpu_alloc.specs.Spans.{span_at}
 use Rattle.gpu_alloc.specs.Whole.{IsKept, IsPartFor, buddy_part, fit_part, list_part, own_part as part_of_own, parts_of, whole}
 use Rattle.gpu_alloc.specs.declared.limits.Limits.{Limits}
 use Rattle.gpu_alloc.specs.declared.own.OwnRow.{OwnRow}
+use Rattle.gpu_alloc.proofs.Links.{slot_at}
 use Rattle.gpu_alloc.proofs.WholeParts.{next_buddy, next_fit, next_list}
 use Rattle.gpu_alloc.proofs.Wholes.{at_buddy, at_fit, at_list, at_read, held_here, held_whole, live_here, single}
 

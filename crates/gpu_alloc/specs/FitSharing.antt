@@ -1,5 +1,5 @@
 -- Blocks in the fit chunks of a memory type, in terms of the whole allocator's state.
-use Rattle.std.specs.Prelude.{◌≡◌, ℕ, zero, suc, ◌+◌, ◌-◌, ◌*◌, ◌/◌, ◌<◌, ◌≤◌, Bool, List, [], ◌∷◌, Option, Some, None, max, min, nat_le, slice_get}
+use Rattle.std.specs.Prelude.{◌≡◌, ℕ, zero, suc, ◌+◌, ◌-◌, ◌*◌, ◌/◌, ◌^◌, ◌<◌, ◌≤◌, Bool, List, [], ◌∷◌, Option, Some, None, max, min, nat_le, slice_get}
 use Rattle.std.specs.FinMap as map
 use Rattle.gpu_alloc_types.specs.Properties.{heap_size, atom_of, is_host_visible}
 use Rattle.gpu_alloc_block.specs.declared.block.Kind.TheVariants.{FitChunk}
@@ -30,6 +30,18 @@ first_fit c heap g = down (min c.starting_free_list_chunk (heap / 32)) g
 abbrev pub largest_fit : Config → ℕ → ℕ → ℕ
 largest_fit c heap g = min (4 * starting_size c heap g) (final_size c heap g)
 
+-- a size that a fit chunk can have: that of the first, doubled any number of times and cut at the largest
+abbrev pub IsFitChunkSize : Config → ℕ → ℕ → ℕ → Type 0
+IsFitChunkSize c heap g size = (n : ℕ) × (size ≡ min (starting_size c heap g * 2 ^ n) (largest_fit c heap g))
+
+-- what such a size is: some whole grains, no less than the first and at most four times as much, and no more than a 32nd
+-- of the heap or a single grain
+pub record IsSmallChunk (c : Config) (heap g size : ℕ) : Type 0 where
+  pub whole : IsMultipleOf g size
+  pub least : starting_size c heap g ≤ size
+  pub four_times : size ≤ 4 * starting_size c heap g
+  pub part : size ≤ max g (heap / 32)
+
 -- what these sizes guarantee: the first chunk has room for every request that shares one, and a later one is no smaller
 -- and at most four times as large. None is larger than a 32nd of the heap or a single grain
 pub record AreSmall (c : Config) (heap g : ℕ) : Type 0 where
@@ -41,6 +53,13 @@ pub record AreSmall (c : Config) (heap g : ℕ) : Type 0 where
 -- every configuration has such sizes
 pub record FitChunksAreSmall : Type 0 where
   pub each : (c : Config) (heap g : ℕ) → 0 < g → AreSmall c heap g
+
+-- the sizes of a memory type's fit chunks
+abbrev pub IsFitSize : State → ℕ → ℕ → Type 0
+IsFitSize s t size = IsFitChunkSize s.config (heap_size s.properties t) (grain_of s t) size
+
+abbrev pub IsSmallFit : State → ℕ → ℕ → Type 0
+IsSmallFit s t size = IsSmallChunk s.config (heap_size s.properties t) (grain_of s t) size
 
 -- the size of a block for a request, in whole grains
 abbrev pub fit_size : State → Request → ℕ → ℕ

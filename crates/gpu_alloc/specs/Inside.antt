@@ -13,19 +13,18 @@ use Rattle.gpu_alloc_base.specs.declared.config.Config.{Config}
 use Rattle.gpu_alloc_base.specs.declared.free_list_block.Slot.{Slot}
 use Rattle.gpu_alloc_base.specs.declared.heap.Heap.{Heap}
 use Rattle.gpu_alloc_buddy.specs.BuddySound.{IsSoundBuddy}
-use Rattle.gpu_alloc_buddy.specs.BuddyState.{Buddy, IsLiveBuddyLeaf}
+use Rattle.gpu_alloc_buddy.specs.BuddyState.{Buddy}
 use Rattle.gpu_alloc_base.specs.Chunks.{Chunk}
 use Rattle.gpu_alloc_fit.specs.Fit.{Fitting}
 use Rattle.gpu_alloc_fit.specs.FitSound as fit
-use Rattle.gpu_alloc_fits.specs.Space as fit_space
 use Rattle.gpu_alloc_freelist.specs.FreeListSound as list
-use Rattle.gpu_alloc_freelist.specs.FreeListState.{Listing, IsLiveSlot}
+use Rattle.gpu_alloc_freelist.specs.FreeListState.{Listing}
 use Rattle.gpu_alloc_base.specs.Sizes.{minimal_size, final_size}
 use Rattle.gpu_alloc.specs.Budget.{asked_share}
 use Rattle.gpu_alloc.specs.FirstTypes.{first_types}
-use Rattle.gpu_alloc.specs.FitSharing.{grain, largest_fit}
+use Rattle.gpu_alloc.specs.FitSharing.{IsFitChunkSize, grain, largest_fit}
 use Rattle.gpu_alloc.specs.Sound.{LiesIn, is_chosen}
-use Rattle.gpu_alloc.specs.Spans.{Place, Table}
+use Rattle.gpu_alloc.specs.Spans.{Table}
 use Rattle.gpu_alloc_block.specs.State.{HeldObject, Span, TypeState, State, share, is_shared}
 
 -- a heap as the device offers it
@@ -123,28 +122,8 @@ AreLedgers p heaps entries = (heap : ℕ) → IfSome (slice_get heaps heap) (IsL
 abbrev pub chunk_object : Buddy → Chunk → HeldObject
 chunk_object b c = record { memory_type = b.memory_type; counted = c.size; kind = BuddyChunk }
 
--- the object is held as a chunk of this memory type
-pub record IsChunkOf (t : Table) (memory_type object : ℕ) (h : HeldObject) : Type 0 where
-  pub held : map_of.get t.held object ≡ Some h
-  pub of_kind : h.kind ≡ BuddyChunk
-  pub of_type : h.memory_type ≡ memory_type
-
 abbrev pub span_of_leaf : Leaf → Span
 span_of_leaf leaf = record { object = leaf.object; offset = leaf.offset; size = leaf.size }
-
-abbrev pub leaf_at : Span → Place → Leaf
-leaf_at span place =
-    record { object = span.object; chunk = place.chunk; offset = span.offset; size = span.size; index = place.index }
-
--- Both have the same chunks and the same blocks in them.
-pub record IsTableOfBuddy (t : Table) (b : Buddy) : Type 0 where
-  pub chunks : (key : ℕ) (c : Chunk) → map_of.get b.chunks key ≡ Some c
-      → map_of.get t.held c.object ≡ Some (chunk_object b c)
-  pub objects : (object : ℕ) (h : HeldObject) → IsChunkOf t b.memory_type object h → (key : ℕ)
-      × (map_of.get b.chunks key ≡ Some (record { object = object; size = h.counted }))
-  pub leaves : (leaf : Leaf) → IsLiveBuddyLeaf b leaf → IsLiveIn t (span_of_leaf leaf)
-  pub spans : (span : Span) (h : HeldObject) → IsLiveIn t span → IsChunkOf t b.memory_type span.object h
-      → (place : Place) × IsLiveBuddyLeaf b (leaf_at span place)
 
 -- what a memory type's buddy allocator was given
 pub record IsForType (c : Config) (p : Properties) (index : ℕ) (b : Buddy) : Type 0 where
@@ -169,27 +148,8 @@ pub record AreBuddies (c : Config) (p : Properties) (buddies : List Buddy) : Typ
 abbrev pub list_object : Listing → ℕ → Chunk → HeldObject
 list_object l number c = record { memory_type = l.memory_type; counted = c.size; kind = FreeListChunk number }
 
--- the object is held as the chunk with this number of this memory type
-pub record IsNumberedChunk (t : Table) (memory_type number object : ℕ) (h : HeldObject) : Type 0 where
-  pub held : map_of.get t.held object ≡ Some h
-  pub of_kind : h.kind ≡ FreeListChunk number
-  pub of_type : h.memory_type ≡ memory_type
-
 abbrev pub span_of_slot : Slot → Span
 span_of_slot slot = record { object = slot.object; offset = slot.offset; size = slot.size }
-
-abbrev pub slot_at : Span → ℕ → Slot
-slot_at span number = record { object = span.object; chunk = number; offset = span.offset; size = span.size }
-
--- Both have the same chunks under the same numbers, and the same blocks in them.
-pub record IsListLinked (t : Table) (l : Listing) : Type 0 where
-  pub chunks : (number : ℕ) (c : Chunk) → map_of.get l.space.chunks number ≡ Some c
-      → map_of.get t.held c.object ≡ Some (list_object l number c)
-  pub objects : (number object : ℕ) (h : HeldObject) → IsNumberedChunk t l.memory_type number object h
-      → map_of.get l.space.chunks number ≡ Some (record { object = object; size = h.counted })
-  pub slots : (slot : Slot) → IsLiveSlot l.space slot → IsLiveIn t (span_of_slot slot)
-  pub spans : (span : Span) (number : ℕ) (h : HeldObject) → IsLiveIn t span
-      → IsNumberedChunk t l.memory_type number span.object h → IsLiveSlot l.space (slot_at span number)
 
 -- what a memory type's free list was given
 pub record IsListForType (c : Config) (p : Properties) (index : ℕ) (l : Listing) : Type 0 where
@@ -214,22 +174,6 @@ pub record AreLists (c : Config) (p : Properties) (lists : List Listing) : Type 
 abbrev pub fit_object : Fitting → Chunk → HeldObject
 fit_object f c = record { memory_type = f.memory_type; counted = c.size; kind = FitChunk }
 
--- the object is held as a fit chunk of this memory type
-pub record IsFitChunkOf (t : Table) (memory_type object : ℕ) (h : HeldObject) : Type 0 where
-  pub held : map_of.get t.held object ≡ Some h
-  pub of_kind : h.kind ≡ FitChunk
-  pub of_type : h.memory_type ≡ memory_type
-
--- Both have the same chunks and the same blocks in them.
-pub record IsFitLinked (t : Table) (f : Fitting) : Type 0 where
-  pub chunks : (key : ℕ) (c : Chunk) → map_of.get f.space.chunks key ≡ Some c
-      → map_of.get t.held c.object ≡ Some (fit_object f c)
-  pub objects : (object : ℕ) (h : HeldObject) → IsFitChunkOf t f.memory_type object h → (key : ℕ)
-      × (map_of.get f.space.chunks key ≡ Some (record { object = object; size = h.counted }))
-  pub slots : (slot : Slot) → fit_space.IsLiveSlot f.space slot → IsLiveIn t (span_of_slot slot)
-  pub spans : (span : Span) (h : HeldObject) → IsLiveIn t span → IsFitChunkOf t f.memory_type span.object h
-      → (key : ℕ) × fit_space.IsLiveSlot f.space (slot_at span key)
-
 -- what a memory type's allocator of fit chunks was given
 pub record IsFitForType (c : Config) (p : Properties) (index : ℕ) (f : Fitting) : Type 0 where
   pub memory_type : f.memory_type ≡ index
@@ -237,9 +181,16 @@ pub record IsFitForType (c : Config) (p : Properties) (index : ℕ) (f : Fitting
   pub atom : f.atom ≡ grain (atom_of p index)
   pub final_chunk : f.final_chunk ≡ largest_fit c (heap_size p index) (grain (atom_of p index))
 
+-- its chunks and its next one have sizes that fit chunks can have
+pub record HasFitSizes (c : Config) (p : Properties) (index : ℕ) (f : Fitting) : Type 0 where
+  pub next : IsFitChunkSize c (heap_size p index) (grain (atom_of p index)) f.next_chunk
+  pub chunks : (key : ℕ) (chunk : Chunk) → map_of.get f.space.chunks key ≡ Some chunk
+      → IsFitChunkSize c (heap_size p index) (grain (atom_of p index)) chunk.size
+
 -- and it is sound
 pub record IsFitFor (c : Config) (p : Properties) (index : ℕ) (f : Fitting) : Type 0 where
   pub for_type : IsFitForType c p index f
+  pub sized : HasFitSizes c p index f
   pub sound : fit.IsSoundFitting f
 
 -- each memory type has an allocator of fit chunks

@@ -1,11 +1,11 @@
 -- What holds of an allocator between calls.
-use Rattle.std.specs.Prelude.{◌≡◌, ◌≢◌, ℕ, ◌+◌, ◌<◌, ◌≤◌, Bool, true, false, Some, IfSome}
+use Rattle.std.specs.Prelude.{◌≡◌, ◌≢◌, ℕ, ◌+◌, ◌<◌, ◌≤◌, Bool, true, false, Some, IfSome, length}
 use Rattle.std.specs.FinMap as map
 use Rattle.gpu_alloc_base.specs.FreeSpace.{IsMultipleOf, IsPowerOfTwo}
 use Rattle.gpu_alloc_block.specs.declared.block.Kind.{Kind}
 use Rattle.gpu_alloc_block.specs.declared.block.Kind.TheVariants.{Dedicated, Imported, BuddyChunk, FreeListChunk, FitChunk}
 use Rattle.gpu_alloc.specs.Budget.{AreLimits, IsWithinHeaps}
-use Rattle.gpu_alloc.specs.FitSharing.{IsFitChunk}
+use Rattle.gpu_alloc.specs.FitSharing.{IsFitChunk, IsFitSize, grain_of, next_fit_chunk}
 use Rattle.gpu_alloc.specs.FreeListSharing.{IsListChunk, latest_number}
 use Rattle.gpu_alloc_block.specs.declared.sharing.Sharing.{Sharing}
 use Rattle.gpu_alloc_block.specs.declared.sharing.Sharing.TheVariants.{Buddy, Fit}
@@ -69,6 +69,12 @@ pub record IsSound (s : State) : Type 0 where
   pub chosen : (object : ℕ) (h : HeldObject) → map.get s.held object ≡ Some h → is_chosen s.sharing h.kind ≡ true
   -- of a memory type's fit chunks at most one has no live span
   pub one_unused : (t a b : ℕ) → IsFitChunk s t a → IsFitChunk s t b → IsUnused s a → IsUnused s b → a ≡ b
+  -- each has a size that fit chunks can have, and so has a memory type's next one
+  pub fit_sizes : (t object : ℕ) (is : IsFitChunk s t object) → IsFitSize s t is.chunk.counted
+  pub next_fit : (t : ℕ) → t < length s.properties.memory_types → IsFitSize s t (next_fit_chunk s t)
+  -- and a live span in it starts and ends at grains
+  pub fit : (t : ℕ) (span : Span) → IsFitChunk s t span.object → IsLive s span → IsMultipleOf (grain_of s t) span.offset
+      × IsMultipleOf (grain_of s t) span.size
   -- apart from imports, no more of a heap is held than it has
   pub within : IsWithinHeaps s
   -- and no limit exceeds its heap's size

@@ -7,11 +7,6 @@ use Rattle.gpu_alloc_base.specs.declared.buddy_block.Leaf.{Leaf as LiveSpan}
 use Rattle.gpu_alloc_block.specs.State.{HeldObject, Span, span_cmp}
 use Rattle.gpu_alloc.specs.declared.spans.HeldRow.{HeldRow}
 
--- where a block stands in a buddy allocator: its chunk, and its index there
-pub record Place : Type 0 where
-  pub chunk : ℕ
-  pub index : ℕ
-
 -- the held objects by name, and the live spans
 pub record Table : Type 0 where
   pub held : map_of.FinMap nat_cmp HeldObject

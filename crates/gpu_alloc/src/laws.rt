@@ -17,11 +17,12 @@ ghost use Rattle.gpu_alloc_buddy.specs.BuddyState.{Buddy, IsFreeInBuddy};
 ghost use Rattle.gpu_alloc_base.specs.Config.{potato, prototyping};
 ghost use Rattle.gpu_alloc.specs.FreeBytes.{IsFreeByte};
 ghost use Rattle.gpu_alloc.specs.FreeRanges.{HasByte, IsFreeOf, IsFreeRangeOf};
-ghost use Rattle.gpu_alloc.specs.FitSharing.{FitChunksAreSmall, HasFitPlace, fit_alignment, fit_question, fit_size, largest_fit};
-ghost use Rattle.gpu_alloc.specs.FitSharing.{with_fit_chunk};
+ghost use Rattle.gpu_alloc.specs.FitSharing.{FitChunksAreSmall, HasFitPlace, IsFitChunk, IsSmallFit, fit_alignment, fit_question, fit_size, grain_of, largest_fit};
+ghost use Rattle.gpu_alloc.specs.FitSharing.{next_fit_chunk, with_fit_chunk};
 ghost use Rattle.gpu_alloc_freelist.specs.FreeList.{HasPlace};
 ghost use Rattle.gpu_alloc_freelist.specs.FreeListState.{ListSpace, IsFreeIn};
 ghost use Rattle.gpu_alloc_base.specs.FreeRuns.{tail_start};
+ghost use Rattle.gpu_alloc_base.specs.FreeSpace.{IsMultipleOf};
 ghost use Rattle.gpu_alloc.specs.FreeListSharing.{IsFreeInChunk, HasListPlace, list_size, list_alignment};
 ghost use Rattle.gpu_alloc.specs.FreeListSharing.{list_question};
 ghost use Rattle.gpu_alloc_base.specs.declared.region.FreeListRegion.{FreeListRegion};
@@ -129,10 +130,22 @@ pub fn free_list_chunks_of_samples()
 {}
 
 /// Sizes of fit chunks, for every configuration, heap and grain. The first one has room for every request that shares
-/// one. A later one is no smaller and at most four times as large. None is larger than a 32nd of its heap, or a single
-/// grain.
+/// one (`sizes`). Whatever calls were made, each held one has whole grains, no fewer bytes than the first and at most
+/// four times as many, and none is larger than a 32nd of its heap, or a single grain (`held`). The same holds of the
+/// least size of the next one (`next`).
 pub fn fit_chunks_are_small()
-    ensures { FitChunksAreSmall }
+    ensures sizes { FitChunksAreSmall }
+    ensures held { (s : State) → IsSound s → (t object : ℕ) (is : IsFitChunk s t object)
+        → IsSmallFit s t (is.chunk).counted }
+    ensures next { (s : State) → IsSound s → (t : ℕ) → t < length s.properties.memory_types
+        → IsSmallFit s t (next_fit_chunk s t) }
+{}
+
+/// A fit chunk is cut at grains alone: each free range of it starts and ends at a multiple of the grain, as its live
+/// spans do by the soundness of the allocator.
+pub fn fit_chunks_are_cut_at_grains()
+    ensures { (s : State) → IsSound s → (t : ℕ) (r : FreeRange) → IsFreeRangeOf s t r → IsFitChunk s t r.object
+        → IsMultipleOf (grain_of s t) r.start × IsMultipleOf (grain_of s t) r.end }
 {}
 
 /// Fit chunks and their blocks, where fit chunks are chosen: sizes and alignments up to the grain, and the questions

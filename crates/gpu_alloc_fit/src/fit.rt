@@ -321,14 +321,13 @@ impl<M: MemoryObject, A: Allocator> FitAllocator<M, A> {
     /// `offset` is where it starts in the object and `size` how long it is, in bytes: any two numbers.
     ///
     /// The answer is the same for any `key`. With the block's own key it takes constant time, and with any other time
-    /// linear in the live blocks and free runs, as [`searches`](FitAllocator::searches) counts. Nothing else changes.
+    /// linear in the live blocks and free runs.
     #[inline(always)]
-    pub fn find(&mut self, key: usize, object: u64, offset: u64, size: u64) -> Option<(Slot, usize)>
-        ensures found { MatchOption result (IsNoLiveFitSpan (self.old).space object offset size)
-            (λ found. IsLiveFitSpan (self.old).space object offset size found.0) }
-        ensures exact { (slot : LiveSlot) → IsLiveFitSpan (self.old).space object offset size slot
+    pub fn find(&self, key: usize, object: u64, offset: u64, size: u64) -> Option<(Slot, usize)>
+        ensures found { MatchOption result (IsNoLiveFitSpan (self.now).space object offset size)
+            (λ found. IsLiveFitSpan (self.now).space object offset size found.0) }
+        ensures exact { (slot : LiveSlot) → IsLiveFitSpan (self.now).space object offset size slot
             → IfSome result (λ found. found.0 ≡ slot) }
-        ensures kept { self.new ≡ self.old }
     {
         self.fits.find(key, object, offset, size)
     }
@@ -350,8 +349,8 @@ impl<M: MemoryObject, A: Allocator> FitAllocator<M, A> {
         self.fits.list_live(rows)
     }
 
-    /// How many times all live blocks and free runs were searched, for a place or for a block that came with another
-    /// key than its own, modulo 2^64. Tests look at it, and no contract.
+    /// How many times all live blocks and free runs were searched, for a place or for a block that was returned with
+    /// another key than its own, modulo 2^64. Tests look at it, and no contract.
     pub fn searches(&self) -> u64 {
         self.fits.searches()
     }

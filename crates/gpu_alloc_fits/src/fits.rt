@@ -345,19 +345,18 @@ impl<M: MemoryObject, A: Allocator> Fits<M, A> {
     /// `offset` is where it starts in the object and `size` how long it is, in bytes: any two numbers.
     ///
     /// The answer is the same for any `key`. With the block's own key it takes constant time, and with any other time
-    /// linear in the tiles, as [`searches`](Fits::searches) counts. Nothing else changes.
+    /// linear in the tiles.
     #[inline(always)]
-    pub fn find(&mut self, key: usize, object: u64, offset: u64, size: u64) -> Option<(Slot, usize)>
-        ensures found { MatchOption result (IsNoLiveFitSpan (self.old).space object offset size)
-            (λ found. IsLiveFitSpan (self.old).space object offset size found.0) }
-        ensures exact { (slot : LiveSlot) → IsLiveFitSpan (self.old).space object offset size slot
+    pub fn find(&self, key: usize, object: u64, offset: u64, size: u64) -> Option<(Slot, usize)>
+        ensures found { MatchOption result (IsNoLiveFitSpan (self.now).space object offset size)
+            (λ found. IsLiveFitSpan (self.now).space object offset size found.0) }
+        ensures exact { (slot : LiveSlot) → IsLiveFitSpan (self.now).space object offset size slot
             → IfSome result (λ found. found.0 ≡ slot) }
-        ensures kept { self.new ≡ self.old }
     {
-        let place = place_of(
+        let place = place_uncounted(
             &self.chunks,
             &self.tiles,
-            &mut self.known,
+            &self.known,
             key,
             object,
             offset,
@@ -393,7 +392,7 @@ impl<M: MemoryObject, A: Allocator> Fits<M, A> {
     }
 
     /// How many times all tiles were searched, modulo 2^64: for a place, about once for each new chunk, and for each
-    /// block that came with another key than its own. Tests look at it, and no contract.
+    /// block that was returned with another key than its own. Tests look at it, and no contract.
     pub fn searches(&self) -> u64 {
         self.known.searches()
     }
@@ -486,6 +485,50 @@ fn place_of<M: MemoryObject, A: Allocator>(
         ((k : ℕ) → IsAtKey (chunks_of_rows M.object chunks.now) (tile_in tiles.now) object offset size k → ⊥)
         (IsBlockPlace M.object chunks.now tiles.now object offset size) }
 {
+    match place_at(chunks, tiles, key, object, offset, size) {
+        Some(place) => Some(place),
+        None => searched(chunks, tiles, known, object, offset, size),
+    }
+}
+
+/// The same. A search is not counted.
+#[inline(always)]
+fn place_uncounted<M: MemoryObject, A: Allocator>(
+    chunks: &Slab<Chunk<M>, A>,
+    tiles: &Slab<Node, A>,
+    known: &Known,
+    key: usize,
+    object: u64,
+    offset: u64,
+    size: u64,
+) -> Option<Place>
+    requires kept { AreNodesKept (chunk_size_in chunks.now) tiles.now }
+    ensures { MatchOption result
+        ((k : ℕ) → IsAtKey (chunks_of_rows M.object chunks.now) (tile_in tiles.now) object offset size k → ⊥)
+        (IsBlockPlace M.object chunks.now tiles.now object offset size) }
+{
+    match place_at(chunks, tiles, key, object, offset, size) {
+        Some(place) => Some(place),
+        None => {
+            let mut known = *known;
+            searched(chunks, tiles, &mut known, object, offset, size)
+        }
+    }
+}
+
+/// The place of the tile that is the live block of this span, if it is under `key`.
+#[inline(always)]
+fn place_at<M: MemoryObject, A: Allocator>(
+    chunks: &Slab<Chunk<M>, A>,
+    tiles: &Slab<Node, A>,
+    key: usize,
+    object: u64,
+    offset: u64,
+    size: u64,
+) -> Option<Place>
+    requires kept { AreNodesKept (chunk_size_in chunks.now) tiles.now }
+    ensures { IfSome result (IsBlockPlace M.object chunks.now tiles.now object offset size) }
+{
     if let Some(node) = tiles.get(key) {
         if is_of(chunks, node.tile, object, offset, size) {
             return Some(Place {
@@ -495,10 +538,29 @@ fn place_of<M: MemoryObject, A: Allocator>(
             });
         }
     }
-    let found = search(chunks, tiles, known, object, offset, size)?;
-    let node = tiles[found];
+    None
+}
+
+/// The place of the tile that is the live block of this span, by a search, which is counted.
+#[inline(always)]
+fn searched<M: MemoryObject, A: Allocator>(
+    chunks: &Slab<Chunk<M>, A>,
+    tiles: &Slab<Node, A>,
+    known: &mut Known,
+    object: u64,
+    offset: u64,
+    size: u64,
+) -> Option<Place>
+    requires kept { AreNodesKept (chunk_size_in chunks.now) tiles.now }
+    ensures full { known.new.full ≡ known.old.full }
+    ensures place { MatchOption result
+        ((k : ℕ) → IsAtKey (chunks_of_rows M.object chunks.now) (tile_in tiles.now) object offset size k → ⊥)
+        (IsBlockPlace M.object chunks.now tiles.now object offset size) }
+{
+    let key = search(chunks, tiles, known, object, offset, size)?;
+    let node = tiles[key];
     Some(Place {
-        key: found,
+        key,
         node,
         whole: chunks[node.tile.chunk].size,
     })

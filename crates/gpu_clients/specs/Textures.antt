@@ -1,9 +1,11 @@
 -- What contracts see of a cache of textures.
-use Rattle.std.specs.Prelude.{ℕ, List, Option, refl}
+use Rattle.std.specs.Prelude.{◌≡◌, ℕ, List, Option, refl, IsSomeAnd}
 use Rattle.std.specs.Coded.{Coded, code_by, coded×, coded_ℕ, coded_list}
+use Rattle.gpu_alloc.specs.Allocation.{IsGranted}
 use Rattle.gpu_alloc.specs.Codes.{block_code, state_code}
 use Rattle.gpu_alloc.specs.Keyed.{under}
 use Rattle.gpu_alloc.specs.State.{Block, State}
+use Rattle.gpu_alloc.specs.declared.request.Request.{Request}
 
 -- its allocator, its device, and the blocks with their keys, the oldest first
 pub record CacheState (D : Type 0) : Type 0 where
@@ -21,3 +23,9 @@ cache_code {D} d =
 -- the texture under a key
 abbrev pub texture_at : {D : Type 0} → CacheState D → ℕ → Option Block
 texture_at c key = under c.textures key
+
+-- the texture under a key was granted as requested, by an allocator over the same device as this one
+abbrev pub IsLoaded : {D : Type 0} → State → Request → CacheState D → ℕ → Type 0
+IsLoaded old r new key =
+    (before : State) × (before.properties ≡ old.properties)
+    × IsSomeAnd (texture_at new key) (IsGranted before r new.allocator)

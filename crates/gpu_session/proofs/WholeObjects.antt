@@ -84,7 +84,7 @@ module _ {A : Type 0} (old : Books) (own : AreOwn old) (es : List Event) where
   serves_own (Dedicated name request dedicated) (Granted memory_type object offset size) new required granted served =
       let at = ap (λ (m : finite.FinMap nat_cmp Block). finite.get m name) served.3 ∙ get_put old.blocks name served.0 in
       let one : granted.0 ≡ served.0 = one_value _ granted.0 served.0 granted.1 at in
-      own_put old new name served.0 served.3 (ap (λ (x : Block). x.kind) (sym one) ∙ granted.2.2 required) own
+      own_put old new name served.0 served.3 (ap (λ (x : Block). x.kind) (sym one) ∙ granted.2.3 required) own
   serves_own (Dedicated name request dedicated) (Refused e) new required granted served = own_same old new served.1 own
   serves_own (Dedicated name request dedicated) reply new required granted served = absurd served
   serves_own (Import name t object_size offset size) reply new required granted served = absurd required

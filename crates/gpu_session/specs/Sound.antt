@@ -6,7 +6,7 @@ use Rattle.gpu_alloc_types.specs.Properties.{Properties, atom_of}
 use Rattle.gpu_alloc_types.specs.Device.{Event, Object, HeldWith}
 use Rattle.gpu_alloc_types.specs.Device.Event.{Deallocated}
 use Rattle.gpu_alloc.specs.Agreement.{Agrees, BlockAgrees}
-use Rattle.gpu_alloc.specs.Allocation.{IsGranted}
+use Rattle.gpu_alloc.specs.Allocation.{IsExactFit, IsGranted}
 use Rattle.gpu_alloc.specs.Importing.{imported_block}
 use Rattle.gpu_alloc.specs.Owned.{AreTwo}
 use Rattle.gpu_alloc.specs.Sound as allocator
@@ -61,14 +61,15 @@ pub record KeepsGiven (s new : State) : Type 0 where
   pub config : new.config ≡ s.config
   pub sharing : new.sharing ≡ s.sharing
 
--- A block is granted as the command asks: large enough and aligned, an object of its own where it must be one, and for
--- an import exactly the given span.
+-- A block is granted as the command asks: large enough and aligned, exactly as long where it is of a fit chunk, an object
+-- of its own where it must be one, and for an import exactly the given span.
 abbrev pub GrantsAsAsked : {A : Type 0} → Books → Command A → Reply A → Books → Type 0
 GrantsAsAsked old (Alloc name request) (Granted memory_type object offset size) new =
-    OfBlock new name (λ b. IsTold b memory_type object offset size × IsGranted old.allocator request new.allocator b)
+    OfBlock new name (λ b. IsTold b memory_type object offset size × IsGranted old.allocator request new.allocator b
+    × IsExactFit old.allocator request b)
 GrantsAsAsked old (Dedicated name request dedicated) (Granted memory_type object offset size) new =
     OfBlock new name (λ b. IsTold b memory_type object offset size × IsGranted old.allocator request new.allocator b
-    × (dedicated ≡ Required → b.kind ≡ DedicatedObject))
+    × IsExactFit old.allocator request b × (dedicated ≡ Required → b.kind ≡ DedicatedObject))
 GrantsAsAsked old (Import name t object_size start len) (Granted memory_type object offset size) new =
     OfBlock new name (λ b. IsTold b memory_type object offset size
     × (b ≡ imported_block old.allocator object t start len))

@@ -16,7 +16,7 @@ use Rattle.gpu_alloc_buddy.specs.BuddyState.{Buddy, IsLiveBuddyLeaf, IsLiveBuddy
 use Rattle.gpu_alloc_base.proofs.Leaves.{leaf_same_or_left}
 use Rattle.gpu_alloc_base.specs.Chunks.{Chunk}
 use Rattle.gpu_alloc_freelist.specs.FreeListState.{Listing}
-use Rattle.gpu_alloc.specs.Inside.{fits_in, state_in, properties_in, lists_in, chunk_object, span_of_leaf, leaf_at}
+use Rattle.gpu_alloc.specs.Inside.{fits_in, state_in, properties_in, lists_in, chunk_object, span_of_leaf}
 use Rattle.gpu_alloc.specs.Own.{OwnTable}
 use Rattle.gpu_alloc.specs.Whole.{whole, IsKept}
 use Rattle.gpu_alloc.proofs.Linked.{chosen_less, chosen_same, IsConsistent, IsBuddyOf, StandFor, buddies_set, consistent}
@@ -29,6 +29,7 @@ use Rattle.gpu_alloc_block.specs.declared.block.Kind.TheVariants.{BuddyChunk}
 use Rattle.gpu_alloc_base.specs.declared.buddy_block.Leaf.{Leaf}
 use Rattle.gpu_alloc_base.specs.declared.heap.Heap.{Heap}
 use Rattle.gpu_alloc.specs.declared.limits.Limits.{Limits}
+use Rattle.gpu_alloc.proofs.Links.{leaf_at}
 use Rattle.gpu_alloc.proofs.Agreeing.{agrees_returned, agrees_without_span}
 use Rattle.gpu_alloc.proofs.Consistency.{known_object, booked-gone, booked-span_gone}
 use Rattle.gpu_alloc_base.proofs.Maps.{one_value}

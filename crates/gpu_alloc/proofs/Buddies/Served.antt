@@ -13,8 +13,9 @@ use Rattle.gpu_alloc_base.specs.Chunks as chunks
 use Rattle.gpu_alloc_buddy.specs.BuddyState.{Buddy, IsLiveBuddyLeaf, space_of}
 use Rattle.gpu_alloc_pairs.proofs.LiveSpans.{one_leaf}
 use Rattle.gpu_alloc_base.specs.Chunks.{Chunk}
-use Rattle.gpu_alloc.specs.Inside.{IsChunkOf, IsBooked, chunk_object, span_of_leaf, leaf_at}
+use Rattle.gpu_alloc.specs.Inside.{IsBooked, chunk_object, span_of_leaf}
 use Rattle.gpu_alloc.specs.Release.{IsUnused, without_span}
+use Rattle.gpu_alloc.proofs.Links.{IsChunkOf, leaf_at}
 use Rattle.gpu_alloc_block.specs.State.{HeldObject, Span, span_of, Block, State, IsLive, share}
 use Rattle.gpu_alloc_base.specs.declared.buddy_block.Leaf.{Leaf}
 use Rattle.gpu_alloc_base.specs.declared.heap.Heap.{Heap}

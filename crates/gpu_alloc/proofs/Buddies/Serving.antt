@@ -12,7 +12,7 @@ use Rattle.gpu_alloc_buddy.specs.BuddyState.{Buddy, IsFreeInBuddy}
 use Rattle.gpu_alloc_base.specs.Chunks.{Chunk}
 use Rattle.gpu_alloc_base.specs.FreeSpace.{IsPlace, IsFreePiece}
 use Rattle.gpu_alloc.specs.FreeBytes.{IsFreeByte}
-use Rattle.gpu_alloc.specs.Inside.{chunk_object, span_of_leaf, leaf_at}
+use Rattle.gpu_alloc.specs.Inside.{chunk_object, span_of_leaf}
 use Rattle.gpu_alloc.proofs.Linked.{IsBuddyOf}
 use Rattle.gpu_alloc_base.specs.NewChunk.{flags_of}
 use Rattle.gpu_alloc.specs.BuddySharing.{buddy_size, buddy_question, next_chunk_of, HasBuddyPlace, IsPieceFront}
@@ -26,6 +26,7 @@ use Rattle.gpu_alloc_block.specs.declared.block.Kind.TheVariants.{BuddyChunk}
 use Rattle.gpu_alloc_base.specs.declared.buddy_block.Leaf.{Leaf}
 use Rattle.gpu_alloc_base.specs.declared.heap.Heap.{Heap}
 use Rattle.gpu_alloc.specs.declared.request.Request.{Request}
+use Rattle.gpu_alloc.proofs.Links.{leaf_at}
 
 -- what a state holds
 abbrev pub table_of : State → Table

@@ -14,7 +14,8 @@ use Rattle.gpu_alloc_base.specs.NewObject.{HasOneMore}
 use Rattle.gpu_alloc_base.specs.declared.free_list_block.Slot.{Slot}
 use Rattle.gpu_alloc_base.specs.declared.heap.Heap.{Heap}
 use Rattle.gpu_alloc_base.proofs.Books.{made_new}
-use Rattle.gpu_alloc_base.proofs.Maps.{own_inserted}
+use Rattle.gpu_alloc_base.proofs.Maps.{one_value, own_inserted}
+use Rattle.gpu_alloc_base.proofs.Slots.{slot_inserted}
 use Rattle.gpu_alloc_base.proofs.ToldTwice.{asks_is}
 use Rattle.gpu_alloc_block.specs.Parts.{IsAt}
 use Rattle.gpu_alloc_block.specs.State.{HeldObject, Block, State}
@@ -37,6 +38,7 @@ use Rattle.gpu_alloc.specs.Whole.{whole, AreOneWhole}
 use Rattle.gpu_alloc.specs.declared.limits.Limits.{Limits}
 use Rattle.gpu_alloc.proofs.Agreeing.{not_held}
 use Rattle.gpu_alloc.proofs.Fits.Grants.{asked_size, fit_of, recorded_with_fit, recorded_with_fit_chunk, serves_fits, state_with_fit, state_with_fit_chunk}
+use Rattle.gpu_alloc.proofs.Fits.Small.{chunk_sized}
 use Rattle.gpu_alloc.proofs.Fits.Serving.{ServesFits, fitting_is, told_with}
 use Rattle.gpu_alloc.proofs.FreeLists.States.{HasSlotMore}
 use Rattle.gpu_alloc.proofs.HandedOn.{Given}
@@ -147,12 +149,16 @@ module _ {A : Type 0} {limits : Limits A} {heaps : List Heap} {buddies : List Bu
         let more : HasSlotMore t now_is slot = record { free = slot_is_free; live = made.live_is } in
         let small : n < 2 ^ 64 = (sound.space.sizes slot.chunk chunk chunk_now).1 in
         let sound_now = subst IsSoundFitting after_fit sound in
-        let state = state_with_fit_chunk limits heaps buddies lists fits t remaining index f given.is given.known given.at i heap given.here given.at_heap slot n now_is changed free some small sound_now held_now more refl within choice in
+        let lies = sound_now.space.inside slot ((slot_inserted f.space.live slot slot).1 (inl refl)) in
+        let own_chunk : lies.chunk ≡ chunk = one_value _ lies.chunk chunk lies.held (own_inserted f.space.chunks slot.chunk chunk) in
+        let fits_last : size ≤ f.final_chunk = omega (arith, begins.exact, lies.inside, ap (λ (x : Chunk). x.size) own_chunk, (sound_now.chunks slot.chunk chunk (own_inserted f.space.chunks slot.chunk chunk)).1) in
+        let sized = chunk_sized for_type serving.of.sized size serving.of.sound fits_last in
+        let state = state_with_fit_chunk limits heaps buddies lists fits t remaining index f given.is given.known given.at i heap given.here given.at_heap slot n now_is changed free some small sized sound_now held_now more refl within choice in
         let asked = asked_size limits heaps buddies lists fits t remaining index f given.is given.known given.at size in
         let state_asked = state ∙ ap (λ m. with_span (with_fit_chunk before index slot.object m) (span_of_slot slot)) asked in
         let found_now = ap (λ (x : Held). finite.get x slot.object) held_now ∙ own_inserted t.held slot.object row in
         subst IsServed (sym after_is) (record {
-          recorded = recorded_with_fit_chunk limits heaps buddies lists fits t remaining index f given.is given.known given.at i heap given.here given.at_heap slot n now_is changed free some small sound_now held_now more refl within choice;
+          recorded = recorded_with_fit_chunk limits heaps buddies lists fits t remaining index f given.is given.known given.at i heap given.here given.at_heap slot n now_is changed free some small sized sound_now held_now more refl within choice;
           parts = made.apart;
           gives = inr (subst (GivesInNewObject (fit_candidate before size alignment index) es block) (sym state_asked) gives);
           objects_are = rw free (counted_new before.properties f.memory_type (sees_chunks f) chunk row slot.object _ _ old new chunk_now found_now for_type.memory_type refl (ap (λ bits. has_bit bits 2) for_type.props) one_more);

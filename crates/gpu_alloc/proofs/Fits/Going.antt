@@ -10,6 +10,7 @@ use Rattle.gpu_alloc_base.specs.Chunks.{Chunk}
 use Rattle.gpu_alloc_base.specs.declared.heap.Heap.{Heap}
 use Rattle.gpu_alloc_base.proofs.Lists.{contains_cases, contains_head, contains_none}
 use Rattle.gpu_alloc_base.proofs.Maps.{one_value}
+use Rattle.gpu_alloc_base.proofs.Names.{removed-cases}
 use Rattle.gpu_alloc_block.specs.Agreement.{Agrees}
 use Rattle.gpu_alloc_block.specs.Parts.{Makes}
 use Rattle.gpu_alloc_block.specs.State.{State, total}
@@ -35,6 +36,7 @@ use Rattle.gpu_alloc.proofs.Fits.States.{fit_types_kept}
 use Rattle.gpu_alloc.proofs.FreeLists.Going.{without_these}
 use Rattle.gpu_alloc.proofs.FreeLists.Served.{agrees_without_list_chunk}
 use Rattle.gpu_alloc.proofs.HeapLists.{properties_kept, state_kept}
+use Rattle.gpu_alloc.proofs.Fits.Small.{sized_less}
 use Rattle.gpu_alloc.proofs.Linked.{IsConsistent, IsFitOf, StandFor, chosen_less, consistent, fits_set}
 use Rattle.gpu_alloc.proofs.ReturnedTotals.{fits_total}
 use Rattle.gpu_alloc.proofs.Wholes.{at_read, fit_chunk_goes}
@@ -93,9 +95,11 @@ module _ {A : Type 0} {l : Limits A} {heaps : List Heap} {buddies : List Buddy} 
   abbrev pub state_with : Account Fitting → State
   state_with a = state_in l (set heaps i a.heap) buddies lists (set fits index a.allocator) (whole own buddies lists (set fits index a.allocator)) a.remaining
 
-  pub fitted_with : (after : Fitting) → after.memory_type ≡ f.memory_type → after.props ≡ f.props → after.atom ≡ f.atom → after.final_chunk ≡ f.final_chunk → IsSoundFitting after → AreFits l.config p (set fits index after)
-  fitted_with after memory_type props atom final sound =
-      fits_set l.config p fits index after h.kept.fitted (record { for_type = same_fit_for l heaps buddies lists fits t remaining index f is h.known h.at after memory_type props atom final; sound = sound })
+  -- with no other chunk, and the same next one
+  pub fitted_with : (after : Fitting) → after.memory_type ≡ f.memory_type → after.props ≡ f.props → after.atom ≡ f.atom → after.final_chunk ≡ f.final_chunk → after.next_chunk ≡ f.next_chunk
+      → ((key : ℕ) (chunk : Chunk) → finite.get after.space.chunks key ≡ Some chunk → finite.get f.space.chunks key ≡ Some chunk) → IsSoundFitting after → AreFits l.config p (set fits index after)
+  fitted_with after memory_type props atom final next fewer sound =
+      fits_set l.config p fits index after h.kept.fitted (record { for_type = same_fit_for l heaps buddies lists fits t remaining index f is h.known h.at after memory_type props atom final; sized = sized_less of.for_type of.sized after next fewer; sound = sound })
 
   -- the memory types as they were
   pub types_with : (after : Fitting) → after.next_chunk ≡ f.next_chunk → fits_in (lists_in (types_in (first_types l.config p) buddies) lists) (set fits index after) ≡ state.types
@@ -130,7 +134,7 @@ module _ {A : Type 0} {l : Limits A} {heaps : List Heap} {buddies : List Buddy} 
             heap changed i (h.here ∙ ap (heap_at p) (sym of.for_type.memory_type)) h.at_heap refl;
         shared = h.kept.shared;
         listed = h.kept.listed;
-        fitted = fitted_with less refl refl refl refl sound;
+        fitted = fitted_with less refl refl refl refl refl (λ k c held. (removed-cases f.space.chunks key k c held).1) sound;
         chosen = chosen_less l.sharing t now chunk.object h.kept.chosen made.held_is;
         apart = made.apart;
       }),

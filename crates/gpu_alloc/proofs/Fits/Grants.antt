@@ -24,7 +24,7 @@ use Rattle.gpu_alloc_fit.specs.FitSound.{IsSoundFitting}
 use Rattle.gpu_alloc_freelist.specs.FreeListState.{Listing}
 use Rattle.gpu_alloc.specs.BuddySharing.{with_span}
 use Rattle.gpu_alloc.specs.FirstTypes.{first_types, first_type_state}
-use Rattle.gpu_alloc.specs.FitSharing.{first_fit, fit_question, fits_first, grain_of, largest_fit, largest_fit_chunk, with_fit_chunk, with_next_fit}
+use Rattle.gpu_alloc.specs.FitSharing.{IsFitChunkSize, first_fit, fit_question, fits_first, grain_of, largest_fit, largest_fit_chunk, with_fit_chunk, with_next_fit}
 use Rattle.gpu_alloc.specs.Inside.{fits_in, lists_in, state_in, properties_in, types_in, fit_object, span_of_slot, IsFitFor, IsFitForType}
 use Rattle.gpu_alloc.specs.Own.{OwnTable}
 use Rattle.gpu_alloc.specs.Sound.{is_chosen}
@@ -39,6 +39,7 @@ use Rattle.gpu_alloc.proofs.Fits.Serving.{ServesFits, question_is}
 use Rattle.gpu_alloc.proofs.Fits.States.{fit_next_at, fit_types_kept, fit_types_set, lists_within}
 use Rattle.gpu_alloc.proofs.FreeLists.States.{HasSlotMore, types_within}
 use Rattle.gpu_alloc.proofs.HeapLists.{properties_kept, state_kept}
+use Rattle.gpu_alloc.proofs.Fits.Small.{sized_less, sized_more}
 use Rattle.gpu_alloc.proofs.Linked.{chosen_more, chosen_same, buddies_for, fits_for, fits_set, lists_for, IsConsistent, IsFitOf, IsRecorded}
 
 -- a size is no larger than what it is cut to where it is none
@@ -126,7 +127,7 @@ module _ {A : Type 0} (limits : Limits A) (heaps : List Heap) (buddies : List Bu
       chunk_held = ap (finite.get t.held) object ∙ fit_of.linked.chunks slot.chunk chunk found
 
       fit_with_slot : IsFitFor limits.config p index (fitting_with_slot f slot)
-      fit_with_slot = record { for_type = same_fit_for (fitting_with_slot f slot) refl refl refl refl; sound = sound }
+      fit_with_slot = record { for_type = same_fit_for (fitting_with_slot f slot) refl refl refl refl; sized = sized_less fit_of.for_type fit_of.sized (fitting_with_slot f slot) refl (λ key c held. held); sound = sound }
 
       pub recorded_with_fit : IsRecordedWith (fitting_with_slot f slot) heap now remaining
       recorded_with_fit =
@@ -145,7 +146,7 @@ module _ {A : Type 0} (limits : Limits A) (heaps : List Heap) (buddies : List Bu
 
     -- A chunk more with a block in it.
 
-    module _ (slot : Slot) (size : ℕ) (now : Table) (changed : Heap) (free : finite.get t.held slot.object ≡ None) (some : 0 < remaining) (small : size < 2 ^ 64)
+    module _ (slot : Slot) (size : ℕ) (now : Table) (changed : Heap) (free : finite.get t.held slot.object ≡ None) (some : 0 < remaining) (small : size < 2 ^ 64) (sized : IsFitChunkSize limits.config (heap_size p index) (grain_of s index) size)
         (sound : IsSoundFitting (fitting_in_new_chunk f slot size))
         (held : now.held ≡ finite.insert t.held slot.object (record { memory_type = index; counted = size; kind = FitChunk })) (more : HasSlotMore t now slot)
         (counts : changed ≡ record heap { used = heap.used + size }) (within : heap.used + size ≤ heap.limit) (choice : limits.sharing ≡ FitsChosen) where
@@ -156,7 +157,7 @@ module _ {A : Type 0} (limits : Limits A) (heaps : List Heap) (buddies : List Bu
       fit_after = fitting_in_new_chunk f slot size
 
       fit_with_chunk : IsFitFor limits.config p index fit_after
-      fit_with_chunk = record { for_type = same_fit_for fit_after refl refl refl refl; sound = sound }
+      fit_with_chunk = record { for_type = same_fit_for fit_after refl refl refl refl; sized = sized_more fit_of.for_type fit_of.sized slot size sized; sound = sound }
 
       pub recorded_with_fit_chunk : IsRecordedWith fit_after changed now (remaining - 1)
       recorded_with_fit_chunk =

@@ -11,6 +11,7 @@ use Rattle.gpu_alloc_base.specs.Chunks.{Chunk}
 use Rattle.gpu_alloc_base.specs.declared.free_list_block.Slot.{Slot}
 use Rattle.gpu_alloc_base.specs.declared.heap.Heap.{Heap}
 use Rattle.gpu_alloc_base.proofs.Maps.{found_value, one_value}
+use Rattle.gpu_alloc_base.proofs.Names.{removed-cases}
 use Rattle.gpu_alloc_base.proofs.Slots.{slot_removed, slot_same_or_left}
 use Rattle.gpu_alloc_block.specs.Agreement.{Agrees}
 use Rattle.gpu_alloc_block.specs.State.{HeldObject, Span, span_of, Block, IsOwned, State}
@@ -23,12 +24,13 @@ use Rattle.gpu_alloc_fit.specs.FitSound.{IsSoundFitting}
 use Rattle.gpu_alloc_fits.specs.Space as fit_space
 use Rattle.gpu_alloc_fits.specs.Space.{FitSpace, IsLiveFitSpan, IsLiveSlot, IsNoLiveFitSpan, IsWhollyFree, LiesInChunk, without_chunk, without_slot}
 use Rattle.gpu_alloc_freelist.specs.FreeListState.{Listing}
-use Rattle.gpu_alloc.specs.Inside.{fit_object, properties_in, slot_at, span_of_slot, state_in}
+use Rattle.gpu_alloc.specs.Inside.{fit_object, properties_in, span_of_slot, state_in}
 use Rattle.gpu_alloc.specs.Own.{OwnTable}
 use Rattle.gpu_alloc.specs.Release.{Frees, GoesWith, IsSpareFit, IsUnused, ObjectsFreed, without_all, without_objects, without_span}
 use Rattle.gpu_alloc.specs.Spans.{Table}
 use Rattle.gpu_alloc.specs.Whole.{whole, IsKept}
 use Rattle.gpu_alloc.specs.declared.limits.Limits.{Limits}
+use Rattle.gpu_alloc.proofs.Links.{slot_at}
 use Rattle.gpu_alloc.proofs.Agreeing.{agrees_returned, agrees_without_span}
 use Rattle.gpu_alloc.proofs.Buddies.Grants.{same_set}
 use Rattle.gpu_alloc.proofs.Buddies.Returns.{only_span}
@@ -179,7 +181,7 @@ module _ {A : Type 0} {l : Limits A} {heaps : List Heap} {buddies : List Buddy} 
           books = booked-span_gone p heaps t remaining h.kept.books refl now row (span_of_slot slot) found refl made.held_is made.live_is;
           shared = h.kept.shared;
           listed = h.kept.listed;
-          fitted = fitted_with h after refl refl refl refl sound;
+          fitted = fitted_with h after refl refl refl refl refl (λ k c held. held) sound;
           chosen = chosen_same l.sharing t now h.kept.chosen made.held_is;
           apart = made.apart;
         },
@@ -201,7 +203,7 @@ module _ {A : Type 0} {l : Limits A} {heaps : List Heap} {buddies : List Buddy} 
               heap changed i (h.here ∙ ap (heap_at p) (sym (of h).for_type.memory_type)) h.at_heap refl;
           shared = h.kept.shared;
           listed = h.kept.listed;
-          fitted = fitted_with h less refl refl refl refl sound;
+          fitted = fitted_with h less refl refl refl refl refl (λ k c held. (removed-cases f.space.chunks slot.chunk k c held).1) sound;
           chosen = chosen_less l.sharing t now slot.object h.kept.chosen made.held_is;
           apart = made.apart;
         }),

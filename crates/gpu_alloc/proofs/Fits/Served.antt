@@ -15,8 +15,9 @@ use Rattle.gpu_alloc_block.specs.State.{HeldObject, Span, State, IsLive, share}
 use Rattle.gpu_alloc_fit.specs.Fit as fit
 use Rattle.gpu_alloc_fit.specs.Fit.{Fitting, sees_chunks}
 use Rattle.gpu_alloc_fits.specs.Space.{IsLiveSlot, IsWhollyFree}
-use Rattle.gpu_alloc.specs.Inside.{fit_object, slot_at, span_of_slot, IsBooked, IsFitChunkOf}
+use Rattle.gpu_alloc.specs.Inside.{fit_object, span_of_slot, IsBooked}
 use Rattle.gpu_alloc.specs.Release.{IsUnused, IsUnusedFit}
+use Rattle.gpu_alloc.proofs.Links.{IsFitChunkOf, slot_at}
 use Rattle.gpu_alloc.proofs.Buddies.Serving.{table_of}
 use Rattle.gpu_alloc.proofs.Fits.Serving.{ServesFits, fit_chunk_is, fit_held}
 use Rattle.gpu_alloc.proofs.HeapLists.{ledger_at}

@@ -23,9 +23,10 @@ use Rattle.gpu_alloc_fits.specs.Space.{HasPlace, IsFitting, IsFreeIn}
 use Rattle.gpu_alloc.specs.Candidates.{candidate, fit_candidate}
 use Rattle.gpu_alloc.specs.FitSharing.{fit_alignment, fit_question, fit_size, grain_of, largest_fit_chunk, next_fit_chunk, HasFitPlace, IsFitChunk, IsInFreeRun}
 use Rattle.gpu_alloc.specs.FreeBytes.{IsFreeByte}
-use Rattle.gpu_alloc.specs.Inside.{fit_object, slot_at, span_of_slot, IsFitChunkOf}
+use Rattle.gpu_alloc.specs.Inside.{fit_object, span_of_slot}
 use Rattle.gpu_alloc.specs.declared.allocator.Strategy.TheVariants.{InFitChunk}
 use Rattle.gpu_alloc.specs.declared.request.Request.{Request}
+use Rattle.gpu_alloc.proofs.Links.{IsFitChunkOf, slot_at}
 use Rattle.gpu_alloc.proofs.Buddies.Serving.{table_of}
 use Rattle.gpu_alloc.proofs.HeapLists.{IsHeap}
 use Rattle.gpu_alloc.proofs.Linked.{IsFitOf}

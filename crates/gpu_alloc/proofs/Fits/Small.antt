@@ -1,12 +1,25 @@
 -- Sizes of fit chunks, of every configuration.
-use Rattle.std.proofs.Common.{ℕ, zero, suc, ◌/◌, ◌<◌, ◌≤◌, ◌==◌, Bool, true, false, cond, arith}
+use Rattle.std.proofs.Common.{◌≡◌, inl, inr, ℕ, zero, suc, ◌*◌, ◌+◌, ◌/◌, ◌^◌, ◌<◌, ◌≤◌, ◌==◌, Bool, true, false, cond, Some, sym, ◌∙◌, ap, subst, arith}
+use Rattle.std.proofs.Math.Nat.{le-mul_of_pos_right, mul_assoc, mul_comm}
+use Rattle.std.proofs.lemmas.Bool.{cases_lt}
+use Rattle.std.proofs.lemmas.Nat.{pow-add, pow_pos}
 use Rattle.std.proofs.lemmas.Bool.Decides.{nat_tests}
 use Rattle.std.specs.Prelude.{min, max}
-use Rattle.gpu_alloc_base.specs.Sizes.{at_least_an_atom, cut, down, transient_threshold}
+use Rattle.std.specs.FinMap as finite
+use Rattle.gpu_alloc_types.specs.Properties.{Properties, atom_of, heap_size}
+use Rattle.gpu_alloc_base.specs.Chunks.{Chunk}
+use Rattle.gpu_alloc_base.specs.FreeSpace.{IsMultipleOf}
+use Rattle.gpu_alloc_base.specs.Sizes.{at_least_an_atom, cut, doubled_chunk, down, grown_chunk, starting_size, transient_threshold}
 use Rattle.gpu_alloc_base.specs.declared.config.Config.{Config}
-use Rattle.gpu_alloc_base.proofs.Multiples.{down_below}
-use Rattle.gpu_alloc.specs.FitSharing.{AreSmall, FitChunksAreSmall, first_fit}
-use Rattle.gpu_alloc.proofs.Opened.{starting_within}
+use Rattle.gpu_alloc_base.proofs.ChunkSizes.{cut_whole, grown_is_least}
+use Rattle.gpu_alloc_base.proofs.Multiples.{down_below, multiple_min, multiple_times}
+use Rattle.gpu_alloc_base.proofs.Names.{put-cases}
+use Rattle.gpu_alloc_base.specs.declared.free_list_block.Slot.{Slot}
+use Rattle.gpu_alloc_fit.specs.Fit.{Fitting, chunk_size, fitting_in_new_chunk}
+use Rattle.gpu_alloc_fit.specs.FitSound.{IsSoundFitting}
+use Rattle.gpu_alloc.specs.FitSharing.{AreSmall, FitChunksAreSmall, IsFitChunkSize, IsSmallChunk, first_fit, grain, largest_fit}
+use Rattle.gpu_alloc.specs.Inside.{HasFitSizes, IsFitForType}
+use Rattle.gpu_alloc.proofs.Opened.{largest_whole, starting_within}
 
 at_least : (g x : ℕ) → x ≤ at_least_an_atom g x
 at_least g zero = omega arith
@@ -33,3 +46,81 @@ small c heap g some = record {
 
 pub fit_chunks_small : FitChunksAreSmall
 fit_chunks_small = record { each = small }
+
+-- What a size that a fit chunk can have is.
+
+-- cut at the largest, multiplied and cut again is as much as cut once
+cut_between : (a l p : ℕ) → 0 < p → min (min a l * p) l ≡ min (a * p) l
+cut_between a l p some = elim (cases_lt l a) [
+  | inl less ↦
+      let e : min a l ≡ l = omega (arith, less) in
+      let all = le-mul_of_pos_right l some in
+      let more = le-mul_of_pos_right a some in
+      ap (λ x. min (x * p) l) e ∙ omega (arith, all, more, less)
+  | inr within ↦ let e : min a l ≡ a = omega (arith, within) in ap (λ x. min (x * p) l) e
+]
+
+module _ (c : Config) (heap g : ℕ) where
+  abbrev largest : ℕ
+  largest = largest_fit c heap g
+
+  abbrev first : ℕ
+  first = starting_size c heap g
+
+  size_times : (size : ℕ) → IsFitChunkSize c heap g size → (k : ℕ) → IsFitChunkSize c heap g (min (size * 2 ^ k) largest)
+  size_times size (n, is) k = (
+    n + k,
+    ap (λ x. min (x * 2 ^ k) largest) is ∙ cut_between (first * 2 ^ n) largest (2 ^ k) (pow_pos k)
+        ∙ ap (λ x. min x largest) (mul_assoc first (2 ^ n) (2 ^ k) ∙ ap (λ x. first * x) (sym (pow-add 2 n k))),
+  )
+
+  -- the size of a chunk that is made where the next one has such a size, and that of the next one then
+  pub grown_sized : (next size : ℕ) → IsFitChunkSize c heap g next → 0 < next → next ≤ largest → largest ≤ 2 ^ 62 → size ≤ largest → IsFitChunkSize c heap g (grown_chunk next largest size)
+  grown_sized next size sized some le bound fits =
+      let least = grown_is_least next largest size some le bound fits in
+      subst (IsFitChunkSize c heap g) (sym least.product.1) (size_times next sized least.product.0)
+
+  pub doubled_sized : (size : ℕ) → IsFitChunkSize c heap g size → IsFitChunkSize c heap g (doubled_chunk largest size)
+  doubled_sized size sized =
+      let e : min (size * 2 ^ 1) largest ≡ doubled_chunk largest size = omega arith in
+      subst (IsFitChunkSize c heap g) e (size_times size sized 1)
+
+  pub sized_is_small : 0 < g → (size : ℕ) → IsFitChunkSize c heap g size → IsSmallChunk c heap g size
+  sized_is_small some size (n, is) = record {
+    whole =
+        let first_whole : IsMultipleOf g first = cut_whole heap g c.starting_free_list_chunk in
+        let times : IsMultipleOf g (first * 2 ^ n) = subst (IsMultipleOf g) (mul_comm (2 ^ n) first) (multiple_times g first (2 ^ n) first_whole) in
+        subst (IsMultipleOf g) (sym is) (multiple_min g (first * 2 ^ n) largest times (largest_whole c heap g));
+    least =
+        let more = le-mul_of_pos_right first (pow_pos n) in
+        let fits = starting_within c heap g some in
+        omega (arith, is, more, fits);
+    four_times = let most = (small c heap g some).four_times in omega (arith, is, most);
+    part = let most = (small c heap g some).part in omega (arith, is, most);
+  }
+
+-- The chunks of an allocator of fit chunks keep such sizes.
+
+module _ {c : Config} {p : Properties} {index : ℕ} {f : Fitting} (given : IsFitForType c p index f) (sized : HasFitSizes c p index f) where
+  abbrev Sized : ℕ → Type 0
+  Sized = IsFitChunkSize c (heap_size p index) (grain (atom_of p index))
+
+  -- that of a new one
+  pub chunk_sized : (size : ℕ) → IsSoundFitting f → size ≤ f.final_chunk → Sized (chunk_size f size)
+  chunk_sized size sound fits =
+      let last = given.final_chunk in
+      subst (λ l. Sized (grown_chunk f.next_chunk l size)) (sym last)
+      (grown_sized c (heap_size p index) (grain (atom_of p index)) f.next_chunk size sized.next sound.next_chunk.0.1 (omega (arith, last, sound.next_chunk.1)) (omega (arith, last, sound.final_chunk.1)) (omega (arith, last, fits)))
+
+  pub sized_more : (slot : Slot) (size : ℕ) → Sized size → HasFitSizes c p index (fitting_in_new_chunk f slot size)
+  sized_more slot size is = record {
+    next = subst (λ l. Sized (doubled_chunk l size)) (sym given.final_chunk) (doubled_sized c (heap_size p index) (grain (atom_of p index)) size is);
+    chunks = λ key chunk held. elim (put-cases f.space.chunks slot.chunk (record { object = slot.object; size = size }) key chunk held) [
+      | inl new ↦ subst Sized (sym (ap (λ (x : Chunk). x.size) new.1)) is
+      | inr was ↦ sized.chunks key chunk was.1
+    ];
+  }
+
+  -- and that of those that stay
+  pub sized_less : (after : Fitting) → after.next_chunk ≡ f.next_chunk → ((key : ℕ) (chunk : Chunk) → finite.get after.space.chunks key ≡ Some chunk → finite.get f.space.chunks key ≡ Some chunk) → HasFitSizes c p index after
+  sized_less after next fewer = record { next = subst Sized (sym next) sized.next; chunks = λ key chunk held. sized.chunks key chunk (fewer key chunk held) }

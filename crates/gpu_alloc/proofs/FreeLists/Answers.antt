@@ -24,7 +24,7 @@ use Rattle.gpu_alloc_types.specs.Flags.{has_bit}
 use Rattle.gpu_alloc.proofs.NewObjects.{counted_new}
 use Rattle.gpu_alloc_freelist.specs.FreeListSound.{IsSoundListing}
 use Rattle.gpu_alloc_freelist.specs.FreeListState.{Listing}
-use Rattle.gpu_alloc.specs.Inside.{state_in, properties_in, list_object, span_of_slot, slot_at}
+use Rattle.gpu_alloc.specs.Inside.{state_in, properties_in, list_object, span_of_slot}
 use Rattle.gpu_alloc.specs.Own.{OwnTable}
 use Rattle.gpu_alloc_block.specs.Parts.{IsAt}
 use Rattle.gpu_alloc.proofs.Linked.{IsRecorded}
@@ -39,6 +39,7 @@ use Rattle.gpu_alloc_block.specs.declared.block.Kind.TheVariants.{FreeListChunk}
 use Rattle.gpu_alloc_base.specs.declared.free_list_block.Slot.{Slot}
 use Rattle.gpu_alloc_base.specs.declared.heap.Heap.{Heap}
 use Rattle.gpu_alloc.specs.declared.limits.Limits.{Limits}
+use Rattle.gpu_alloc.proofs.Links.{slot_at}
 use Rattle.gpu_alloc.proofs.Agreeing.{not_held}
 use Rattle.gpu_alloc.proofs.Ledgers.{Held}
 use Rattle.gpu_alloc.proofs.FreeLists.Grants.{recorded_with_slot, state_with_slot, recorded_with_list_chunk, state_with_list_chunk, asked_size}

@@ -17,7 +17,7 @@ use Rattle.gpu_alloc_freelist.specs.FreeListAllocator as list
 use Rattle.gpu_alloc_freelist.specs.FreeListSound.{IsSoundListing}
 use Rattle.gpu_alloc_freelist.specs.FreeListState.{Listing, ListSpace}
 use Rattle.gpu_alloc_freelist.proofs.ForCallers.{account_without_chunk, all_go, sound_without_chunk}
-use Rattle.gpu_alloc.specs.Inside.{state_in, properties_in, fits_in, types_in, list_object, slot_at, IsLiveIn}
+use Rattle.gpu_alloc.specs.Inside.{state_in, properties_in, fits_in, types_in, list_object, IsLiveIn}
 use Rattle.gpu_alloc.specs.Own.{OwnTable}
 use Rattle.gpu_alloc.proofs.Linked.{IsConsistent, IsListOf, StandFor, chosen_less, consistent, lists_set}
 use Rattle.gpu_alloc.specs.Release.{AreChunksGone, LetsChunksGo, LetsGo, without_all, without_objects}
@@ -29,6 +29,7 @@ use Rattle.gpu_alloc.proofs.Wholes.{at_read, list_chunk_goes}
 use Rattle.gpu_alloc_block.specs.State.{HeldObject, Span, State, total}
 use Rattle.gpu_alloc_base.specs.declared.heap.Heap.{Heap}
 use Rattle.gpu_alloc.specs.declared.limits.Limits.{Limits}
+use Rattle.gpu_alloc.proofs.Links.{slot_at}
 use Rattle.gpu_alloc.proofs.Consistency.{heap_there, booked-let_go}
 use Rattle.gpu_alloc.proofs.HeapLists.{properties_kept, state_kept}
 use Rattle.gpu_alloc.proofs.Ledgers.{Held}

@@ -8,10 +8,11 @@ use Rattle.gpu_alloc_base.specs.Chunks.{Chunk, object_in}
 use Rattle.gpu_alloc_freelist.specs.FreeList as list
 use Rattle.gpu_alloc_freelist.specs.FreeListAllocator.{AreGone, object_of}
 use Rattle.gpu_alloc_freelist.specs.FreeListState.{Listing}
-use Rattle.gpu_alloc.specs.Inside.{IsNumberedChunk, list_object, span_of_slot, slot_at}
+use Rattle.gpu_alloc.specs.Inside.{list_object, span_of_slot}
 use Rattle.gpu_alloc.specs.FitSharing.{IsFitChunk}
 use Rattle.gpu_alloc.specs.FreeListSharing.{IsListChunk, IsFreeInChunk}
 use Rattle.gpu_alloc.specs.Release.{IsUnused, IsUnusedFit, HasLastListRun, ListChunkMayGo, AreChunksGone, AreFitsGone, AreGoneOfType, AreAllGone, without_all}
+use Rattle.gpu_alloc.proofs.Links.{IsNumberedChunk, slot_at}
 use Rattle.gpu_alloc_block.specs.State.{HeldObject, Span, span_cmp, State, IsLive}
 use Rattle.gpu_alloc_block.specs.declared.block.Kind.{Kind}
 use Rattle.gpu_alloc_block.specs.declared.block.Kind.TheVariants.{Dedicated, Imported, BuddyChunk, FreeListChunk, FitChunk}

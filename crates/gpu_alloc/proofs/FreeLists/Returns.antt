@@ -12,7 +12,7 @@ use Rattle.gpu_alloc_freelist.specs.FreeList.{without_slot}
 use Rattle.gpu_alloc_freelist.specs.FreeListAllocator.{LetsWholeChunksGo, account_without}
 use Rattle.gpu_alloc_freelist.specs.FreeListState.{Listing, IsLiveSlot}
 use Rattle.gpu_alloc_freelist.proofs.ForCallers.{sound_without_slot}
-use Rattle.gpu_alloc.specs.Inside.{state_in, properties_in, fits_in, types_in, list_object, span_of_slot, slot_at, IsNumberedChunk}
+use Rattle.gpu_alloc.specs.Inside.{state_in, properties_in, fits_in, types_in, list_object, span_of_slot}
 use Rattle.gpu_alloc.specs.Own.{OwnTable}
 use Rattle.gpu_alloc.proofs.Linked.{StandFor, chosen_same, lists_set}
 use Rattle.gpu_alloc.specs.Release.{AreChunksGone, GoesWith, without_span}
@@ -26,6 +26,7 @@ use Rattle.gpu_alloc_block.specs.declared.block.Kind.TheVariants.{FreeListChunk}
 use Rattle.gpu_alloc_base.specs.declared.free_list_block.Slot.{Slot}
 use Rattle.gpu_alloc_base.specs.declared.heap.Heap.{Heap}
 use Rattle.gpu_alloc.specs.declared.limits.Limits.{Limits}
+use Rattle.gpu_alloc.proofs.Links.{IsNumberedChunk, slot_at}
 use Rattle.gpu_alloc.proofs.Agreeing.{agrees_without_span}
 use Rattle.gpu_alloc.proofs.Consistency.{known_object, booked-span_gone}
 use Rattle.gpu_alloc.proofs.FreeLists.Going.{Handed, IsLeft, let_go_left, handed, list_in, of, unchanged}

@@ -11,8 +11,9 @@ use Rattle.gpu_alloc_base.specs.Accounts.{IsCounted, chunk_bytes}
 use Rattle.gpu_alloc_freelist.specs.FreeListAllocator.{sees_chunks}
 use Rattle.gpu_alloc_freelist.specs.FreeListAllocator as list
 use Rattle.gpu_alloc_freelist.specs.FreeListState.{Listing, IsLiveSlot}
-use Rattle.gpu_alloc.specs.Inside.{IsNumberedChunk, IsBooked, list_object, slot_at}
+use Rattle.gpu_alloc.specs.Inside.{IsBooked, list_object}
 use Rattle.gpu_alloc.specs.FreeListSharing.{list_block}
+use Rattle.gpu_alloc.proofs.Links.{IsNumberedChunk, slot_at}
 use Rattle.gpu_alloc_block.specs.State.{HeldObject, Span, State, IsLive, share}
 use Rattle.gpu_alloc_base.specs.declared.heap.Heap.{Heap}
 use Rattle.gpu_alloc.proofs.Agreeing.{agrees_returned}

@@ -10,7 +10,7 @@ use Rattle.gpu_alloc_freelist.specs.FreeList.{HasPlace, HasNumber, IsTail}
 use Rattle.gpu_alloc_base.specs.Accounts.{account}
 use Rattle.gpu_alloc_freelist.specs.FreeListAllocator.{rounded, alignment, question, case_of, list_case}
 use Rattle.gpu_alloc_freelist.specs.FreeListState.{Listing, IsFreeIn}
-use Rattle.gpu_alloc.specs.Inside.{IsNumberedChunk, list_object, span_of_slot, slot_at}
+use Rattle.gpu_alloc.specs.Inside.{list_object, span_of_slot}
 use Rattle.gpu_alloc.proofs.Linked.{IsListOf}
 use Rattle.gpu_alloc.specs.FreeListSharing.{list_size, list_alignment, list_question, next_list_chunk, latest_number, largest_list_chunk, IsListChunk, IsFreeInChunk, HasListPlace, HasListNumber, IsRunTail}
 use Rattle.gpu_alloc.specs.Candidates.{list_candidate, candidate}
@@ -23,6 +23,7 @@ use Rattle.gpu_alloc_block.specs.State.{State}
 use Rattle.gpu_alloc_base.specs.declared.free_list_block.Slot.{Slot}
 use Rattle.gpu_alloc_base.specs.declared.heap.Heap.{Heap}
 use Rattle.gpu_alloc.specs.declared.request.Request.{Request}
+use Rattle.gpu_alloc.proofs.Links.{IsNumberedChunk, slot_at}
 use Rattle.gpu_alloc_base.proofs.Maps.{one_value}
 use Rattle.gpu_alloc_base.proofs.SameRuns.{AreSameBytes, same_back, place_same, last_room_same}
 use Rattle.gpu_alloc.proofs.Buddies.Serving.{table_of}

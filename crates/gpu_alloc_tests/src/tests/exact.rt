@@ -124,9 +124,7 @@ impl Chunks {
     }
 
     /// Finds a block under its own key.
-    fn seek(&mut self, rt: &impl Abort, block: &FitBlock<SimMemory>)
-        ensures { self.new ≡ self.old }
-    {
+    fn seek(&self, rt: &impl Abort, block: &FitBlock<SimMemory>) {
         let (object, own) = (block.memory().object(), key_of(block));
         let found = self
             .allocator

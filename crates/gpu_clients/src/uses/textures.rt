@@ -1,16 +1,17 @@
 //! A cache of textures: blocks in an `IndexMap`, under the caller's own keys.
 
 ghost use Rattle.std.specs.Prelude.{◌≡◌, ◌≢◌, ◌↔◌, ◌+◌, ◌<◌, ℕ, [], length, remove, nat_eq, Some, None, IsTrue, IsSome};
-ghost use Rattle.std.specs.Prelude.{IfNone, IfSome, IfOk, IfErr, OnOk, OnErr};
+ghost use Rattle.std.specs.Prelude.{IfNone, IfSome, IfOk, IfErr, IsSomeAnd, OnOk, OnErr};
 ghost use Rattle.std.specs.Option.{option_copied};
 ghost use Rattle.gpu_alloc_types.specs.Properties.{IsUsable, properties_of};
+ghost use Rattle.gpu_alloc.specs.Allocation.{IsGranted};
 ghost use Rattle.gpu_alloc.specs.Request.{IsAskable};
 ghost use Rattle.gpu_alloc.specs.Serving.{MayServe};
 ghost use Rattle.gpu_alloc.specs.Kept.{outside};
 ghost use Rattle.gpu_alloc.specs.Keyed.{under};
 ghost use Rattle.indexmap.specs.IndexMap.{get, spare};
 ghost use Rattle.gpu_alloc.specs.UnderKeys.{PutsUnder, TakesUnder};
-ghost use Rattle.gpu_clients.specs.Textures.{texture_at};
+ghost use Rattle.gpu_clients.specs.Textures.{IsLoaded, texture_at};
 
 use crate::closing::close;
 use gpu_alloc::laws::{agrees_at_first, blocks_under_keys_come_and_go};
@@ -136,14 +137,16 @@ impl<M: MemoryObject, D: ObjectDevice<M>, A: Allocator + Copy> TextureCache<M, D
         self.textures.get(&key)
     }
 
-    /// Ensures that a key has a texture: the one that it has, or a new one for the request. As long as the new one is
-    /// refused, the oldest texture is evicted. A request that can never be served evicts nothing.
+    /// Ensures that a key has a texture: the one that it has, or a new one that is granted as requested (`loaded`). As
+    /// long as the new one is refused, the oldest texture is evicted. A request that can never be served evicts nothing.
     ///
     /// The request must be askable (`Request::is_askable`). The errors are those of [`GpuAllocator::alloc`], and
     /// `OutOfDeviceMemory` for a request that can never be served.
     pub fn load(&mut self, key: u64, request: Request) -> Result<(), AllocationError>
         requires { IsAskable ((self.old.allocator).properties).buffer_device_address request }
         ensures there { OnOk result (IsSome (texture_at self.new key)) }
+        ensures loaded { OnOk result (texture_at self.old key ≡ None
+            → IsLoaded self.old.allocator request self.new key) }
         ensures kept { IsSome (texture_at self.old key) → self.new ≡ self.old }
         ensures in_vain { (MayServe self.old.allocator request → ⊥) → self.new ≡ self.old }
         ensures properties { (self.new.allocator).properties ≡ (self.old.allocator).properties }
@@ -167,6 +170,8 @@ impl<M: MemoryObject, D: ObjectDevice<M>, A: Allocator + Copy> TextureCache<M, D
     fn create(&mut self, key: u64, request: Request) -> Result<(), AllocationError>
         requires askable { IsAskable ((self.old.allocator).properties).buffer_device_address request }
         ensures there { OnOk result (IsSome (texture_at self.new key)) }
+        ensures granted { OnOk result (texture_at self.old key ≡ None
+            → IsSomeAnd (texture_at self.new key) (IsGranted self.old.allocator request self.new.allocator)) }
         ensures refused { OnErr result (self.new.textures ≡ self.old.textures) }
         ensures properties { (self.new.allocator).properties ≡ (self.old.allocator).properties }
     {
@@ -205,6 +210,7 @@ impl<M: MemoryObject, D: ObjectDevice<M>, A: Allocator + Copy> TextureCache<M, D
         ensures some { IsTrue result ↔ (0 < length self.old.textures) }
         ensures oldest { self.new.textures ≡ remove self.old.textures 0 }
         ensures fewer { IsTrue result → length self.new.textures + 1 ≡ length self.old.textures }
+        ensures none_comes { (key : ℕ) → texture_at self.old key ≡ None → texture_at self.new key ≡ None }
         ensures properties { (self.new.allocator).properties ≡ (self.old.allocator).properties }
     {
         blocks_under_keys_come_and_go();

@@ -1,7 +1,7 @@
 use Rattle.std.proofs.Common.{◌∙◌, true}
 use Rattle.gpu_alloc_base.specs.Accounts.{account}
-use Rattle.gpu_alloc.specs.Inside.{slot_at}
 use Rattle.gpu_alloc.specs.Release.{GoesWith, without_span}
+use Rattle.gpu_alloc.proofs.Links.{slot_at}
 use Rattle.gpu_alloc.proofs.FreeLists.Going.{Handed, IsLeft, agrees_before, counted_first}
 use Rattle.gpu_alloc.proofs.FreeLists.Returns.{came_back, goes_with_list, handed_back, slot_live}
 use Rattle.gpu_alloc.proofs.Linked.{consistent}

@@ -55,7 +55,7 @@ returns-in-Ok-clause-keeps g c =
     let before = g.D.MemoryDevice.objects c.self.inside.device in
     rw (← c.self.view_is, c.keep.ensures.told, put) (record {
       given = record { properties = done.leaves.properties; config = done.leaves.config; sharing = done.leaves.sharing };
-      granted = (c.in-Ok.block, get_put _ c.args.name c.in-Ok.block, ((refl, refl, refl, refl), done.granted, done.own));
+      granted = (c.in-Ok.block, get_put _ c.args.name c.in-Ok.block, ((refl, refl, refl, refl), done.granted, done.exact, done.own));
       refused = tt;
       balance = done.total;
       others = λ name b another there.
