@@ -22,6 +22,7 @@ impl<M: MemoryObject, A: Allocator> GpuAllocator<M, A> {
     /// - An object of one block has no other. Only chunks of a free list and fit chunks are held without a live block,
     ///   and at most one fit chunk of a memory type is.
     /// - Chunks of a free list have numbers of their own. Shared chunks are of the kind that was chosen.
+    /// - A fit chunk has one of the sizes that fit chunks can have, and its live spans start and end at grains.
     /// - Apart from imports, no more of a heap is held than it has.
     pub fn owns(&self, block: &MemoryBlock<M>) -> bool
         ensures owned { IsTrue result ↔ IsOwned self.now block.now }
