@@ -205,7 +205,8 @@ typedef struct wt_limits {
 /* wt_config.sharing: how requests share objects if they are not WT_USAGE_TRANSIENT and get no object of their own. It
    stays as long as the allocator is open.
    WT_BUDDY: in buddy chunks. Each block is a power of two and starts at a multiple of its size. For each memory type
-   that it tries, a call looks at 63 lengths at most (proved), however many blocks are live.
+   that it tries, a call looks at 63 lengths at most (proved of the buddy allocator), however many blocks are live; with
+   WT_HELD_ONLY it looks twice at those of the type that serves.
    WT_FIT: in fit chunks. Each block is as long as asked, in whole grains (256 bytes, or the atom where that is larger),
    in a free run that has room. Requests over the first fit chunk's size get an object of their own. (That size is
    starting_free_list_chunk, cut to 1/32 of the heap; where it is less than a grain, all requests do.) Later chunks grow

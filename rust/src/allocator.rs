@@ -73,8 +73,8 @@ impl<M> GpuAllocator<M> {
     /// As [`try_new`](GpuAllocator::try_new), for a device with this `granularity` of buffers and images in bytes
     /// (`VkPhysicalDeviceLimits::bufferImageGranularity`): a power of two of at most 2^32, or 0, which counts as 1.
     ///
-    /// No page of that size of a memory object has bytes of an optimal block ([`alloc_optimal`]) and of a linear one
-    /// ([`alloc`]).
+    /// No page of that size of a memory object has one of the requested bytes of an optimal block ([`alloc_optimal`])
+    /// and a byte of a linear one ([`alloc`]).
     ///
     /// # Errors
     ///

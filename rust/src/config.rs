@@ -69,7 +69,8 @@ impl Config {
 #[derive(Clone, Copy, Debug, Default, PartialEq, Eq, Hash)]
 pub enum Sharing {
     /// In buddy chunks, as in `gpu-alloc`: each block has a power of two of bytes and starts at a multiple of its size.
-    /// For each memory type that it tries, a call looks at 63 lengths at most, however many blocks are live.
+    /// For each memory type that it tries, a call looks at 63 lengths at most, however many blocks are live;
+    /// `alloc_held` looks twice at those of the type that serves.
     #[default]
     Buddy,
 

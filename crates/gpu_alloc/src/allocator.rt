@@ -130,8 +130,8 @@ impl<M: MemoryObject, A: Allocator> GpuAllocator<M, A> {
     /// - Without `TRANSIENT`, where fit chunks were chosen, the block comes from a fit chunk. It has the request's size
     ///   in whole grains (256 bytes, or the atom where that is larger). It starts at a grain and with the request's
     ///   alignment, in a free run with room. Where no run has room, the device is asked for a chunk. That is twice as
-    ///   large as the latest fit chunk, or larger where the request needs it. It is at most four times the first, and
-    ///   no larger than a free list's largest. A request larger than the first fit chunk gets an object of its own.
+    ///   large as the latest fit chunk, at most four times the first, and no larger than a free list's largest. A
+    ///   request larger than the first fit chunk gets an object of its own.
     /// - With `TRANSIENT` the block comes from a chunk of the free list. It is the tail of the last free run with room,
     ///   from the last byte on that is aligned (to the request's alignment and the atom) and leaves the size in whole
     ///   atoms. Where no run has room, the device is asked for a chunk. That is twice as large as the free list's

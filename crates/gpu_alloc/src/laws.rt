@@ -149,9 +149,9 @@ pub fn fit_chunks_are_cut_at_grains()
 {}
 
 /// Fit chunks and their blocks, where fit chunks are chosen: sizes and alignments up to the grain, and the questions
-/// for chunks. These are for a first chunk, for the next one and for one that must be larger; a small heap cuts the
-/// largest. A request of exactly the first chunk's size is served by one, and one byte more gets an object of its own.
-/// A free list serves a transient one.
+/// for chunks. These are for a first chunk and for later ones; a small heap cuts the largest. A request of exactly the
+/// first chunk's size is served by one, and one byte more gets an object of its own. A free list serves a transient
+/// one.
 #[tactic(auto, unfolding(gpu_alloc_base::specs::Sizes::doubled_up, crate::specs::FitSharing::with_next_fit))]
 pub fn fit_chunks_of_samples()
     ensures one_grain { fit_size (fits_over 1048576 1 1) (bytes_for 1 0) 0 ≡ 256 }
@@ -163,7 +163,6 @@ pub fn fit_chunks_of_samples()
     ensures atom_aligned { fit_alignment (fits_over 1048576 2 1024) (bytes_for 1 0) 0 ≡ 1024 }
     ensures first { (fit_question (fits_over 1048576 1 1) 0 256).size ≡ 8192 }
     ensures as_large { (fit_question (fits_over 1048576 1 1) 0 8192).size ≡ 8192 }
-    ensures larger { (fit_question (fits_over 1048576 1 1) 0 8448).size ≡ 16384 }
     ensures second { (fit_question (with_fit_chunk (fits_over 1048576 1 1) 0 1 8192) 0 256).size ≡ 16384 }
     ensures last { (fit_question (with_fit_chunk (fits_over 1048576 1 1) 0 1 32768) 0 256).size ≡ 32768 }
     ensures seen { (fit_question (fits_over 3200 2 64) 0 256).mapped ≡ true }

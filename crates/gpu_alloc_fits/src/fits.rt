@@ -138,8 +138,9 @@ impl<M: MemoryObject, A: Allocator> Fits<M, A> {
     /// Whether there is room in a held chunk for a block of `size` bytes at a multiple of `align_mask + 1`. The size
     /// must be at least 1, and `align_mask + 1` a power of two of at most 2^63.
     ///
-    /// All tiles are searched only where the lists of free tiles show none with room. A request without a place is
-    /// remembered until a block is returned or a chunk is added. A tile that a search found is tried by the next call.
+    /// All tiles are searched only where the lists of free tiles show none with room. The latest request without a
+    /// place is remembered until a block is returned or a chunk is added. A tile that a search found is tried by the
+    /// next call.
     pub fn has_place(&mut self, size: u64, align_mask: u64) -> bool
         requires nonempty { 0 < size }
         requires alignment { IsAlignMask align_mask }

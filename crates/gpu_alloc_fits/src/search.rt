@@ -98,7 +98,8 @@ fn has_room(tile: Tile, size: u64, align_mask: u64) -> bool
 }
 
 /// The key of a free tile with room for a block of this size at a multiple of `align_mask + 1`, in bytes, or `None`
-/// exactly where no held chunk has a place for it. It remembers a request without a place, and the tile that it finds.
+/// exactly where no held chunk has a place for it. It remembers the latest request without a place, and the tile that it
+/// finds.
 #[inline(always)]
 pub(crate) fn find_place<M: MemoryObject, A: Allocator>(
     chunks: &Slab<Chunk<M>, A>,

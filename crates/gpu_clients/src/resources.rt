@@ -47,8 +47,8 @@ impl Model for Handle {
 /// A handle is a slot with the slot's generation. So a look-up is one step, and a handle whose block was freed finds
 /// nothing for ever, whatever the slot holds by then. A slot whose 2^32 generations are used up is never used again.
 ///
-/// Its granularity is how many bytes a page has. A block for an optimal image ([`create_optimal`]) shares no page with
-/// another block. The granularity never changes.
+/// Its granularity is how many bytes a page has. None of the bytes that were requested for an optimal image
+/// ([`create_optimal`]) shares a page with a byte of another block. The granularity never changes.
 ///
 /// [`create_optimal`]: ResourceManager::create_optimal
 pub struct ResourceManager<M: MemoryObject, D: ObjectDevice<M>, A: Allocator + Copy = Global> {

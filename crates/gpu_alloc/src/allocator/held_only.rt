@@ -27,7 +27,8 @@ use std::sync::ledger::Blank;
 
 impl<M: MemoryObject, A: Allocator> GpuAllocator<M, A> {
     /// Allocates a block from what is held. The device is asked for nothing, and is unchanged. It returns `Ok(None)`
-    /// where the request could be served only by asking.
+    /// where no memory type that may serve the request has a place for it. `alloc` would then ask the device, or refuse:
+    /// [`can_ever_serve`](GpuAllocator::can_ever_serve) tells a request that it refuses whatever is held.
     ///
     /// The request is that of [`alloc`](GpuAllocator::alloc), of `alloc_with_dedicated` where there is a hint, and of
     /// `alloc_optimal` where there is a granularity, in bytes. The memory types are tried in rank. The first with a
@@ -202,7 +203,7 @@ impl<M: MemoryObject, A: Allocator> GpuAllocator<M, A> {
         }
     }
 
-    /// Whether a memory type has a place for a request, perhaps with a hint. (Fit chunks remember a request that has no
+    /// Whether a memory type has a place for a request, perhaps with a hint. (Fit chunks remember the latest request that has no
     /// place in them.)
     fn has_place(&mut self, request: Request, hint: Option<Dedicated>, memory_type: u32) -> bool
         requires askable { IsAskable (self.old.properties).buffer_device_address request }

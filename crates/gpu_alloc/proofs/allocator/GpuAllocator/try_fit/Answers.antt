@@ -33,7 +33,7 @@ use Rattle.gpu_alloc.proofs.allocator.GpuAllocator.try_fit.Goals as goal
 some_bytes : {m n : ℕ} → 0 < m → m ≤ n → 0 < n
 some_bytes some enough = omega (arith, some, enough)
 
--- The call of the free list.
+-- The call of the allocator of fit chunks.
 
 pub index_mut-requires-2 : goal.index_mut-requires-2
 index_mut-requires-2 g c = below c.heap_index-heap.ensures c.self.inside.heaps.ok.0 (heap_there _ _ _ _ c.self.invariant.books refl c.args.memory_type (rw (← c.self.view_is) at c.requires.known))
