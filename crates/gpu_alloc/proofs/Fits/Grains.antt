@@ -58,11 +58,11 @@ module _ (s : State) (sound : IsSound s) (t object : ℕ) (of : IsFitChunk s t o
             | inr more ↦ omega (arith, more)
           ] in
           let before : Free object (start - 1) = free_byte (start - 1) (let in_chunk = inside_of start first in omega (arith, in_chunk)) (λ span live named in_span.
-              let ends : span.offset + span.size ≡ start = elim (cases_lt start (span.offset + span.size)) [
-                | inl over ↦ absurd (first.unused span live named (record { from = let from = in_span.from in omega (arith, from); to = over }))
-                | inr up ↦ let to = in_span.to in omega (arith, up, to, positive)
-              ] in
-              some (mod_from_multiple g start (subst (IsMultipleOf g) ends (span_of_grains span live named).1))) in
+          let ends : span.offset + span.size ≡ start = elim (cases_lt start (span.offset + span.size)) [
+            | inl over ↦ absurd (first.unused span live named (record { from = let from = in_span.from in omega (arith, from); to = over }))
+            | inr up ↦ let to = in_span.to in omega (arith, up, to, positive)
+          ] in
+          some (mod_from_multiple g start (subst (IsMultipleOf g) ends (span_of_grains span live named).1))) in
           let all : AreFree Free object (start - 1) end = λ at from to. elim (cases_lt at start) [
             | inl less ↦ subst (Free object) (omega (arith, from, less)) before
             | inr more ↦ run.free at more to
@@ -83,11 +83,11 @@ module _ (s : State) (sound : IsSound s) (t object : ℕ) (of : IsFitChunk s t o
         | inl none ↦ multiple_from_mod g end none
         | inr some ↦ absurd (
             let behind : Free object end = free_byte end inside (λ span live named in_span.
-                let begins : span.offset ≡ end = elim (cases_lt span.offset end) [
-                  | inl before ↦ absurd (last.unused span live named (record { from = omega (arith, before); to = let to = in_span.to in omega (arith, to) }))
-                  | inr after ↦ let from = in_span.from in omega (arith, after, from)
-                ] in
-                some (mod_from_multiple g end (subst (IsMultipleOf g) begins (span_of_grains span live named).0))) in
+            let begins : span.offset ≡ end = elim (cases_lt span.offset end) [
+              | inl before ↦ absurd (last.unused span live named (record { from = omega (arith, before); to = let to = in_span.to in omega (arith, to) }))
+              | inr after ↦ let from = in_span.from in omega (arith, after, from)
+            ] in
+            some (mod_from_multiple g end (subst (IsMultipleOf g) begins (span_of_grains span live named).0))) in
             let all : AreFree Free object start (end + 1) = λ at from to. elim (cases_lt at end) [
               | inl less ↦ run.free at from less
               | inr more ↦ subst (Free object) (omega (arith, more, to)) behind
