@@ -123,6 +123,11 @@ impl Chunks {
         )
     }
 
+    /// How many times all live blocks and free runs were searched.
+    fn searches(&self) -> u64 {
+        self.allocator.searches()
+    }
+
     /// Finds a block under its own key.
     fn seek(&self, rt: &impl Abort, block: &FitBlock<SimMemory>) {
         let (object, own) = (block.memory().object(), key_of(block));
@@ -295,14 +300,13 @@ impl Hand for Exact {
     fn dealloc(&mut self, rt: &impl Abort, at: usize, key: Option<usize>) {
         assert!(rt; at < self.blocks.len());
         let block = self.blocks.remove(at);
-        let before = self.chunks.allocator.searches();
+        let before = self.chunks.searches();
         self.chunks.seek(rt, &block);
         put_back::<Brand>(&mut self.chunks, block, key, Blank::new(1));
-        let searched = self.chunks.allocator.searches();
         let most = if key.is_some() { 1 } else { 0 };
         holds(
             rt,
-            searched <= before.saturating_add(most),
+            self.chunks.searches() <= before.saturating_add(most),
             "a block with its own key was searched for",
         );
     }
