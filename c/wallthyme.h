@@ -49,7 +49,9 @@
  *   free range, so a large alignment costs. With WT_CONFIG_PROTOTYPING 1,000 requests like a renderer's hold 1.5
  *   times what they ask, and 1.7 times after many exchanges; as WT_USAGE_TRANSIENT ones 1.0 to 1.1, and 1.5 times.
  *   In fit chunks (WT_FIT) a block is as long as asked, in whole grains: 1.13 to 1.14 times (doc/COSTS.md).
- * - A block may be used for several resources, one after the other or at once: the library knows only blocks.
+ * - A block may be used for several resources, one after the other or at once: the library knows only blocks. But where
+ *   a block's object was made for one resource (VkMemoryDedicatedAllocateInfo, see WT_ALLOCATE_OWN), bind no other one
+ *   to it (VUID-vkBindBufferMemory-memory-01508, VUID-vkBindImageMemory-memory-02628).
  * - Without a device it is a virtual allocator: grant every question, and use the ranges for whatever you like.
  *
  * Sizes, offsets and alignments are bytes. Each status has a text: wt_text.

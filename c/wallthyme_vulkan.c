@@ -106,6 +106,8 @@ typedef struct object {
     unsigned char *host;      /* what vkMapMemory returned while it is mapped, else null */
     VkDeviceSize host_offset; /* of that byte in the object */
     bool is_dedicated;
+    VkBuffer buffer; /* the one resource that the driver was told it is for, or none: nothing else may be bound to it */
+    VkImage image;
 } object;
 
 struct wtv_allocator {
@@ -241,6 +243,7 @@ static VkResult make_object(wtv_allocator *a, work *w, const wt_question *questi
 {
     bool is_dedicated = (question->flags & WT_ALLOCATE_OWN) != 0;
     bool has_resource = w->buffer != VK_NULL_HANDLE || w->image != VK_NULL_HANDLE;
+    bool has_owner = is_dedicated && has_resource && a->has_dedicated;
     VkMemoryDedicatedAllocateInfo owner = {
         .sType = VK_STRUCTURE_TYPE_MEMORY_DEDICATED_ALLOCATE_INFO,
         .pNext = w->next,
@@ -257,7 +260,7 @@ static VkResult make_object(wtv_allocator *a, work *w, const wt_question *questi
         .memoryTypeIndex = question->memory_type,
     };
     if (is_dedicated)
-        info.pNext = a->has_dedicated && has_resource ? &owner : w->next;
+        info.pNext = has_owner ? &owner : w->next;
     if (question->flags & WT_ALLOCATE_DEVICE_ADDRESS) {
         address.pNext = info.pNext;
         info.pNext = &address;
@@ -269,6 +272,10 @@ static VkResult make_object(wtv_allocator *a, work *w, const wt_question *questi
     }
     VkResult result = a->call.allocate_memory(a->device, &info, a->callbacks, &made->memory);
     made->is_dedicated = is_dedicated;
+    if (has_owner) {
+        made->buffer = w->buffer;
+        made->image = w->image;
+    }
     if (result == VK_SUCCESS)
         w->made = made;
     else
@@ -598,14 +605,28 @@ VkResult wtv_block_of(wtv_allocator *a, wtv_allocation allocation, wtv_block *to
     return result;
 }
 
+/* Whether an object may have this resource from that byte of its block on. One that the driver was told to be for one
+   resource keeps it (VUID-vkBindBufferMemory-memory-01508, VUID-vkBindImageMemory-memory-02628). */
+static bool is_place_for(const object *held, const work *w, VkDeviceSize offset)
+{
+    bool has_owner = held->buffer != VK_NULL_HANDLE || held->image != VK_NULL_HANDLE;
+    return !has_owner || (held->buffer == w->buffer && held->image == w->image && offset == 0);
+}
+
 /* Binds a resource within a block. */
 static VkResult bind_within(wtv_allocator *a, const work *w, wtv_allocation allocation, VkDeviceSize offset)
 {
-    wtv_block block;
-    VkResult result = wtv_block_of(a, allocation, &block);
-    if (result == VK_SUCCESS && offset >= block.asked)
+    wt_block block;
+    object *held;
+    VkDeviceMemory memory = VK_NULL_HANDLE;
+    enter(a);
+    VkResult result = find(a, allocation, &block, &held);
+    if (result == VK_SUCCESS && (offset >= block.asked || !is_place_for(held, w, offset)))
         result = VK_ERROR_VALIDATION_FAILED_EXT;
-    return result == VK_SUCCESS ? bind(a, w, block.memory, block.offset + offset) : result;
+    if (result == VK_SUCCESS)
+        memory = held->memory;
+    leave(a);
+    return result == VK_SUCCESS ? bind(a, w, memory, block.offset + offset) : result;
 }
 
 VkResult wtv_bind_buffer(wtv_allocator *a, wtv_allocation allocation, VkDeviceSize offset, VkBuffer buffer)

@@ -205,7 +205,14 @@ VkResult wtv_allocate_for_buffer(wtv_allocator *a, VkBuffer buffer, const wtv_re
 VkResult wtv_allocate_for_image(wtv_allocator *a, VkImage image, const wtv_request *request,
                                 wtv_allocation *allocation, wtv_block *block);
 
-/* Binds a buffer or an image to a block, from offset on. */
+/* Binds a buffer or an image to a block, from offset on. An image whose tiling is not linear wants a block with
+   WT_OPTIMAL, and any other resource one without. Several resources may lie in a block, one after the other or at once.
+   But an object that was made for one resource (VkMemoryDedicatedAllocateInfo) keeps it, so its block takes no other
+   one, and that one at offset 0 (VUID-vkBindBufferMemory-memory-01508, VUID-vkBindImageMemory-memory-02628). The calls
+   above that allocate for a resource make such an object where wtv_block.dedicated is 1, with
+   WTV_CREATE_DEDICATED_ALLOCATION; wtv_allocate makes none. Of an import the program knows it.
+   VK_ERROR_VALIDATION_FAILED_EXT: offset is at or behind the requested bytes (wtv_block.asked), or the object was made
+   for another resource, or for this one and offset is not 0. Any other error is the driver's. */
 VkResult wtv_bind_buffer(wtv_allocator *a, wtv_allocation allocation, VkDeviceSize offset, VkBuffer buffer);
 VkResult wtv_bind_image(wtv_allocator *a, wtv_allocation allocation, VkDeviceSize offset, VkImage image);
 

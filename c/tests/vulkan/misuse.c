@@ -1485,6 +1485,78 @@ static void run_binds(void)
     ended(&w);
 }
 
+/* An allocator over a driver of this version, with a buffer and an image that are bound to nothing. */
+static world begun_with(uint32_t version, const char *name)
+{
+    stub_plan plan = stub_usual_plan();
+    plan.api_version = version;
+    world w = {.driver = stub_open(&plan)};
+    current = name;
+    w.allocator = created(w.driver, NULL);
+    w.loose_buffer = made_buffer(&w);
+    w.loose_image = made_image(&w);
+    return w;
+}
+
+static void end_with(world *w)
+{
+    VkDevice device = stub_info(w->driver).device;
+    stub_table.destroy_buffer(device, w->loose_buffer, NULL);
+    stub_table.destroy_image(device, w->loose_image, NULL);
+    closed(w->driver, w->allocator);
+}
+
+static void expect_no_bind(world *w, VkBuffer buffer, VkImage image, VkDeviceSize offset)
+{
+    picture before = taken(w);
+    VkResult result = buffer != VK_NULL_HANDLE ? wtv_bind_buffer(w->allocator, w->made, offset, buffer)
+                                               : wtv_bind_image(w->allocator, w->made, offset, image);
+    expect(result == INVALID, "a second resource, or another offset, gets an object that was made for one resource");
+    compare(before, taken(w));
+}
+
+/* An object that was made for one resource keeps it. */
+static void check_owned(VkResult (*create)(world *))
+{
+    world w = begun_with(VK_API_VERSION_1_1, "binds to an object for one resource");
+    expect(create(&w) == VK_SUCCESS, "no resource is created");
+    uint64_t binds = stub_calls(w.driver, STUB_BIND_BUFFER) + stub_calls(w.driver, STUB_BIND_IMAGE);
+    expect_no_bind(&w, w.loose_buffer, VK_NULL_HANDLE, 0);
+    expect_no_bind(&w, VK_NULL_HANDLE, w.loose_image, 0);
+    expect_no_bind(&w, w.made_buffer, w.made_image, 256);
+    expect(stub_calls(w.driver, STUB_BIND_BUFFER) + stub_calls(w.driver, STUB_BIND_IMAGE) == binds,
+           "a bind that is refused comes to the driver");
+    destroy_made(&w);
+    end_with(&w);
+}
+
+static VkResult allocate_for_none(world *w)
+{
+    w->made = allocated(w, STUB_COHERENT, WT_REQUIRED);
+    return VK_SUCCESS;
+}
+
+/* Where nothing says so to the driver, a block alone in its object serves several resources, one after the other. */
+static void check_not_owned(uint32_t version, VkResult (*create)(world *))
+{
+    world w = begun_with(version, "binds to an object for no resource");
+    wtv_block block;
+    expect(create(&w) == VK_SUCCESS, "no block is allocated");
+    expect(wtv_block_of(w.allocator, w.made, &block) == VK_SUCCESS && block.dedicated == 1, "an object is shared");
+    stub_table.destroy_buffer(stub_info(w.driver).device, w.made_buffer, NULL);
+    expect(wtv_bind_buffer(w.allocator, w.made, 0, w.loose_buffer) == VK_SUCCESS, "a buffer is not bound");
+    replace_and_free(&w);
+    end_with(&w);
+}
+
+static void run_owners(void)
+{
+    check_owned(create_own_buffer);
+    check_owned(create_own_image);
+    check_not_owned(VK_API_VERSION_1_0, create_own_buffer);
+    check_not_owned(VK_API_VERSION_1_1, allocate_for_none);
+}
+
 /* The text that wtv_statistics_text should write, by the numbers of the other calls. */
 typedef struct expected_text {
     char text[8192];
@@ -1756,6 +1828,7 @@ int main(void)
     run_wishes();
     run_addresses();
     run_binds();
+    run_owners();
     run_texts();
     run_zeros();
     run_budgets();
