@@ -99,7 +99,9 @@ typedef struct wtv_create_info {
     uint32_t api_version; /* the lesser of what the instance was created for and what the device offers; 0: 1.0 */
     PFN_vkGetInstanceProcAddr get_instance_proc_addr; /* loads the functions; may be null where the table has all */
     const wtv_functions *functions;         /* each that is not null replaces the loaded one; copied. Or null */
-    const VkAllocationCallbacks *callbacks; /* passed to each Vulkan call that takes them; copied. Or null */
+    const VkAllocationCallbacks *callbacks; /* passed to each Vulkan call that takes them; copied. Or null. What the
+                                               program makes itself and this side destroys or frees needs compatible
+                                               ones: see wtv_destroy_buffer and wtv_import */
     const wt_config *config;                /* null: that of wtv_default_config, with WT_FIT. Any other says by its own
                                                sharing how requests share objects: zero there means WT_BUDDY */
     uint32_t other_objects; /* how many memory objects the program makes itself at most, outside this allocator */
@@ -151,7 +153,8 @@ typedef struct wtv_range {
    - instance, physical_device or device is null, or flags has an unknown bit;
    - api_version is neither 0 nor a version of Vulkan, for instance 11 instead of VK_API_VERSION_1_1;
    - a function is missing: get_instance_proc_addr is null, or does not have a function of api_version or of an
-     extension in flags (it is higher than what the instance was created for);
+     extension in flags. Nothing above 1.1 is loaded: where the driver has 1.1 or more, a version above its own is not
+     noticed, and changes nothing;
    - WTV_CREATE_MEMORY_BUDGET is set without properties2;
    - the device's properties are not valid in Vulkan (an atom or a granularity that is not a power of two);
    - config has a sharing that is neither WT_BUDDY nor WT_FIT;
@@ -176,7 +179,9 @@ void wtv_default_config(const VkPhysicalDeviceMemoryProperties *memory, wt_confi
 
 /* Creates a buffer, allocates memory for it and binds it. *block is what wtv_block_of returns; block may be null, and
    so may request: it is then all zeros.
-   Not for sparse buffers (VK_ERROR_FEATURE_NOT_PRESENT).
+   Not for sparse buffers (VK_ERROR_FEATURE_NOT_PRESENT), nor for buffers with a flag for capture and replay, such as
+   VK_BUFFER_CREATE_DEVICE_ADDRESS_CAPTURE_REPLAY_BIT, which is not checked: their memory needs
+   VkMemoryAllocateFlagsInfo with flags that this side does not set. Allocate it yourself, and import it.
    Where the driver refuses an object with VK_ERROR_OUT_OF_DEVICE_MEMORY or VK_ERROR_TOO_MANY_OBJECTS, the next memory
    type is tried. Any other error ends the request, and whatever was made is destroyed. Where the bind is refused, the
    block is freed as by wtv_free: an unused chunk of transient blocks, or an unused fit chunk, may stay. */
@@ -188,7 +193,10 @@ VkResult wtv_create_image(wtv_allocator *a, const VkImageCreateInfo *info, const
                           wtv_allocation *allocation, wtv_block *block);
 
 /* Destroys a buffer or an image, and frees its block. The device must be done with it. A null handle with allocation 0
-   does nothing. VK_ERROR_VALIDATION_FAILED_EXT: the allocation is unknown, and nothing is destroyed. */
+   does nothing. It is destroyed with wtv_create_info.callbacks: where the program created it itself, it did so with
+   compatible ones, or with none where those are null (VUID-vkDestroyBuffer-buffer-00923, -00924,
+   VUID-vkDestroyImage-image-01001, -01002). VK_ERROR_VALIDATION_FAILED_EXT: the allocation is unknown, and nothing is
+   destroyed. */
 VkResult wtv_destroy_buffer(wtv_allocator *a, VkBuffer buffer, wtv_allocation allocation);
 VkResult wtv_destroy_image(wtv_allocator *a, VkImage image, wtv_allocation allocation);
 
@@ -199,7 +207,10 @@ VkResult wtv_allocate(wtv_allocator *a, const VkMemoryRequirements *requirements
                       wtv_allocation *allocation, wtv_block *block);
 
 /* Allocates a block for the program's own buffer or image, and binds it. For an image whose tiling is not linear the
-   request has WT_OPTIMAL, and for a buffer whose address is used WT_USAGE_DEVICE_ADDRESS. */
+   request has WT_OPTIMAL, and for a buffer whose address is used WT_USAGE_DEVICE_ADDRESS. What cannot be served, and
+   which errors end a request, is as for wtv_create_buffer and wtv_create_image, but that no flag of the resource is
+   checked. Where the bind is refused, the block is freed as by wtv_free: an unused chunk of transient blocks, or an
+   unused fit chunk, may stay. The resource stays the program's. */
 VkResult wtv_allocate_for_buffer(wtv_allocator *a, VkBuffer buffer, const wtv_request *request,
                                  wtv_allocation *allocation, wtv_block *block);
 VkResult wtv_allocate_for_image(wtv_allocator *a, VkImage image, const wtv_request *request,
@@ -222,8 +233,9 @@ VkResult wtv_bind_image(wtv_allocator *a, wtv_allocation allocation, VkDeviceSiz
 VkResult wtv_free(wtv_allocator *a, wtv_allocation allocation);
 
 /* Imports a range of the program's own memory object as a block. The object has object_size bytes, is not mapped, and
-   belongs to the allocator from then on. On an error it stays the program's. wtv_candidates writes the memory types
-   that serve a usage, the best one first, at most 32, and their number. */
+   belongs to the allocator from then on, which frees it with wtv_create_info.callbacks: the program made it with
+   compatible ones, or with none where those are null. On an error it stays the program's. wtv_candidates writes the
+   memory types that serve a usage, the best one first, at most 32, and their number. */
 VkResult wtv_import(wtv_allocator *a, VkDeviceMemory memory, uint32_t memory_type, VkDeviceSize object_size,
                     VkDeviceSize offset, VkDeviceSize size, wtv_allocation *allocation, wtv_block *block);
 VkResult wtv_candidates(wtv_allocator *a, uint32_t usage, uint32_t memory_type_bits, uint32_t types[32],
@@ -232,8 +244,9 @@ VkResult wtv_candidates(wtv_allocator *a, uint32_t usage, uint32_t memory_type_b
 /* Reports a block. */
 VkResult wtv_block_of(wtv_allocator *a, wtv_allocation allocation, wtv_block *block);
 
-/* Writes the live blocks, in the order of their places, as many as fit in room, and their number to *count. after is 0,
-   or the allocation of the last block that the call before wrote. */
+/* Writes the live blocks, in the order of their places, as many as fit in room. *count is how many it wrote; where that
+   is less than room, there are no more. after is 0, or the allocation of the last block that the call before wrote. How
+   many are live in all says wtv_count. */
 VkResult wtv_blocks(wtv_allocator *a, wtv_allocation after, wtv_block *blocks, size_t room, size_t *count);
 
 /* Sets the program's own value of a block. */

@@ -829,6 +829,12 @@ static void say_a_variant(stub *s, wtv_create_info *info)
     info->api_version |= 1u << 29;
 }
 
+static void say_a_higher_version(stub *s, wtv_create_info *info)
+{
+    (void)s;
+    info->api_version = VK_MAKE_API_VERSION(0, 1, 4, 0);
+}
+
 static void say_no_version(stub *s, wtv_create_info *info)
 {
     (void)s;
@@ -882,6 +888,8 @@ static const creation creations[] = {
     {"1.0 with extensions", VK_SUCCESS, .api_version = VK_API_VERSION_1_0,
      .flags = WTV_CREATE_PROPERTIES2 | WTV_CREATE_DEDICATED_ALLOCATION | WTV_CREATE_MEMORY_BUDGET},
     {"1.3", VK_SUCCESS, .api_version = VK_API_VERSION_1_3, .flags = WTV_CREATE_MEMORY_BUDGET},
+    {"1.4 over 1.3", VK_SUCCESS, .spoil = say_a_higher_version, .api_version = VK_API_VERSION_1_3},
+    {"1.4 over 1.0", UNFIT, .spoil = say_a_higher_version, .api_version = VK_API_VERSION_1_0},
 };
 
 static stub *opened_for(const creation *c)
@@ -1662,7 +1670,7 @@ static void run_addresses(void)
 static void run_zeros(void)
 {
     world w = begun("zeros");
-    wtv_block block;
+    wtv_block block, blocks[BLOCKS + 1];
     size_t count = 7;
     picture before = taken(&w);
     expect(wtv_free(w.allocator, 0) == VK_SUCCESS, "no block is not freed");
@@ -1672,6 +1680,9 @@ static void run_zeros(void)
     expect(wtv_flush(w.allocator, NULL, 0) == VK_SUCCESS, "no range is not flushed");
     expect(wtv_invalidate(w.allocator, NULL, 0) == VK_SUCCESS, "no range is not invalidated");
     expect(wtv_blocks(w.allocator, 0, NULL, 0, &count) == VK_SUCCESS && count == 0, "no room for blocks");
+    for (size_t room = 1; room <= LENGTH(blocks); room++)
+        expect(wtv_blocks(w.allocator, 0, blocks, room, &count) == VK_SUCCESS
+                   && count == (room < BLOCKS ? room : BLOCKS), "a walk counts other blocks than it writes");
     expect(wtv_write(w.allocator, w.at[OWN], BLOCK_SIZE, NULL, 0) == VK_SUCCESS, "nothing is not written");
     expect(wtv_read(w.allocator, w.at[OWN], BLOCK_SIZE, NULL, 0) == VK_SUCCESS, "nothing is not read");
     wtv_free_text(NULL);
