@@ -739,21 +739,19 @@ static VkResult map_first(wtv_allocator *a, const wt_block *block, object *held)
 }
 
 /* Maps a block, under the lock. */
-static VkResult map(wtv_allocator *a, wtv_allocation allocation, unsigned char **bytes)
+static VkResult map(wtv_allocator *a, const wt_block *block, object *held)
 {
-    wt_block block;
-    object *held;
-    VkResult result = find(a, allocation, &block, &held);
-    if (result != VK_SUCCESS)
-        return result;
-    uintptr_t *times = value_of(&a->mappings, allocation);
+    uintptr_t *times = value_of(&a->mappings, block->key);
     if (times == NULL)
-        result = map_first(a, &block, held);
-    else
-        ++*times;
-    if (result == VK_SUCCESS)
-        *bytes = held->host + (block.offset - held->host_offset);
-    return result;
+        return map_first(a, block, held);
+    ++*times;
+    return VK_SUCCESS;
+}
+
+/* The first byte of a block that is mapped. */
+static unsigned char *bytes_of(const wt_block *block, const object *held)
+{
+    return held->host + (block->offset - held->host_offset);
 }
 
 /* Ends one mapping of a block, under the lock. */
@@ -777,12 +775,15 @@ static VkResult unmap(wtv_allocator *a, wtv_allocation allocation)
 
 VkResult wtv_map(wtv_allocator *a, wtv_allocation allocation, void **bytes)
 {
-    unsigned char *first;
+    wt_block block;
+    object *held;
     enter(a);
-    VkResult result = map(a, allocation, &first);
-    leave(a);
+    VkResult result = find(a, allocation, &block, &held);
     if (result == VK_SUCCESS)
-        *bytes = first;
+        result = map(a, &block, held);
+    if (result == VK_SUCCESS)
+        *bytes = bytes_of(&block, held);
+    leave(a);
     return result;
 }
 
@@ -796,21 +797,12 @@ VkResult wtv_unmap(wtv_allocator *a, wtv_allocation allocation)
 
 typedef VkResult(VKAPI_PTR *over_ranges)(VkDevice, uint32_t, const VkMappedMemoryRange *);
 
-/* The range of the driver's that covers a range of a block, if there is one: *count rises. */
-static VkResult add_range(wtv_allocator *a, const wtv_range *range, VkMappedMemoryRange *ranges, uint32_t *count)
+/* The range of the driver's that covers these bytes of a block, if there is one: *count rises. */
+static VkResult cover(wtv_allocator *a, const wt_block *block, const object *held, VkDeviceSize offset,
+                      VkDeviceSize size, VkMappedMemoryRange *ranges, uint32_t *count)
 {
-    wt_block block;
-    object *held;
     wt_range whole;
-    VkResult result = find(a, range->allocation, &block, &held);
-    if (result != VK_SUCCESS)
-        return result;
-    VkDeviceSize size = range->size;
-    if (size == VK_WHOLE_SIZE && range->offset <= block.size)
-        size = block.size - range->offset;
-    if (held->host == NULL)
-        return VK_ERROR_VALIDATION_FAILED_EXT;
-    result = result_of(wt_range_of(&a->core, range->allocation, range->offset, size, &whole));
+    VkResult result = result_of(wt_range_of(&a->core, block->key, offset, size, &whole));
     if (result == VK_SUCCESS && whole.size > 0)
         ranges[(*count)++] = (VkMappedMemoryRange){
             .sType = VK_STRUCTURE_TYPE_MAPPED_MEMORY_RANGE,
@@ -819,6 +811,22 @@ static VkResult add_range(wtv_allocator *a, const wtv_range *range, VkMappedMemo
             .size = whole.size,
         };
     return result;
+}
+
+/* The same for a range of the program's, of a block that has to be mapped. */
+static VkResult add_range(wtv_allocator *a, const wtv_range *range, VkMappedMemoryRange *ranges, uint32_t *count)
+{
+    wt_block block;
+    object *held;
+    VkResult result = find(a, range->allocation, &block, &held);
+    if (result != VK_SUCCESS)
+        return result;
+    VkDeviceSize size = range->size;
+    if (size == VK_WHOLE_SIZE && range->offset <= block.size)
+        size = block.size - range->offset;
+    if (held->host == NULL)
+        return VK_ERROR_VALIDATION_FAILED_EXT;
+    return cover(a, &block, held, range->offset, size, ranges, count);
 }
 
 /* Puts ranges to a call of the driver, with room for as many of its own. */
@@ -861,47 +869,71 @@ VkResult wtv_invalidate(wtv_allocator *a, const wtv_range *ranges, size_t count)
     return over_many(a, ranges, count, a->call.invalidate_mapped_memory_ranges);
 }
 
-/* Maps a block for a copy of these bytes, which have to be the block's. */
-static VkResult map_to_copy(wtv_allocator *a, const wtv_range *range, unsigned char **bytes)
+/* A copy of some of a block's bytes. */
+typedef struct copy {
+    unsigned char *bytes;      /* the first of them */
+    VkMappedMemoryRange range; /* which covers them */
+    uint32_t ranges;           /* 1, or 0 where no flush is needed */
+    bool is_mapped;            /* for the copy, so that it is to be unmapped */
+} copy;
+
+/* Begins a copy, under the lock. A shared object that the host sees is mapped as long as it lives. Any other one stays
+   mapped while it is counted, whatever other threads unmap. */
+static VkResult begin_copy(wtv_allocator *a, wtv_allocation allocation, VkDeviceSize offset, size_t size, copy *c)
 {
     wt_block block;
     object *held;
-    enter(a);
-    VkResult result = find(a, range->allocation, &block, &held);
-    if (result == VK_SUCCESS && (range->offset > block.size || range->size > block.size - range->offset))
-        result = VK_ERROR_VALIDATION_FAILED_EXT;
+    VkResult result = find(a, allocation, &block, &held);
     if (result == VK_SUCCESS)
-        result = map(a, range->allocation, bytes);
-    leave(a);
+        result = cover(a, &block, held, offset, size, &c->range, &c->ranges);
+    if (result == VK_SUCCESS && held->is_dedicated)
+        result = map(a, &block, held);
+    if (result == VK_SUCCESS) {
+        c->is_mapped = held->is_dedicated;
+        c->bytes = bytes_of(&block, held) + offset;
+    }
     return result;
 }
 
+/* No byte is copied under the lock. */
 VkResult wtv_write(wtv_allocator *a, wtv_allocation allocation, VkDeviceSize offset, const void *bytes, size_t size)
 {
-    const wtv_range range = {allocation, offset, size};
-    unsigned char *first;
-    VkResult result = map_to_copy(a, &range, &first);
+    copy c = {.ranges = 0};
+    enter(a);
+    VkResult result = begin_copy(a, allocation, offset, size, &c);
+    leave(a);
     if (result != VK_SUCCESS)
         return result;
     if (size > 0)
-        memcpy(first + offset, bytes, size);
-    result = wtv_flush(a, &range, 1);
-    wtv_unmap(a, allocation);
+        memcpy(c.bytes, bytes, size);
+    if (c.ranges == 0 && !c.is_mapped)
+        return VK_SUCCESS;
+    enter(a);
+    if (c.ranges > 0)
+        result = a->call.flush_mapped_memory_ranges(a->device, c.ranges, &c.range);
+    if (c.is_mapped)
+        unmap(a, allocation);
+    leave(a);
     return result;
 }
 
 VkResult wtv_read(wtv_allocator *a, wtv_allocation allocation, VkDeviceSize offset, void *bytes, size_t size)
 {
-    const wtv_range range = {allocation, offset, size};
-    unsigned char *first;
-    VkResult result = map_to_copy(a, &range, &first);
+    copy c = {.ranges = 0};
+    enter(a);
+    VkResult result = begin_copy(a, allocation, offset, size, &c);
+    if (result == VK_SUCCESS && c.ranges > 0)
+        result = a->call.invalidate_mapped_memory_ranges(a->device, c.ranges, &c.range);
+    if (result != VK_SUCCESS && c.is_mapped)
+        unmap(a, allocation);
+    leave(a);
     if (result != VK_SUCCESS)
         return result;
-    result = wtv_invalidate(a, &range, 1);
-    if (result == VK_SUCCESS && size > 0)
-        memcpy(bytes, first + offset, size);
-    wtv_unmap(a, allocation);
-    return result;
+    if (size > 0)
+        memcpy(bytes, c.bytes, size);
+    if (c.is_mapped)
+        wtv_unmap(a, allocation);
+    return VK_SUCCESS;
 }
 
 /* ---- How much is held. ---- */

@@ -23,7 +23,8 @@
  * Any other error is the driver's. wtv_create_buffer says which driver errors end a request and which do not.
  *
  * Threads. Calls may come from any thread. Each takes the allocator's lock and keeps it until its request or its free
- * has ended, including the driver's calls for memory objects. Buffers and images are created and bound without it.
+ * has ended, including the driver's calls for memory objects. Buffers and images are created and bound without it, and
+ * bytes are copied without it.
  * WTV_CREATE_NO_LOCK leaves the lock out; the program then makes one call at a time. No other call may run during
  * wtv_destroy. VkAllocationCallbacks must not call the allocator that they serve.
  *
@@ -264,7 +265,8 @@ VkResult wtv_unmap(wtv_allocator *a, wtv_allocation allocation);
    out. The memory must be host-visible: ask for WT_USAGE_UPLOAD, WT_USAGE_DOWNLOAD or WT_USAGE_HOST_ACCESS. With
    WT_USAGE_FAST_DEVICE_ACCESS alone it may not be (VK_ERROR_MEMORY_MAP_FAILED). The block need not be mapped. The bytes
    may lie past those that were requested (wtv_block.asked), up to the block's end. After an error of a flush each byte
-   is the old one or the new one. */
+   is the old one or the new one. The lock is held once before the bytes are copied, and once after that where something
+   is flushed or unmapped then: the block must not be freed until the call has returned. */
 VkResult wtv_write(wtv_allocator *a, wtv_allocation allocation, VkDeviceSize offset, const void *bytes, size_t size);
 VkResult wtv_read(wtv_allocator *a, wtv_allocation allocation, VkDeviceSize offset, void *bytes, size_t size);
 

@@ -7,26 +7,34 @@
 #include <stdarg.h>
 #include <string.h>
 
-/* ---- What the linker puts in place of the functions for memory, of the lock's, and of three of the library's. ---- */
+/* ---- What the linker puts in place of the functions for memory, of the lock's, and of four of the library's. ---- */
 
 void *__real_malloc(size_t size);
 void *__real_calloc(size_t count, size_t size);
 void *__real_realloc(void *old, size_t size);
 void __real_free(void *memory);
+void *__real_memcpy(void *to, const void *from, size_t size);
 int __real_pthread_mutex_init(pthread_mutex_t *lock, const pthread_mutexattr_t *attributes);
+int __real_pthread_mutex_lock(pthread_mutex_t *lock);
+int __real_pthread_mutex_unlock(pthread_mutex_t *lock);
 uint32_t __real_wt_version(void);
 uint32_t __real_wt_alloc(wt_allocator *a, const wt_request *request, const wt_question *asked, size_t asked_len,
                          wt_block *block, wt_question *question);
+uint32_t __real_wt_block_of(wt_allocator *a, uint64_t key, wt_block *block);
 uint32_t __real_wt_map(wt_allocator *a, uint64_t key, uint64_t offset, uint64_t size, const wt_question *asked,
                        size_t asked_len, wt_range *mapped, wt_question *question);
 void *__wrap_malloc(size_t size);
 void *__wrap_calloc(size_t count, size_t size);
 void *__wrap_realloc(void *old, size_t size);
 void __wrap_free(void *memory);
+void *__wrap_memcpy(void *to, const void *from, size_t size);
 int __wrap_pthread_mutex_init(pthread_mutex_t *lock, const pthread_mutexattr_t *attributes);
+int __wrap_pthread_mutex_lock(pthread_mutex_t *lock);
+int __wrap_pthread_mutex_unlock(pthread_mutex_t *lock);
 uint32_t __wrap_wt_version(void);
 uint32_t __wrap_wt_alloc(wt_allocator *a, const wt_request *request, const wt_question *asked, size_t asked_len,
                          wt_block *block, wt_question *question);
+uint32_t __wrap_wt_block_of(wt_allocator *a, uint64_t key, wt_block *block);
 uint32_t __wrap_wt_map(wt_allocator *a, uint64_t key, uint64_t offset, uint64_t size, const wt_question *asked,
                        size_t asked_len, wt_range *mapped, wt_question *question);
 
@@ -35,6 +43,15 @@ static bool is_all_refused, is_lock_refused, is_in_vain;
 static unsigned refusals;
 static long live_memory; /* pieces */
 static uint32_t other_version;
+
+/* What is seen of the allocator that was created last: its lock, and how often it was held; the calls of wt_block_of;
+   and copies of the program's bytes, and how many of them were made under the lock. */
+static struct {
+    pthread_mutex_t *lock;
+    bool is_held;
+    const char *bytes;
+    unsigned holds, lookups, copies, copies_under_lock;
+} seen_of_lock;
 
 static void *counted(void *memory)
 {
@@ -79,9 +96,36 @@ void __wrap_free(void *memory)
     __real_free(memory);
 }
 
+void *__wrap_memcpy(void *to, const void *from, size_t size)
+{
+    if (seen_of_lock.bytes != NULL && (from == seen_of_lock.bytes || to == seen_of_lock.bytes)) {
+        seen_of_lock.copies++;
+        seen_of_lock.copies_under_lock += seen_of_lock.is_held;
+    }
+    return __real_memcpy(to, from, size);
+}
+
 int __wrap_pthread_mutex_init(pthread_mutex_t *lock, const pthread_mutexattr_t *attributes)
 {
+    seen_of_lock.lock = lock;
     return is_lock_refused ? 1 : __real_pthread_mutex_init(lock, attributes);
+}
+
+int __wrap_pthread_mutex_lock(pthread_mutex_t *lock)
+{
+    int result = __real_pthread_mutex_lock(lock);
+    if (lock == seen_of_lock.lock) {
+        seen_of_lock.holds++;
+        seen_of_lock.is_held = true;
+    }
+    return result;
+}
+
+int __wrap_pthread_mutex_unlock(pthread_mutex_t *lock)
+{
+    if (lock == seen_of_lock.lock)
+        seen_of_lock.is_held = false;
+    return __real_pthread_mutex_unlock(lock);
 }
 
 uint32_t __wrap_wt_version(void)
@@ -96,6 +140,12 @@ uint32_t __wrap_wt_alloc(wt_allocator *a, const wt_request *request, const wt_qu
     if (is_in_vain && asked_len > 0)
         return WT_OUT_OF_HOST_MEMORY;
     return __real_wt_alloc(a, request, asked, asked_len, block, question);
+}
+
+uint32_t __wrap_wt_block_of(wt_allocator *a, uint64_t key, wt_block *block)
+{
+    seen_of_lock.lookups++;
+    return __real_wt_block_of(a, key, block);
 }
 
 uint32_t __wrap_wt_map(wt_allocator *a, uint64_t key, uint64_t offset, uint64_t size, const wt_question *asked,
@@ -1473,6 +1523,55 @@ static void check_addresses(uint32_t flags, VkResult wanted, uint32_t usage, uin
     closed(s, a);
 }
 
+/* Of a write or a read: how often the lock is held, and that each byte is copied once, and none under the lock. The
+   block is looked up once. */
+static void check_copy(world *w, enum which which, bool is_write, VkResult wanted, unsigned holds)
+{
+    static char bytes[100];
+    const bool is_done = wanted == VK_SUCCESS;
+    picture before = taken(w);
+    seen_of_lock.bytes = bytes;
+    seen_of_lock.holds = seen_of_lock.lookups = seen_of_lock.copies = seen_of_lock.copies_under_lock = 0;
+    VkResult result = is_write ? wtv_write(w->allocator, w->at[which], 5, bytes, sizeof bytes)
+                               : wtv_read(w->allocator, w->at[which], 5, bytes, sizeof bytes);
+    seen_of_lock.bytes = NULL;
+    expect(result == wanted, "another result");
+    expect(seen_of_lock.copies == (is_done ? 1 : 0) && seen_of_lock.copies_under_lock == 0,
+           "bytes are copied under the lock, or twice");
+    if (seen_of_lock.holds != holds)
+        fprintf(stderr, "the lock is held %u times, and not %u\n", seen_of_lock.holds, holds);
+    expect(seen_of_lock.holds == holds, "the lock is held more often than it has to be");
+    expect(seen_of_lock.lookups == 1, "a block is looked up more than once");
+    compare(before, taken(w));
+}
+
+/* The lock is held a second time only to flush what is not coherent, or to end a mapping. */
+static void run_copies(void)
+{
+    static const struct {
+        enum which which;
+        VkResult wanted;
+        unsigned write_holds, read_holds;
+    } copies[] = {
+        {SHARED, VK_SUCCESS, 1, 1},
+        {CACHED, VK_SUCCESS, 2, 1},
+        {OWN, VK_SUCCESS, 2, 2},
+        {IMPORTED, VK_SUCCESS, 2, 2},
+        {LOCAL, VK_ERROR_MEMORY_MAP_FAILED, 1, 1},
+        {FREED, INVALID, 1, 1},
+    };
+    for (size_t i = 0; i < LENGTH(copies); i++)
+        for (int is_mapped = 0; is_mapped < 2; is_mapped++) {
+            world w = begun("copies");
+            void *mapped;
+            if (is_mapped)
+                (void)wtv_map(w.allocator, w.at[copies[i].which], &mapped);
+            check_copy(&w, copies[i].which, true, copies[i].wanted, copies[i].write_holds);
+            check_copy(&w, copies[i].which, false, copies[i].wanted, copies[i].read_holds);
+            ended(&w);
+        }
+}
+
 /* Two buffers in one block, behind its first bytes. */
 static void run_binds(void)
 {
@@ -1838,6 +1937,7 @@ int main(void)
            LENGTH(creations));
     run_wishes();
     run_addresses();
+    run_copies();
     run_binds();
     run_owners();
     run_texts();
