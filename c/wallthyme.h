@@ -49,6 +49,16 @@
  *   free range, so a large alignment costs. With WT_CONFIG_PROTOTYPING 1,000 requests like a renderer's hold 1.5
  *   times what they ask, and 1.7 times after many exchanges; as WT_USAGE_TRANSIENT ones 1.0 to 1.1, and 1.5 times.
  *   In fit chunks (WT_FIT) a block is as long as asked, in whole grains: 1.13 to 1.14 times (doc/COSTS.md).
+ * - WT_OUT_OF_DEVICE_MEMORY may come while memory is free, since a chunk is mostly larger than the request. Whoever
+ *   writes a device asks once more then, unless the request has WT_REQUIRED or WT_HELD_ONLY: with no question so far,
+ *   for an object of its own, of the memory types for which none was refused.
+ *
+ *       for (const wt_question *q = asked; q < asked + n; q++)
+ *           if (q->flags & WT_ALLOCATE_OWN && q->answer != WT_GRANTED) request.memory_types &= ~(1u << q->memory_type);
+ *       request.dedicated = WT_REQUIRED;
+ *
+ *   So every memory type is tried shared before any is tried alone, and each such block costs an object. Where the
+ *   second try fails too, the first status says why.
  * - A block may be used for several resources, one after the other or at once: the library knows only blocks. But where
  *   a block's object was made for one resource (VkMemoryDedicatedAllocateInfo, see WT_ALLOCATE_OWN), bind no other one
  *   to it (VUID-vkBindBufferMemory-memory-01508, VUID-vkBindImageMemory-memory-02628).

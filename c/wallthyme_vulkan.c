@@ -218,6 +218,7 @@ typedef struct work {
     const void *next; /* of wtv_request */
     object *made;     /* or null */
     VkResult result;  /* of the last call of the driver */
+    uint32_t refused; /* bit i: an object of memory type i for this request alone, for want of device memory */
 } work;
 
 static uint32_t answer_of(VkResult result)
@@ -303,7 +304,10 @@ static uint32_t answer(wtv_allocator *a, work *w, const wt_question *question)
     } else {
         w->result = map_object(a, w->made, question);
     }
-    return answer_of(w->result);
+    uint32_t answered = answer_of(w->result);
+    if (answered == WT_NO_DEVICE_MEMORY && (question->flags & WT_ALLOCATE_OWN) != 0)
+        w->refused |= (uint32_t)1 << question->memory_type;
+    return answered;
 }
 
 /* A refusal that the driver caused is the driver's. Where it lacked device memory, the core may still end the request
@@ -317,9 +321,9 @@ static VkResult ended(const work *w, uint32_t status)
     return lacked_device_memory || was_ended ? w->result : result_of(status);
 }
 
-/* Serves a request that asks questions, of which this is the first. */
-static SELDOM VkResult serve_by_driver(wtv_allocator *a, const wt_request *request, const wt_question *first, work *w,
-                                       wt_block *block)
+/* Puts the questions of a request to the driver, of which this is the first. It returns the core's last status. */
+static uint32_t ask_driver(wtv_allocator *a, const wt_request *request, const wt_question *first, work *w,
+                           wt_block *block)
 {
     wt_question asked[WT_MAX_QUESTIONS + 1];
     uint32_t status = WT_ASK;
@@ -333,7 +337,34 @@ static SELDOM VkResult serve_by_driver(wtv_allocator *a, const wt_request *reque
         w->made = NULL;
     }
     free_made(a, w);
-    return ended(w, status);
+    return status;
+}
+
+/* Asks once more for a request that ended for want of device memory, now for an object of its own: a shared one is
+   mostly larger than the request. Memory types that were refused so already are left out. */
+static bool is_served_alone(wtv_allocator *a, const wt_request *request, work *w, wt_block *block)
+{
+    wt_request alone = *request;
+    wt_question first;
+    if (request->dedicated == WT_REQUIRED || (request->flags & WT_HELD_ONLY) != 0)
+        return false;
+    alone.dedicated = WT_REQUIRED;
+    alone.memory_types &= ~w->refused;
+    if (alone.memory_types == 0)
+        return false;
+    uint32_t status = wt_alloc(&a->core, &alone, NULL, 0, block, &first);
+    return status == WT_ASK && ask_driver(a, &alone, &first, w, block) == WT_OK;
+}
+
+/* Serves a request that asks a first question, or ends without one. */
+static SELDOM VkResult serve_otherwise(wtv_allocator *a, const wt_request *request, uint32_t status,
+                                       const wt_question *first, work *w, wt_block *block)
+{
+    if (status == WT_ASK)
+        status = ask_driver(a, request, first, w, block);
+    VkResult result = ended(w, status);
+    bool is_served = status == WT_OUT_OF_DEVICE_MEMORY && is_served_alone(a, request, w, block);
+    return is_served ? VK_SUCCESS : result;
 }
 
 /* Serves a request, under the lock. Most ask nothing. */
@@ -341,7 +372,7 @@ static inline VkResult serve(wtv_allocator *a, const wt_request *request, work *
 {
     wt_question first;
     uint32_t status = wt_alloc(&a->core, request, NULL, 0, block, &first);
-    return status == WT_ASK ? serve_by_driver(a, request, &first, w, block) : result_of(status);
+    return status == WT_OK ? VK_SUCCESS : serve_otherwise(a, request, status, &first, w, block);
 }
 
 static bool is_in_chain(const void *chain, VkStructureType type)

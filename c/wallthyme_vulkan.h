@@ -15,7 +15,8 @@
  * - VK_ERROR_OUT_OF_HOST_MEMORY, VK_ERROR_OUT_OF_DEVICE_MEMORY, VK_ERROR_MEMORY_MAP_FAILED, VK_ERROR_DEVICE_LOST: as
  *   the driver returned them. VK_ERROR_OUT_OF_DEVICE_MEMORY is also for a request that is larger than the device allows
  *   or than every permitted heap's limit leaves, or that needs an object with WT_HELD_ONLY. VK_ERROR_OUT_OF_HOST_MEMORY
- *   is also for memory that this side or the library lacks.
+ *   is also for memory that this side or the library lacks. A shared object is mostly larger than the request, and may
+ *   be refused while memory is free: see wtv_create_buffer.
  * - VK_ERROR_TOO_MANY_OBJECTS: as many memory objects are held as the device allows.
  * - VK_ERROR_FEATURE_NOT_PRESENT: no permitted memory type serves the usage, or the resource is sparse or disjoint.
  * - VK_ERROR_VALIDATION_FAILED_EXT: an argument that the call forbids, such as an unknown allocation or a range that
@@ -184,8 +185,13 @@ void wtv_default_config(const VkPhysicalDeviceMemoryProperties *memory, wt_confi
    VK_BUFFER_CREATE_DEVICE_ADDRESS_CAPTURE_REPLAY_BIT, which is not checked: their memory needs
    VkMemoryAllocateFlagsInfo with flags that this side does not set. Allocate it yourself, and import it.
    Where the driver refuses an object with VK_ERROR_OUT_OF_DEVICE_MEMORY or VK_ERROR_TOO_MANY_OBJECTS, the next memory
-   type is tried. Any other error ends the request, and whatever was made is destroyed. Where the bind is refused, the
-   block is freed as by wtv_free: an unused chunk of transient blocks, or an unused fit chunk, may stay. */
+   type is tried. Where the device or the heaps' limits have no room for any of these objects, the request is tried once
+   more as with WT_REQUIRED, under the same hold of the lock, over the memory types for which no object of its own was
+   refused. So every memory type is tried shared before any is tried alone. Each block that is served so costs a memory
+   object (maxMemoryAllocationCount). Where the second try fails too, the result is that of the first one. There is no
+   second try with WT_REQUIRED or WT_HELD_ONLY.
+   Any other error ends the request, and whatever was made is destroyed. Where the bind is refused, the block is freed
+   as by wtv_free: an unused chunk of transient blocks, or an unused fit chunk, may stay. */
 VkResult wtv_create_buffer(wtv_allocator *a, const VkBufferCreateInfo *info, const wtv_request *request,
                            VkBuffer *buffer, wtv_allocation *allocation, wtv_block *block);
 
@@ -203,7 +209,8 @@ VkResult wtv_destroy_image(wtv_allocator *a, VkImage image, wtv_allocation alloc
 
 /* ---- Blocks. ---- */
 
-/* Allocates a block for given requirements; nothing is bound to it. */
+/* Allocates a block for given requirements; nothing is bound to it. Errors, and a second try, are as for
+   wtv_create_buffer. */
 VkResult wtv_allocate(wtv_allocator *a, const VkMemoryRequirements *requirements, const wtv_request *request,
                       wtv_allocation *allocation, wtv_block *block);
 

@@ -1,6 +1,6 @@
 /* A device with as many memory types as there can be, all of them mapped, that makes each object and maps none, or the
  * last one alone: no request asks more, and each question is asked once. What was made in vain is the caller's to free,
- * and the library holds none of it. */
+ * and the library holds none of it. At last requests are refused while memory is free, and asked once more. */
 #include "common.h"
 
 #define MOST_TYPES 32
@@ -78,12 +78,72 @@ static void check_last_granted(wt_allocator *a) {
     check_holds_none(a);
 }
 
+/* ---- Memory is free, and no chunk is granted: the request is asked once more, as wallthyme.h says. ---- */
+
+/* Two heaps, of which the second one is small: what is a chunk's there is an object of its own in the first. */
+enum { LARGE_TYPE, SMALL_TYPE };
+
+static uint32_t grants_up_to_a_mebibyte(const wt_question *question) {
+    return question->size > MEBIBYTE ? WT_NO_DEVICE_MEMORY : WT_GRANTED;
+}
+
+static uint32_t grants_nothing_small(const wt_question *question) {
+    return question->memory_type == SMALL_TYPE ? WT_NO_DEVICE_MEMORY : grants_up_to_a_mebibyte(question);
+}
+
+static void open_roomily(wt_allocator *a) {
+    const wt_memory_type types[] = { { 0, WT_DEVICE_LOCAL }, { 1, WT_DEVICE_LOCAL } };
+    const uint64_t heaps[] = { 1024 * MEBIBYTE, 2 * MEBIBYTE };
+    const wt_limits limits = device_limits(64, 0);
+    const wt_config config = { 8 * MEBIBYTE, MEBIBYTE, 8 * MEBIBYTE, 2 * MEBIBYTE,
+                               8 * MEBIBYTE, 1024,     2 * MEBIBYTE, WT_FIT };
+    expect(wt_open(a, types, LENGTH(types), heaps, LENGTH(heaps), &limits, &config) == WT_OK, "it was not opened");
+}
+
+/* By the lines of wallthyme.h. */
+static uint32_t ask_once_more(wt_allocator *a, wt_request request, answering *answer, questions *talk,
+                              wt_block *block) {
+    const wt_question *asked = talk->asked;
+    const size_t n = talk->len;
+    for (const wt_question *q = asked; q < asked + n; q++)
+        if (q->flags & WT_ALLOCATE_OWN && q->answer != WT_GRANTED) request.memory_types &= ~(1u << q->memory_type);
+    request.dedicated = WT_REQUIRED;
+    return allocate(a, &request, answer, talk, block);
+}
+
+static void check_once_more(const char *name, uint64_t size, uint32_t types, uint64_t limit, answering *answer,
+                            size_t asked_first) {
+    const wt_request request = REQUEST(size, 0, 0, types, WT_SHARED);
+    wt_allocator a = { 0, NULL };
+    questions talk;
+    wt_block block;
+    uint64_t gone;
+    size_t count;
+    current_case = name;
+    open_roomily(&a);
+    expect(wt_set_heap_limit(&a, 0, limit) == WT_OK, "no limit is set");
+    expect(allocate(&a, &request, answer, &talk, &block) == WT_OUT_OF_DEVICE_MEMORY, "it is granted");
+    expect(talk.len == asked_first, "other questions are asked first");
+    expect(ask_once_more(&a, request, answer, &talk, &block) == WT_OK, "it is refused though memory is free");
+    expect(talk.len == 1 && talk.asked[0].memory_type == LARGE_TYPE && block.size == size, "more is asked");
+    expect(wt_free(&a, block.key) == WT_OK && wt_gone(&a, &gone, 1, &count) == WT_OK && count == 1, "it does not go");
+    expect(wt_close(&a) == WT_OK, "it is not closed");
+}
+
+static void check_all_once_more(void) {
+    const uint32_t large = 1u << LARGE_TYPE, both = large | 1u << SMALL_TYPE;
+    check_once_more("a limit of 1 MiB", 4096, large, MEBIBYTE, grants, 0);
+    check_once_more("objects up to 1 MiB", 4096, large, UINT64_MAX, grants_up_to_a_mebibyte, 1);
+    check_once_more("a type refused alone", 100 * KIBIBYTE, both, UINT64_MAX, grants_nothing_small, 2);
+}
+
 int main(void) {
     wt_allocator allocator = { 0, NULL };
     open_many_types(&allocator);
     check_all_refused(&allocator);
     check_last_granted(&allocator);
     expect(wt_close(&allocator) == WT_OK, "it is not closed");
-    printf("questions: %d in one call, all refused and all but the last\n", WT_MAX_QUESTIONS);
+    check_all_once_more();
+    printf("questions: %d in one call, all refused and all but the last; a request asked once more\n", WT_MAX_QUESTIONS);
     return 0;
 }

@@ -1190,12 +1190,13 @@ static VkResult done_and_undone(world *w, const deed *d)
     return result;
 }
 
-/* Without an error that lets the next memory type be tried, the deed ends with the driver's own. */
+/* Without an error that lets the next memory type be tried, the deed ends with the driver's own. An object for one
+   block alone is not mapped when it is made: where each mapping lacks device memory, the request is served by one. */
 static bool is_as_said(const deed *d, stub_function refused, VkResult error, bool is_each, VkResult result)
 {
     bool is_for_objects = refused == STUB_ALLOCATE || refused == STUB_MAP;
     bool is_lack = error == VK_ERROR_OUT_OF_DEVICE_MEMORY || error == VK_ERROR_TOO_MANY_OBJECTS;
-    bool goes_on = is_for_objects && is_lack && d->has_next && !is_each;
+    bool goes_on = is_for_objects && is_lack && d->has_next && (!is_each || refused == STUB_MAP);
     return result == (goes_on ? VK_SUCCESS : error);
 }
 
@@ -1664,6 +1665,205 @@ static void run_owners(void)
     check_not_owned(VK_API_VERSION_1_1, allocate_for_none);
 }
 
+/* ---- Requests that are served alone, since memory is free and no chunk is granted. ---- */
+
+enum { MIB = 1 << 20, KIB = 1 << 10, LARGE_HEAP = 2048 /* MiB */, MOST_ASKED = 16 };
+enum { LARGE_TYPES = 1 << STUB_LOCAL | 1 << STUB_COHERENT | 1 << STUB_CACHED }; /* the memory types of large heaps */
+
+/* A driver with large heaps, so that chunks have 2 MiB: what it is asked for, and what it refuses, shared or alone. */
+static struct {
+    struct asked {
+        uint32_t type;
+        VkDeviceSize size;
+    } asked[MOST_ASKED];
+    size_t asked_len;
+    VkDeviceSize largest; /* the object that it grants */
+    VkResult refusal, alone_refusal; /* of objects of at least MIB, and of smaller ones */
+} roomy;
+
+/* Of its heaps the one that is device-local and visible stays as small as the stub's. */
+static VKAPI_ATTR void VKAPI_CALL tell_large_heaps(VkPhysicalDevice physical,
+                                                   VkPhysicalDeviceMemoryProperties *properties)
+{
+    stub_table.get_physical_device_memory_properties(physical, properties);
+    properties->memoryHeaps[STUB_LOCAL_HEAP].size = properties->memoryHeaps[STUB_HOST_HEAP].size =
+        (VkDeviceSize)LARGE_HEAP * MIB;
+}
+
+static VKAPI_ATTR VkResult VKAPI_CALL allocate_roomily(VkDevice device, const VkMemoryAllocateInfo *info,
+                                                       const VkAllocationCallbacks *callbacks, VkDeviceMemory *memory)
+{
+    expect(roomy.asked_len < MOST_ASKED, "the driver is asked for ever");
+    roomy.asked[roomy.asked_len++] = (struct asked){info->memoryTypeIndex, info->allocationSize};
+    if (info->allocationSize > roomy.largest)
+        return info->allocationSize >= MIB ? roomy.refusal : roomy.alone_refusal;
+    return stub_table.allocate_memory(device, info, callbacks, memory);
+}
+
+static const wtv_functions roomy_functions = {
+    .get_physical_device_memory_properties = tell_large_heaps,
+    .allocate_memory = allocate_roomily,
+};
+
+static world begun_roomily(const char *name, VkDeviceSize largest)
+{
+    stub_plan plan = stub_usual_plan();
+    world w = {.driver = stub_open(&plan)};
+    wtv_create_info info = stub_info(w.driver);
+    current = name;
+    info.functions = &roomy_functions;
+    roomy.asked_len = 0;
+    roomy.largest = largest;
+    roomy.refusal = roomy.alone_refusal = VK_ERROR_OUT_OF_DEVICE_MEMORY;
+    expect(wtv_create(&info, &w.allocator) == VK_SUCCESS, "no allocator is created");
+    return w;
+}
+
+static void limit_heaps(world *w, VkDeviceSize limit)
+{
+    for (uint32_t i = 0; i < STUB_HEAPS; i++)
+        expect(wtv_set_heap_limit(w->allocator, i, limit) == VK_SUCCESS, "no limit is set");
+}
+
+/* The driver was asked for these, in this order. */
+static void expect_asked(const struct asked *wanted, size_t wanted_len)
+{
+    for (size_t i = 0; i < roomy.asked_len && roomy.asked_len != wanted_len; i++)
+        fprintf(stderr, "asked for %llu bytes of %u\n", (unsigned long long)roomy.asked[i].size, roomy.asked[i].type);
+    expect(roomy.asked_len == wanted_len, "the driver is asked more often or less often");
+    for (size_t i = 0; i < wanted_len; i++)
+        expect(roomy.asked[i].type == wanted[i].type && roomy.asked[i].size == wanted[i].size,
+               "the driver is asked for something else");
+}
+
+/* A request of that many bytes of any memory, and how it ends. The lock is held once. */
+static wtv_block asked_for(world *w, VkDeviceSize size, const wtv_request *request, VkResult wanted)
+{
+    const VkMemoryRequirements needs = {size, 16, STUB_ALL_TYPES};
+    wtv_block block = {.allocation = 7};
+    roomy.asked_len = 0;
+    seen_of_lock.holds = 0;
+    VkResult result = wtv_allocate(w->allocator, &needs, request, &w->made, &block);
+    if (result != wanted)
+        fprintf(stderr, "the result is %d, and not %d\n", result, wanted);
+    expect(result == wanted, "a request is refused while memory is free, or the first result is not returned");
+    expect(seen_of_lock.holds == 1, "a request holds the lock more than once");
+    return block;
+}
+
+/* A limit of 1 MiB, and chunks of 2 MiB: no question is asked for one, and the first memory type serves alone. */
+static void check_limited(uint32_t usage)
+{
+    static const struct asked alone[] = {{STUB_LOCAL, 4 * KIB}};
+    const wtv_request request = {.usage = usage, .memory_types = LARGE_TYPES};
+    const VkBufferCreateInfo info = stub_buffer_info(4 * KIB);
+    world w = begun_roomily("a limit of 1 MiB", UINT64_MAX);
+    wtv_block block;
+    VkBuffer buffer;
+    limit_heaps(&w, MIB);
+    block = asked_for(&w, 4 * KIB, &request, VK_SUCCESS);
+    expect(block.dedicated == 1 && block.size == 4 * KIB && block.offset == 0, "a request is not served alone");
+    expect_asked(alone, LENGTH(alone));
+    free_made(&w);
+    expect(wtv_create_buffer(w.allocator, &info, &request, &buffer, &w.made, NULL) == VK_SUCCESS, "no buffer");
+    expect(wtv_destroy_buffer(w.allocator, buffer, w.made) == VK_SUCCESS, "a buffer is not destroyed");
+    closed(w.driver, w.allocator);
+}
+
+/* A driver that refuses objects over 1 MiB: each memory type is tried shared before any is tried alone. The small heap
+   has chunks of 1/32 of it. */
+static void check_large_refused(void)
+{
+    static const struct asked all[] = {
+        {STUB_LOCAL, 2 * MIB}, {STUB_COHERENT, 2 * MIB}, {STUB_CACHED, 2 * MIB}, {STUB_LOCAL, 4 * KIB}};
+    const wtv_request request = {.memory_types = LARGE_TYPES};
+    world w = begun_roomily("a driver that refuses objects over 1 MiB", MIB);
+    expect(asked_for(&w, 4 * KIB, &request, VK_SUCCESS).dedicated == 1, "a request is not served alone");
+    expect_asked(all, LENGTH(all));
+    free_made(&w);
+    expect(asked_for(&w, 4 * KIB, NULL, VK_SUCCESS).dedicated == 0, "a memory type is tried alone before another one");
+    free_made(&w);
+    closed(w.driver, w.allocator);
+}
+
+/* A heap with 3 MiB left, and a next chunk of 4 MiB. */
+static void check_nearly_full(void)
+{
+    static const struct asked alone[] = {{STUB_LOCAL, 3 * MIB / 2}};
+    const VkDeviceSize held = (VkDeviceSize)(LARGE_HEAP - 5) * MIB;
+    const wtv_request request = {.memory_types = 1u << STUB_LOCAL};
+    world w = begun_roomily("a heap with 3 MiB left", UINT64_MAX);
+    VkDeviceMemory memory = stub_make_object(w.driver, STUB_LOCAL, SMALL);
+    wtv_allocation import, shared;
+    wt_heap_counts heap;
+    expect(wtv_import(w.allocator, memory, STUB_LOCAL, held, 0, held, &import, NULL) == VK_SUCCESS, "no import");
+    expect(asked_for(&w, 3 * MIB / 2, &request, VK_SUCCESS).dedicated == 0, "the first chunk is not granted");
+    shared = w.made;
+    expect(wtv_heap(w.allocator, STUB_LOCAL_HEAP, &heap) == VK_SUCCESS && heap.budget == 3 * MIB, "not 3 MiB are left");
+    expect(asked_for(&w, 3 * MIB / 2, &request, VK_SUCCESS).dedicated == 1, "a request is not served alone");
+    expect_asked(alone, LENGTH(alone));
+    free_made(&w);
+    expect(wtv_free(w.allocator, shared) == VK_SUCCESS && wtv_free(w.allocator, import) == VK_SUCCESS, "not freed");
+    closed(w.driver, w.allocator);
+}
+
+/* A memory type that was refused alone is not asked for again: the small heap's, of which 100 KiB are 1/32 and more.
+   The first result is the one that is returned. */
+static void check_all_refused(VkResult refusal, VkResult alone_refusal)
+{
+    static const struct asked all[] = {
+        {STUB_LOCAL, 2 * MIB},           {STUB_LOCAL_VISIBLE, 100 * KIB}, {STUB_COHERENT, 2 * MIB},
+        {STUB_CACHED, 2 * MIB},          {STUB_LOCAL, 100 * KIB},         {STUB_COHERENT, 100 * KIB},
+        {STUB_CACHED, 100 * KIB},
+    };
+    const bool goes_on = alone_refusal == VK_ERROR_OUT_OF_DEVICE_MEMORY;
+    const wtv_request large = {.memory_types = LARGE_TYPES};
+    world w = begun_roomily("a driver that refuses all", 0);
+    picture before = taken(&w);
+    roomy.refusal = refusal;
+    roomy.alone_refusal = alone_refusal;
+    asked_for(&w, 100 * KIB, goes_on ? NULL : &large, refusal);
+    if (goes_on)
+        expect_asked(all, LENGTH(all));
+    else
+        expect(roomy.asked_len == 4 && roomy.asked[3].size == 100 * KIB, "an error does not end the second try");
+    compare(before, taken(&w));
+    closed(w.driver, w.allocator);
+}
+
+/* What is not asked a second time: an object of its own, with one question for each memory type, and nothing at all
+   where only what is held may serve, or where the size is over the device's limit. */
+static void check_asked_once(void)
+{
+    const wtv_request own = {.dedicated = WT_REQUIRED}, held_only = {.flags = WT_HELD_ONLY};
+    world w = begun_roomily("asked once", 0);
+    picture before = taken(&w);
+    asked_for(&w, 4 * KIB, &own, LACKING);
+    expect(roomy.asked_len == 4, "an object of its own is asked for twice");
+    asked_for(&w, 3 * MIB, NULL, LACKING);
+    expect(roomy.asked_len == 3, "a request that is large enough for an object of its own is asked for twice");
+    asked_for(&w, 4 * KIB, &held_only, LACKING);
+    expect(roomy.asked_len == 0, "a request that may ask for nothing asks");
+    asked_for(&w, 5 * MIB, NULL, LACKING);
+    expect(roomy.asked_len == 0, "a request over the device's limit asks");
+    compare(before, taken(&w));
+    closed(w.driver, w.allocator);
+}
+
+static void run_alone(void)
+{
+    check_limited(WT_USAGE_FAST_DEVICE_ACCESS);
+    check_limited(WT_USAGE_FAST_DEVICE_ACCESS | WT_USAGE_TRANSIENT);
+    check_large_refused();
+    check_nearly_full();
+    check_all_refused(VK_ERROR_OUT_OF_DEVICE_MEMORY, VK_ERROR_OUT_OF_DEVICE_MEMORY);
+    check_all_refused(VK_ERROR_TOO_MANY_OBJECTS, VK_ERROR_OUT_OF_DEVICE_MEMORY);
+    check_all_refused(VK_ERROR_TOO_MANY_OBJECTS, VK_ERROR_OUT_OF_HOST_MEMORY);
+    check_asked_once();
+}
+
+/* ---- Texts. ---- */
+
 /* The text that wtv_statistics_text should write, by the numbers of the other calls. */
 typedef struct expected_text {
     char text[8192];
@@ -1940,6 +2140,7 @@ int main(void)
     run_copies();
     run_binds();
     run_owners();
+    run_alone();
     run_texts();
     run_zeros();
     run_budgets();
