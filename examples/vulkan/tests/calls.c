@@ -66,12 +66,22 @@ static bool has_no_object_left(const worker *w)
     return !is_alone(w) || counts_of(w).remaining == 0;
 }
 
+/* A request that lacked device memory is tried once more, alone. An error that ends that try is not returned, but what
+   was lacking before: an object, or memory, which a heap's limit may have refused without a call of the driver. */
+static bool is_ended_by(const met *met, VkResult result)
+{
+    bool may_be_second = met->objects > 0 && !met->is_unbound;
+    bool was_lacking =
+        result == VK_ERROR_OUT_OF_DEVICE_MEMORY || (result == VK_ERROR_TOO_MANY_OBJECTS && met->has_no_object);
+    return result == met->ending || (may_be_second && was_lacking);
+}
+
 /* An error that the driver did not return has a reason of the allocator's. */
 static void check_own_error(worker *w, VkResult result)
 {
     const met *met = &w->refuser.met;
     if (result == VK_ERROR_TOO_MANY_OBJECTS)
-        must(result == met->last || has_no_object_left(w), "objects are left, and none is made");
+        must(met->has_no_object || has_no_object_left(w), "objects are left, and none is made");
     else if (result == VK_ERROR_OUT_OF_DEVICE_MEMORY)
         w->tally.unasked += met->objects == 0;
     else
@@ -98,7 +108,7 @@ VkResult request_ends(worker *w, VkResult result)
 {
     VkResult ending = w->refuser.met.ending;
     if (ending != VK_SUCCESS)
-        must(result == ending, "a request does not return the error that ended it");
+        must(is_ended_by(&w->refuser.met, result), "a request does not return the error that ended it");
     else if (result != VK_SUCCESS)
         check_own_error(w, result);
     else

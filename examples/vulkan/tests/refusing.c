@@ -35,7 +35,7 @@ void refusing_by(refuser *r)
 
 void refusing_begins(void)
 {
-    by->met = (met){.first = VK_SUCCESS, .last = VK_SUCCESS, .ending = VK_SUCCESS};
+    by->met = (met){.first = VK_SUCCESS, .ending = VK_SUCCESS};
 }
 
 met *refusing_met(void)
@@ -64,13 +64,13 @@ VkResult refusing_noted(enum refusable function, VkResult result)
 {
     met *met = &by->met;
     met->objects += function == ALLOCATE_MEMORY;
-    met->last = result;
     if (result == VK_SUCCESS)
         return result;
     if (met->first == VK_SUCCESS)
         met->first = result;
     if (met->ending == VK_SUCCESS && !has_next(function, result))
         met->ending = result;
+    met->has_no_object = met->has_no_object || result == VK_ERROR_TOO_MANY_OBJECTS;
     met->is_unbound = met->is_unbound || function == BIND_BUFFER || function == BIND_IMAGE;
     return result;
 }

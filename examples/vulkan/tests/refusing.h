@@ -21,8 +21,8 @@ enum refusable {
 typedef struct met {
     uint32_t objects;    /* asked for */
     VkResult first;      /* the first error, or VK_SUCCESS */
-    VkResult last;       /* the last result; an error after which another memory type may be tried counts too */
-    VkResult ending;     /* the first error that a request for memory ends with, or VK_SUCCESS */
+    VkResult ending;     /* the first error that ends a request for memory, or VK_SUCCESS */
+    bool has_no_object;  /* an object was refused, as one too many */
     bool is_unbound;     /* a bind was refused */
     VkDeviceMemory made; /* the object that was made last, or null */
     bool is_chained;     /* it has what the program chains to its requests */
