@@ -17,8 +17,9 @@
  * and its end. The program must ensure:
  * - The VkDevice ends after all of them.
  * - The device is done with a buffer, image or block before it ends; what was bound to a Block is destroyed first.
- * - What it makes by calls of wallthyme_vulkan.h with get(), it frees before the last object ends. Otherwise the C
- *   allocator stays as it is, with its memory objects.
+ * - What it makes by calls of wallthyme_vulkan.h with get(), or takes by release(), it frees before the last object
+ *   ends. Otherwise the C allocator stays as it is, with its memory objects, and a debug build prints the live blocks:
+ *   see set_live_handler.
  *
  * Threads. As in wallthyme_vulkan.h: different threads may use different objects at once, unless the allocator has
  * WTV_CREATE_NO_LOCK. While an object is moved, assigned, reset or destroyed, only one thread may use it.
@@ -32,6 +33,7 @@
 
 #include <atomic>
 #include <cstddef>
+#include <cstdio>
 #include <memory>
 #include <new>
 #include <utility>
@@ -98,6 +100,45 @@ inline wtv_create_info create_info(VkInstance instance, VkPhysicalDevice physica
     made.api_version = api_version;
     return made;
 }
+
+/* What is called where the last object over an allocator ends and blocks of it are live, as many as live says. The C
+   allocator is the handler's then, with these blocks: it may look at them (wtv_blocks), free them and destroy the
+   allocator (wtv_destroy), at once or later. It must not throw, and each thread may call it. */
+using LiveHandler = void (*)(wtv_allocator *allocator, std::size_t live);
+
+/* Prints the size, the key and the program's own value of each live block to standard error. */
+inline void print_live(wtv_allocator *allocator, std::size_t live) {
+    const std::size_t room = 16;
+    wtv_block blocks[room];
+    wtv_allocation after = 0;
+    std::size_t count = 0;
+    std::fprintf(stderr, "wallthyme: %llu blocks are live at the end of their allocator\n",
+                 static_cast<unsigned long long>(live));
+    do {
+        if (wtv_blocks(allocator, after, blocks, room, &count) != VK_SUCCESS)
+            return;
+        for (std::size_t i = 0; i < count; i++) {
+            after = blocks[i].allocation;
+            std::fprintf(stderr, "wallthyme: live block: size %llu, key %llu, user %llu\n",
+                         static_cast<unsigned long long>(blocks[i].size), static_cast<unsigned long long>(after),
+                         static_cast<unsigned long long>(blocks[i].user));
+        }
+    } while (count == room);
+}
+
+/* Where the handler of all allocators is: null, or what is called. */
+inline std::atomic<LiveHandler> &live_handler() noexcept {
+#ifdef NDEBUG
+    static std::atomic<LiveHandler> handler(nullptr);
+#else
+    static std::atomic<LiveHandler> handler(print_live);
+#endif
+    return handler;
+}
+
+/* Sets the handler of all allocators, and returns the one before. Null: nothing is called. At first it is print_live,
+   and null with NDEBUG; in a program of files with and without NDEBUG it is either of them. */
+inline LiveHandler set_live_handler(LiveHandler handler) noexcept { return live_handler().exchange(handler); }
 
 /* Memory types that serve a usage, the best one first. */
 struct Candidates {
@@ -173,7 +214,11 @@ public:
     }
     ~Keeper() {
         if (kept_ != nullptr && kept_->owners.fetch_sub(1, std::memory_order_acq_rel) == 1) {
-            wtv_destroy(kept_->allocator, nullptr, 0, nullptr);
+            std::size_t live = 0;
+            const VkResult result = wtv_destroy(kept_->allocator, nullptr, 0, &live);
+            const LiveHandler handler = result != VK_SUCCESS ? live_handler().load() : nullptr;
+            if (handler != nullptr)
+                handler(kept_->allocator, live);
             delete kept_;
         }
     }

@@ -396,6 +396,60 @@ void test_release() {
     must(wtv_free(memory.get(), block_name) == VK_SUCCESS, "a released block is not the program's");
 }
 
+// ---- Blocks that are live at the end. ----
+
+struct AtEnd {
+    unsigned calls;
+    wtv_allocator *allocator;
+    std::size_t live;
+} at_end;
+
+void note_end(wtv_allocator *allocator, std::size_t live) {
+    at_end.calls++;
+    at_end.allocator = allocator;
+    at_end.live = live;
+}
+
+// Leaves a buffer and a block, and ends the allocator. Both stay, until they are freed here.
+void leave_live(const Driver &driver) {
+    const VkMemoryRequirements needs = needs_of(700);
+    wtv_allocation block = 0;
+    Buffer released;
+    wtv_allocator *left = nullptr;
+    VkBuffer handle = VkBuffer();
+    wtv_allocation name = 0;
+    {
+        const Allocator memory = driver.allocator();
+        released = buffer_of(memory);
+        handle = released.get();
+        name = released.allocation();
+        left = memory.get();
+        must(wtv_allocate(left, &needs, nullptr, &block, nullptr) == VK_SUCCESS, "no block");
+    }
+    const unsigned before = at_end.calls;
+    released.release(); // the last one
+    must(at_end.calls == before || (at_end.allocator == left && at_end.live == 2), "another end is told");
+    must(wtv_destroy_buffer(left, handle, name) == VK_SUCCESS && wtv_free(left, block) == VK_SUCCESS,
+         "a live block did not stay");
+    must(wtv_destroy(left, nullptr, 0, nullptr) == VK_SUCCESS, "a C allocator did not stay");
+}
+
+void test_live_at_end() {
+    const Driver driver;
+    const LiveHandler usual = set_live_handler(note_end);
+    must(usual == print_live, "a debug build prints nothing");
+    at_end.calls = 0;
+    leave_live(driver);
+    must(at_end.calls == 1, "live blocks are left in silence");
+    driver.allocator().reset();
+    buffer_of(driver.allocator()).reset();
+    must(at_end.calls == 1, "an allocator without live blocks has a handler called");
+    must(set_live_handler(nullptr) == note_end, "another handler was set");
+    leave_live(driver);
+    must(at_end.calls == 1, "a handler is called that was taken off");
+    must(set_live_handler(usual) == nullptr && driver.is_empty(), "something is held");
+}
+
 // ---- What is held. ----
 
 void test_counts() {
@@ -688,6 +742,7 @@ void test_all() {
     test_bytes();
     test_blocks();
     test_release();
+    test_live_at_end();
     test_counts();
     test_errors_of_calls();
     test_errors_of_creation();

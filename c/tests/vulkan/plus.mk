@@ -24,9 +24,16 @@ $(VULKAN_PROGRAMS)/plus_hpp.o: tests/vulkan/plus_hpp.cc $(PLUS_HEADERS)
 	@mkdir -p $(VULKAN_PROGRAMS)
 	$(CXX11) -O0 -Itests/vulkan -c $< -o $@
 
+$(VULKAN_PROGRAMS)/plus_end.o $(VULKAN_PROGRAMS)/plus_end_release.o: tests/vulkan/plus_end.cc $(PLUS_HEADERS)
+	@mkdir -p $(VULKAN_PROGRAMS)
+	$(PLUS_CXX) $(if $(findstring release,$@),-DNDEBUG,-UNDEBUG) -c $< -o $@
+
 $(VULKAN_PROGRAMS)/plus: $(addprefix $(VULKAN_PROGRAMS)/,plus_exceptions.o plus_results.o)
 $(VULKAN_PROGRAMS)/plus_hpp: $(VULKAN_PROGRAMS)/plus_hpp.o
-$(VULKAN_PROGRAMS)/plus $(VULKAN_PROGRAMS)/plus_hpp: $(VULKAN_PROGRAMS)/stub.o $(VULKAN_SIDE) $(BUILD)/libwallthyme.a
+$(VULKAN_PROGRAMS)/plus_end: $(VULKAN_PROGRAMS)/plus_end.o
+$(VULKAN_PROGRAMS)/plus_end_release: $(VULKAN_PROGRAMS)/plus_end_release.o
+$(addprefix $(VULKAN_PROGRAMS)/,plus plus_hpp plus_end plus_end_release): $(VULKAN_PROGRAMS)/stub.o $(VULKAN_SIDE) \
+    $(BUILD)/libwallthyme.a
 	$(CXX11) -pthread $(filter %.o,$^) $(filter %.a,$^) -o $@
 
 # Without exceptions a result that is discarded is warned of: the first two of three here.
@@ -34,8 +41,14 @@ DISCARDS = (echo '\#include "wallthyme.hpp"'; echo 'int f(wallthyme::Allocator &
     echo 'a.allocate({});'; echo 'return a.cleanup(); }') \
     | $(CXX11) -O0 -DWALLTHYME_NO_EXCEPTIONS -x c++ -c -o /dev/null - 2>&1 | grep -c 'warning: '
 
-check-plus-programs: $(addprefix $(VULKAN_PROGRAMS)/,plus $(if $(VULKAN_HPP),plus_hpp))
+# Blocks that are live at the end are printed in a debug build, and not in a release build.
+check-plus-programs: $(addprefix $(VULKAN_PROGRAMS)/,plus plus_end plus_end_release $(if $(VULKAN_HPP),plus_hpp))
 	@$(VULKAN_PROGRAMS)/plus
+	@$(VULKAN_PROGRAMS)/plus_end > $(VULKAN_PROGRAMS)/plus_end.wanted 2> $(VULKAN_PROGRAMS)/plus_end.printed
+	@cmp $(VULKAN_PROGRAMS)/plus_end.wanted $(VULKAN_PROGRAMS)/plus_end.printed
+	@test -z "$$($(VULKAN_PROGRAMS)/plus_end_release 2>&1 > /dev/null)" || { \
+	    echo 'FAILED: a release build prints the blocks that are live at the end' >&2; exit 1; }
+	@echo 'plus_end: blocks that are live at the end are printed, and in a release build not'
 	@test "$$( $(DISCARDS) )" = 2 || { echo 'FAILED: what is warned of is not what is discarded' >&2; exit 1; }
 	@$(if $(VULKAN_HPP),$(VULKAN_PROGRAMS)/plus_hpp,$(if $(SANITIZE),:,echo \
 	    'vulkan/plus_hpp: left out, since vulkan.hpp is not installed'))
