@@ -50,6 +50,7 @@ static struct {
     pthread_mutex_t *lock;
     bool is_held;
     const char *bytes;
+    void (*during)(void); /* what another thread does while they are copied, or null */
     unsigned holds, lookups, copies, copies_under_lock;
 } seen_of_lock;
 
@@ -101,6 +102,8 @@ void *__wrap_memcpy(void *to, const void *from, size_t size)
     if (seen_of_lock.bytes != NULL && (from == seen_of_lock.bytes || to == seen_of_lock.bytes)) {
         seen_of_lock.copies++;
         seen_of_lock.copies_under_lock += seen_of_lock.is_held;
+        if (seen_of_lock.during != NULL)
+            seen_of_lock.during();
     }
     return __real_memcpy(to, from, size);
 }
@@ -1573,6 +1576,38 @@ static void run_copies(void)
         }
 }
 
+static world *beside;
+
+static void unmap_beside(void)
+{
+    wtv_block block;
+    expect(wtv_unmap(beside->allocator, beside->at[OWN]) == VK_SUCCESS, "a block is not unmapped");
+    expect(wtv_block_of(beside->allocator, beside->at[OWN], &block) == VK_SUCCESS && block.mapped != NULL
+               && stub_is_mapped(beside->driver, block.memory), "a mapping ends while bytes are copied");
+}
+
+/* Where another thread unmaps a block while bytes of it are copied, it stays mapped until they are. */
+static void run_unmapped_copies(void)
+{
+    static char bytes[100];
+    for (int is_write = 0; is_write < 2; is_write++) {
+        world w = begun("copies beside an unmapping");
+        void *mapped;
+        picture before = taken(&w);
+        expect(wtv_map(w.allocator, w.at[OWN], &mapped) == VK_SUCCESS, "a block is not mapped");
+        beside = &w;
+        seen_of_lock.bytes = bytes;
+        seen_of_lock.during = unmap_beside;
+        VkResult result = is_write ? wtv_write(w.allocator, w.at[OWN], 0, bytes, sizeof bytes)
+                                   : wtv_read(w.allocator, w.at[OWN], 0, bytes, sizeof bytes);
+        seen_of_lock.bytes = NULL;
+        seen_of_lock.during = NULL;
+        expect(result == VK_SUCCESS, "bytes are not copied");
+        compare(before, taken(&w));
+        ended(&w);
+    }
+}
+
 /* Two buffers in one block, behind its first bytes. */
 static void run_binds(void)
 {
@@ -2138,6 +2173,7 @@ int main(void)
     run_wishes();
     run_addresses();
     run_copies();
+    run_unmapped_copies();
     run_binds();
     run_owners();
     run_alone();
