@@ -45,8 +45,9 @@ static long live_memory; /* pieces */
 static uint32_t other_version;
 
 /* What is seen of the allocator that was created last: its lock, and how often it was held; the calls of wt_block_of;
-   and copies of the program's bytes, and how many of them were made under the lock. */
-static struct {
+   and copies of the program's bytes, and how many of them were made under the lock. Volatile: to the compiler, a memcpy
+   does not read it. */
+static volatile struct {
     pthread_mutex_t *lock;
     bool is_held;
     const char *bytes;
@@ -1527,12 +1528,25 @@ static void check_addresses(uint32_t flags, VkResult wanted, uint32_t usage, uin
     closed(s, a);
 }
 
+/* Whether copies are seen: clang's sanitizer for addresses has a memcpy of its own. */
+static bool are_copies_seen(void)
+{
+    static char from[100], to[100];
+    volatile size_t size = sizeof from;
+    seen_of_lock.copies = 0;
+    seen_of_lock.bytes = from;
+    memcpy(to, from, size);
+    seen_of_lock.bytes = NULL;
+    expect(memcmp(to, from, size) == 0, "bytes are not copied");
+    return seen_of_lock.copies == 1;
+}
+
 /* Of a write or a read: how often the lock is held, and that each byte is copied once, and none under the lock. The
    block is looked up once. */
 static void check_copy(world *w, enum which which, bool is_write, VkResult wanted, unsigned holds)
 {
     static char bytes[100];
-    const bool is_done = wanted == VK_SUCCESS;
+    const bool is_seen = wanted == VK_SUCCESS && are_copies_seen();
     picture before = taken(w);
     seen_of_lock.bytes = bytes;
     seen_of_lock.holds = seen_of_lock.lookups = seen_of_lock.copies = seen_of_lock.copies_under_lock = 0;
@@ -1540,7 +1554,7 @@ static void check_copy(world *w, enum which which, bool is_write, VkResult wante
                                : wtv_read(w->allocator, w->at[which], 5, bytes, sizeof bytes);
     seen_of_lock.bytes = NULL;
     expect(result == wanted, "another result");
-    expect(seen_of_lock.copies == (is_done ? 1 : 0) && seen_of_lock.copies_under_lock == 0,
+    expect(seen_of_lock.copies == (is_seen ? 1 : 0) && seen_of_lock.copies_under_lock == 0,
            "bytes are copied under the lock, or twice");
     if (seen_of_lock.holds != holds)
         fprintf(stderr, "the lock is held %u times, and not %u\n", seen_of_lock.holds, holds);
@@ -1590,7 +1604,7 @@ static void unmap_beside(void)
 static void run_unmapped_copies(void)
 {
     static char bytes[100];
-    for (int is_write = 0; is_write < 2; is_write++) {
+    for (int is_write = 0; is_write < 2 && are_copies_seen(); is_write++) {
         world w = begun("copies beside an unmapping");
         void *mapped;
         picture before = taken(&w);
