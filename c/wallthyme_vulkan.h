@@ -25,9 +25,8 @@
  *
  * Threads. Calls may come from any thread. Each takes the allocator's lock and keeps it until its request or its free
  * has ended, including the driver's calls for memory objects. Buffers and images are created and bound without it, and
- * bytes are copied without it.
- * WTV_CREATE_NO_LOCK leaves the lock out; the program then makes one call at a time. No other call may run during
- * wtv_destroy. VkAllocationCallbacks must not call the allocator that they serve.
+ * bytes are copied without it. WTV_CREATE_NO_LOCK leaves the lock out; the program then makes one call at a time. No
+ * other call may run during wtv_destroy. VkAllocationCallbacks must not call the allocator that they serve.
  *
  * Memory. It takes its own memory from malloc. The most blocks and objects that were held at once bound how much.
  *
@@ -185,13 +184,13 @@ void wtv_default_config(const VkPhysicalDeviceMemoryProperties *memory, wt_confi
    VK_BUFFER_CREATE_DEVICE_ADDRESS_CAPTURE_REPLAY_BIT, which is not checked: their memory needs
    VkMemoryAllocateFlagsInfo with flags that this side does not set. Allocate it yourself, and import it.
    Where the driver refuses an object with VK_ERROR_OUT_OF_DEVICE_MEMORY or VK_ERROR_TOO_MANY_OBJECTS, the next memory
-   type is tried. Where the device or the heaps' limits have no room for any of these objects, the request is tried once
-   more as with WT_REQUIRED, under the same hold of the lock, over the memory types for which no object of its own was
-   refused. So every memory type is tried shared before any is tried alone. Each block that is served so costs a memory
-   object (maxMemoryAllocationCount). Where the second try fails too, the result is that of the first one. There is no
-   second try with WT_REQUIRED or WT_HELD_ONLY.
-   Any other error ends the request, and whatever was made is destroyed. Where the bind is refused, the block is freed
-   as by wtv_free: an unused chunk of transient blocks, or an unused fit chunk, may stay. */
+   type is tried. Any other error ends the request. Where no memory type is left, the request is tried once more as with
+   WT_REQUIRED, under the same hold of the lock, over the memory types for which no object of its own was refused. So
+   every memory type is tried shared before any is tried alone, and each block that is served so costs a memory object
+   (maxMemoryAllocationCount). Where the second try fails too, for whatever cause, the result is that of the first one.
+   There is no second try with WT_REQUIRED or WT_HELD_ONLY.
+   After an error whatever was made is destroyed. Where the bind is refused, the block is freed as by wtv_free: an unused
+   chunk of transient blocks, or an unused fit chunk, may stay. */
 VkResult wtv_create_buffer(wtv_allocator *a, const VkBufferCreateInfo *info, const wtv_request *request,
                            VkBuffer *buffer, wtv_allocation *allocation, wtv_block *block);
 
@@ -229,7 +228,8 @@ VkResult wtv_allocate_for_image(wtv_allocator *a, VkImage image, const wtv_reque
    But an object that was made for one resource (VkMemoryDedicatedAllocateInfo) keeps it, so its block takes no other
    one, and that one at offset 0 (VUID-vkBindBufferMemory-memory-01508, VUID-vkBindImageMemory-memory-02628). The calls
    above that allocate for a resource make such an object where wtv_block.dedicated is 1, with
-   WTV_CREATE_DEDICATED_ALLOCATION; wtv_allocate makes none. Of an import the program knows it.
+   WTV_CREATE_DEDICATED_ALLOCATION; wtv_allocate makes none. Whether an imported object is one, only the program knows,
+   and nothing checks.
    VK_ERROR_VALIDATION_FAILED_EXT: offset is at or behind the requested bytes (wtv_block.asked), or the object was made
    for another resource, or for this one and offset is not 0. Any other error is the driver's. */
 VkResult wtv_bind_buffer(wtv_allocator *a, wtv_allocation allocation, VkDeviceSize offset, VkBuffer buffer);
