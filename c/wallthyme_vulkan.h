@@ -189,8 +189,8 @@ void wtv_default_config(const VkPhysicalDeviceMemoryProperties *memory, wt_confi
    every memory type is tried shared before any is tried alone, and each block that is served so costs a memory object
    (maxMemoryAllocationCount). Where the second try fails too, for whatever cause, the result is that of the first one.
    There is no second try with WT_REQUIRED or WT_HELD_ONLY.
-   After an error whatever was made is destroyed. Where the bind is refused, the block is freed as by wtv_free: an unused
-   chunk of transient blocks, or an unused fit chunk, may stay. */
+   After an error whatever was made is destroyed. Where the bind is refused, the block is freed as by wtv_free: an
+   unused chunk of transient blocks, or an unused fit chunk, may stay. */
 VkResult wtv_create_buffer(wtv_allocator *a, const VkBufferCreateInfo *info, const wtv_request *request,
                            VkBuffer *buffer, wtv_allocation *allocation, wtv_block *block);
 

@@ -144,6 +144,6 @@ int main(void) {
     check_last_granted(&allocator);
     expect(wt_close(&allocator) == WT_OK, "it is not closed");
     check_all_once_more();
-    printf("questions: %d in one call, all refused and all but the last; a request asked once more\n", WT_MAX_QUESTIONS);
+    printf("questions: %d in one call, all refused and all but the last; requests asked again\n", WT_MAX_QUESTIONS);
     return 0;
 }
