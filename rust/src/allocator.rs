@@ -519,10 +519,16 @@ impl<M, D: MemoryDevice<M>> Asked<'_, M, D> {
         let mut flags = AllocationFlags::empty();
         let own = question.flags & ffi::ALLOCATE_OWN != 0;
         flags.set(AllocationFlags::DEVICE_ADDRESS, question.flags & ffi::ALLOCATE_DEVICE_ADDRESS != 0);
-        flags.set(AllocationFlags::OWN, own);
+        let (size, memory_type) = (question.size, question.memory_type);
         // SAFETY: the memory type is the device's, and the size at least 1. `DEVICE_ADDRESS` is there if its feature is
         // enabled.
-        match unsafe { self.device.allocate_memory(question.size, question.memory_type, flags) } {
+        let answer = unsafe {
+            match own {
+                true => self.device.allocate_own(size, memory_type, flags),
+                false => self.device.allocate_memory(size, memory_type, flags),
+            }
+        };
+        match answer {
             Ok(memory) => {
                 self.made = Some(Made { memory, start: None, own });
                 ffi::GRANTED

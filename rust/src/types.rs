@@ -32,11 +32,6 @@ flags! {
     pub struct AllocationFlags {
         /// The device address of what is bound to it can be queried (`VK_MEMORY_ALLOCATE_DEVICE_ADDRESS_BIT`).
         const DEVICE_ADDRESS = 0x01;
-
-        /// The object will hold only this request's block, and has the request's size. So what belongs to one resource
-        /// may be chained to it (`VkMemoryDedicatedAllocateInfo`, a priority, an export). It is not a bit of Vulkan's,
-        /// and must not be passed on to it.
-        const OWN = 0x80;
     }
 }
 
@@ -136,6 +131,20 @@ pub trait MemoryDevice<M> {
     /// `memory_type` is the index of a memory type of the device, `size` is at least 1, and
     /// [`DEVICE_ADDRESS`](AllocationFlags::DEVICE_ADDRESS) is there only where its feature is enabled.
     unsafe fn allocate_memory(&self, size: u64, memory_type: u32, flags: AllocationFlags) -> Result<M, OutOfMemory>;
+
+    /// Makes a memory object that will hold only the request's block, and has the request's size. So what belongs to
+    /// one resource may be chained to it (`VkMemoryDedicatedAllocateInfo`, a priority, an export).
+    ///
+    /// It does what [`allocate_memory`](MemoryDevice::allocate_memory) does, unless the device has it: one that was
+    /// written for `gpu-alloc` needs no change. A device over another one passes it on.
+    ///
+    /// # Safety
+    ///
+    /// As for `allocate_memory`.
+    unsafe fn allocate_own(&self, size: u64, memory_type: u32, flags: AllocationFlags) -> Result<M, OutOfMemory> {
+        // SAFETY: as the caller says.
+        unsafe { self.allocate_memory(size, memory_type, flags) }
+    }
 
     /// Frees a memory object, mapped or not.
     ///

@@ -25,8 +25,10 @@ impl MemoryDevice<Handle> for Gpu {
         &self,
         size: u64,
         memory_type: u32,
-        _flags: AllocationFlags,
+        flags: AllocationFlags,
     ) -> Result<Handle, OutOfMemory> {
+        // As `gpu-alloc-ash` has it: it knows no other flag.
+        assert_eq!(flags.bits() & !AllocationFlags::DEVICE_ADDRESS.bits(), 0, "a flag that `gpu-alloc` does not have");
         if memory_type > 1 {
             return Err(OutOfMemory::OutOfDeviceMemory);
         }
@@ -171,4 +173,28 @@ fn an_import() {
     }
     println!("{allocator:?} {:?}", Config::i_am_potato());
     assert!(gpu.objects.borrow().iter().all(Option::is_none));
+}
+
+/// A device written for `gpu-alloc` gets its flags alone, for objects of one block too.
+#[test]
+fn no_flag_but_those_of_gpu_alloc() {
+    for buffer_device_address in [false, true] {
+        let gpu = Gpu::default();
+        let offered = DeviceProperties { buffer_device_address, ..properties() };
+        let mut allocator = GpuAllocator::<Handle>::new(Config::i_am_potato(), offered);
+        let request = Request { size: 5000, align_mask: 0xff, usage: UsageFlags::UPLOAD, memory_types: !0 };
+        // SAFETY: there is one device, which offers what the allocator was made with. The blocks are this allocator's.
+        unsafe {
+            let blocks = [
+                allocator.alloc(&gpu, request),
+                allocator.alloc(&gpu, Request { size: 1 << 25, ..request }),
+                allocator.alloc_with_dedicated(&gpu, request, Dedicated::Required),
+                allocator.alloc_with_dedicated(&gpu, request, Dedicated::Preferred),
+                allocator.alloc_optimal(&gpu, request, Some(Dedicated::Required)),
+            ];
+            assert_eq!(gpu.objects.borrow().len(), 5);
+            blocks.into_iter().for_each(|block| allocator.dealloc(&gpu, block.unwrap()));
+            allocator.cleanup(&gpu);
+        }
+    }
 }

@@ -110,7 +110,7 @@ fn an_object_of_its_own_says_so() {
         (UsageFlags::TRANSIENT, None, true, false),
         (UsageFlags::UPLOAD, Some(Dedicated::Preferred), true, true),
     ] {
-        let asked = device.flags().len();
+        let asked = device.owns().len();
         let request = request(1025, usage);
         // SAFETY: there is one device, which offers what the allocator was made with. The block is this allocator's.
         let block = unsafe {
@@ -120,8 +120,7 @@ fn an_object_of_its_own_says_so() {
                 (None, false) => allocator.alloc(&device, request).unwrap(),
             }
         };
-        let wanted = if own { AllocationFlags::OWN } else { AllocationFlags::empty() };
-        assert_eq!(device.flags()[asked..], [wanted], "{usage:?} {dedicated:?} {optimal}");
+        assert_eq!(device.owns()[asked..], [own], "{usage:?} {dedicated:?} {optimal}");
         assert_eq!(device.size_of(block.memory()) == 1025, own);
         // SAFETY: as above.
         unsafe {

@@ -28,7 +28,7 @@ fn done(call: &'static str, result: VkResult) -> Result<(), Error> {
 }
 
 impl Device {
-    /// Makes a memory object. What belongs to one resource is chained where the object will hold only its block.
+    /// Makes a memory object, for a resource alone where there is one (`VkMemoryDedicatedAllocateInfo`).
     ///
     /// # Safety
     ///
@@ -53,12 +53,12 @@ impl Device {
             None => {}
         }
         let mut address = raw::MemoryAllocateFlagsInfo { flags: raw::ALLOCATE_DEVICE_ADDRESS, ..Default::default() };
-        let mut info =
-            raw::MemoryAllocateInfo { allocation_size: size, memory_type_index: memory_type, ..Default::default() };
-        if flags.contains(AllocationFlags::OWN) {
-            let has_owner = resource.is_some() && self.call.requirements2.is_some();
-            info.p_next = if has_owner { from_ref(&owner).cast() } else { next };
-        }
+        let mut info = raw::MemoryAllocateInfo {
+            p_next: if resource.is_some() { from_ref(&owner).cast() } else { next },
+            allocation_size: size,
+            memory_type_index: memory_type,
+            ..Default::default()
+        };
         if flags.contains(AllocationFlags::DEVICE_ADDRESS) {
             address.p_next = info.p_next;
             info.p_next = from_ref(&address).cast();

@@ -290,6 +290,11 @@ impl Device {
         self.callbacks.as_ref().map_or(null(), from_ref)
     }
 
+    /// Whether a memory object can be made for a resource alone.
+    pub(crate) fn has_owners(&self) -> bool {
+        self.call.requirements2.is_some()
+    }
+
     fn memory_types(&self) -> &[raw::MemoryType] {
         types_of(&self.memory)
     }

@@ -10,9 +10,9 @@ use std::ffi::c_void;
 use std::ptr::{null, NonNull};
 
 /// A [`Device`] with one buffer or image, or with a block that is for none. It chains to a memory object what belongs
-/// to that resource, exactly where the object will hold only its block ([`OWN`](AllocationFlags::OWN)). Such an object
-/// has the size of the resource's requirements (VUID-VkMemoryDedicatedAllocateInfo-image-02964, -buffer-02965). It also
-/// keeps what the driver returned last.
+/// to that resource, exactly where the object will hold only its block
+/// ([`allocate_own`](MemoryDevice::allocate_own)). Such an object has the size of the resource's requirements
+/// (VUID-VkMemoryDedicatedAllocateInfo-image-02964, -buffer-02965). It also keeps what the driver returned last.
 ///
 /// It is the same device to an allocator: a block that was allocated by one may be used by the other.
 #[derive(Debug)]
@@ -98,8 +98,13 @@ fn map_error(result: VkResult) -> DeviceMapError {
 impl MemoryDevice<Memory> for DeviceFor<'_> {
     unsafe fn allocate_memory(&self, size: u64, of: u32, flags: AllocationFlags) -> Result<Memory, OutOfMemory> {
         // SAFETY: as the caller says.
-        let answer = unsafe { self.device.allocate(size, of, flags, self.resource, self.next) };
-        self.keep(answer).map_err(out_of_memory)
+        self.keep(unsafe { self.device.allocate(size, of, flags, None, null()) }).map_err(out_of_memory)
+    }
+
+    unsafe fn allocate_own(&self, size: u64, of: u32, flags: AllocationFlags) -> Result<Memory, OutOfMemory> {
+        let resource = self.resource.filter(|_| self.device.has_owners());
+        // SAFETY: as the caller says.
+        self.keep(unsafe { self.device.allocate(size, of, flags, resource, self.next) }).map_err(out_of_memory)
     }
 
     unsafe fn deallocate_memory(&self, memory: Memory) {

@@ -92,6 +92,7 @@ struct State {
     flushes: u64,
     invalidates: u64,
     flags: Vec<AllocationFlags>,
+    owns: Vec<bool>,
 }
 
 impl State {
@@ -172,9 +173,22 @@ impl Device {
         self.state().flags.iter().all(|flags| flags.contains(AllocationFlags::DEVICE_ADDRESS))
     }
 
-    /// What the objects were asked for with, in their order, whether they were made or refused.
-    pub fn flags(&self) -> Vec<AllocationFlags> {
-        self.state().flags.clone()
+    /// Whether the objects were asked for as those of one block, in their order, whether they were made or refused.
+    pub fn owns(&self) -> Vec<bool> {
+        self.state().owns.clone()
+    }
+
+    fn allocate(&self, size: u64, memory_type: u32, flags: AllocationFlags, own: bool) -> Result<Memory, OutOfMemory> {
+        let mut state = self.state();
+        let heap = TYPES[memory_type as usize].heap;
+        assert!(size > 0 && size <= HEAP - state.used(heap), "an object that the heap has no room for");
+        state.flags.push(flags);
+        state.owns.push(own);
+        match state.question() {
+            None => Ok(state.insert(size, memory_type)),
+            Some(Refusal::DeviceMemory) => Err(OutOfMemory::OutOfDeviceMemory),
+            Some(_) => Err(OutOfMemory::OutOfHostMemory),
+        }
     }
 
     /// How many bytes of a heap the objects have.
@@ -232,21 +246,12 @@ pub fn span(block: &MemoryBlock<Memory>) -> Range<usize> {
 }
 
 impl MemoryDevice<Memory> for Device {
-    unsafe fn allocate_memory(
-        &self,
-        size: u64,
-        memory_type: u32,
-        flags: AllocationFlags,
-    ) -> Result<Memory, OutOfMemory> {
-        let mut state = self.state();
-        let heap = TYPES[memory_type as usize].heap;
-        assert!(size > 0 && size <= HEAP - state.used(heap), "an object that the heap has no room for");
-        state.flags.push(flags);
-        match state.question() {
-            None => Ok(state.insert(size, memory_type)),
-            Some(Refusal::DeviceMemory) => Err(OutOfMemory::OutOfDeviceMemory),
-            Some(_) => Err(OutOfMemory::OutOfHostMemory),
-        }
+    unsafe fn allocate_memory(&self, size: u64, of: u32, flags: AllocationFlags) -> Result<Memory, OutOfMemory> {
+        self.allocate(size, of, flags, false)
+    }
+
+    unsafe fn allocate_own(&self, size: u64, of: u32, flags: AllocationFlags) -> Result<Memory, OutOfMemory> {
+        self.allocate(size, of, flags, true)
     }
 
     unsafe fn deallocate_memory(&self, memory: Memory) {
@@ -311,6 +316,11 @@ impl MemoryDevice<Memory> for Panics {
     unsafe fn allocate_memory(&self, size: u64, of: u32, flags: AllocationFlags) -> Result<Memory, OutOfMemory> {
         // SAFETY: as the caller says.
         unsafe { self.device.allocate_memory(size, of, flags) }
+    }
+
+    unsafe fn allocate_own(&self, size: u64, of: u32, flags: AllocationFlags) -> Result<Memory, OutOfMemory> {
+        // SAFETY: as the caller says.
+        unsafe { self.device.allocate_own(size, of, flags) }
     }
 
     unsafe fn deallocate_memory(&self, memory: Memory) {
