@@ -11,6 +11,7 @@ use crate::request::{Dedicated, Request};
 use crate::types::{
     AllocationFlags, DeviceMapError, DeviceProperties, MemoryDevice, MemoryPropertyFlags, MemoryType, OutOfMemory,
 };
+use crate::vulkan::Resource;
 use std::fmt::{Debug, Formatter};
 use std::panic::{catch_unwind, AssertUnwindSafe};
 use std::sync::atomic::{AtomicU64, Ordering};
@@ -232,7 +233,7 @@ impl<M> GpuAllocator<M> {
         };
         self.count();
         let coherent = self.memory_types[memory_type as usize].props & MemoryPropertyFlags::HOST_COHERENT;
-        self.block(block, props | coherent, Memory::Own(memory))
+        self.block(block, props | coherent, Memory::Own(memory), None)
     }
 
     /// Returns a block, mapped or not. Memory objects that no block needs are freed. Only the last one of a free list,
@@ -377,14 +378,16 @@ impl<M> GpuAllocator<M> {
         let granted = self.library.alloc(&request, |question| unsafe { asked.answer(question) });
         let block = granted.map_err(refusal)?;
         let props = self.memory_types[block.memory_type as usize].props;
+        let mut made_for = None;
         let memory = if block.fresh != 0 {
             self.count();
             let made = asked.made.take().expect("a fresh block has to be in an object that was made for it");
+            made_for = made.made_for;
             self.keep(block.object, made)
         } else {
             Memory::Shared(self.objects.get(block.object).clone())
         };
-        Ok(self.block(block, props, memory))
+        Ok(self.block(block, props, memory, made_for))
     }
 
     /// Takes in a new object: into the books, or for its block alone.
@@ -397,7 +400,13 @@ impl<M> GpuAllocator<M> {
         Memory::Shared(shared)
     }
 
-    fn block(&self, block: ffi::Block, props: MemoryPropertyFlags, memory: Memory<M>) -> MemoryBlock<M> {
+    fn block(
+        &self,
+        block: ffi::Block,
+        props: MemoryPropertyFlags,
+        memory: Memory<M>,
+        made_for: Option<Resource>,
+    ) -> MemoryBlock<M> {
         let kind = MemoryPropertyFlags::HOST_VISIBLE | MemoryPropertyFlags::HOST_COHERENT;
         let parts = Parts {
             place: Place { allocator: self.number, key: block.key },
@@ -406,6 +415,7 @@ impl<M> GpuAllocator<M> {
             atom_mask: if props & kind == MemoryPropertyFlags::HOST_VISIBLE { self.atom_mask } else { 0 },
             memory_type: block.memory_type,
             props,
+            made_for,
         };
         MemoryBlock::new(parts, memory)
     }
@@ -465,11 +475,13 @@ impl<M> Debug for GpuAllocator<M> {
     }
 }
 
-/// An object that was made for a request, where it is mapped, and whether it is for that request's block alone.
+/// An object that was made for a request, where it is mapped, and whether it is for that request's block alone, and
+/// then for which resource.
 struct Made<M> {
     memory: M,
     start: Option<Start>,
     own: bool,
+    made_for: Option<Resource>,
 }
 
 /// The device of a request. However the request ends, an object that was made for it and not taken is freed: after a
@@ -530,7 +542,8 @@ impl<M, D: MemoryDevice<M>> Asked<'_, M, D> {
         };
         match answer {
             Ok(memory) => {
-                self.made = Some(Made { memory, start: None, own });
+                let made_for = if own { self.device.made_for() } else { None };
+                self.made = Some(Made { memory, start: None, own, made_for });
                 ffi::GRANTED
             }
             Err(OutOfMemory::OutOfDeviceMemory) => ffi::NO_DEVICE_MEMORY,

@@ -10,6 +10,7 @@
 use crate::error::MapError;
 use crate::report::report;
 use crate::types::{MappedMemoryRange, MemoryDevice, MemoryPropertyFlags, OutOfMemory};
+use crate::vulkan::Resource;
 use std::ops::Range;
 use std::ptr::{copy_nonoverlapping, NonNull};
 use std::sync::Arc;
@@ -77,6 +78,7 @@ pub struct MemoryBlock<M> {
     props: MemoryPropertyFlags,
     mapped: bool,
     memory: Memory<M>,
+    made_for: Option<Resource>,
     unreturned: Unreturned,
 }
 
@@ -88,6 +90,7 @@ pub(crate) struct Parts {
     pub(crate) atom_mask: u64,
     pub(crate) memory_type: u32,
     pub(crate) props: MemoryPropertyFlags,
+    pub(crate) made_for: Option<Resource>,
 }
 
 impl<M> MemoryBlock<M> {
@@ -101,6 +104,7 @@ impl<M> MemoryBlock<M> {
             props: parts.props,
             mapped: false,
             memory,
+            made_for: parts.made_for,
             unreturned: Unreturned,
         }
     }
@@ -152,6 +156,13 @@ impl<M> MemoryBlock<M> {
     #[inline]
     pub fn memory_type(&self) -> u32 {
         self.memory_type
+    }
+
+    /// The buffer or image that the block's memory object was made for, where it is chained to it
+    /// (`VkMemoryDedicatedAllocateInfo`): no other one may be bound to the block.
+    #[inline]
+    pub fn made_for(&self) -> Option<Resource> {
+        self.made_for
     }
 
     /// Maps `size` bytes of the block from `offset` on, both counted in bytes from its start, and returns the address

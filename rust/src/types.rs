@@ -1,6 +1,7 @@
 //! What a device offers, and what it is asked for.
 
 use crate::flags::flags;
+use crate::vulkan::Resource;
 use std::borrow::Cow;
 use std::ptr::NonNull;
 
@@ -144,6 +145,13 @@ pub trait MemoryDevice<M> {
     unsafe fn allocate_own(&self, size: u64, memory_type: u32, flags: AllocationFlags) -> Result<M, OutOfMemory> {
         // SAFETY: as the caller says.
         unsafe { self.allocate_memory(size, memory_type, flags) }
+    }
+
+    /// The resource that is chained to each object of [`allocate_own`](MemoryDevice::allocate_own), if there is one.
+    /// The block keeps it ([`MemoryBlock::made_for`](crate::MemoryBlock::made_for)). A device over another one passes
+    /// it on.
+    fn made_for(&self) -> Option<Resource> {
+        None
     }
 
     /// Frees a memory object, mapped or not.

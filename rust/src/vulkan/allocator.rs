@@ -103,7 +103,8 @@ impl Allocator {
     /// # Errors
     ///
     /// [`Error::SparseBuffer`], [`Error::NoDeviceAddress`], [`Error::Chained`], [`Error::Driver`],
-    /// [`Error::Allocation`]. Whatever was made is destroyed then.
+    /// [`Error::Allocation`]. Whatever was made is destroyed then. Only after a refused bind a free chunk of transient
+    /// blocks, or a free fit chunk, may stay until [`cleanup`](Allocator::cleanup).
     ///
     /// Where the driver refuses a memory object with `VK_ERROR_OUT_OF_DEVICE_MEMORY` or `VK_ERROR_TOO_MANY_OBJECTS`,
     /// the next memory type is tried. Any other error ends the request.
@@ -115,6 +116,9 @@ impl Allocator {
     /// # Safety
     ///
     /// * Vulkan allows `info` for a buffer of the device. What it points to lives until the call ends.
+    /// * It is not a buffer whose address is captured and replayed
+    ///   (`VK_BUFFER_CREATE_DEVICE_ADDRESS_CAPTURE_REPLAY_BIT`): its memory object would have to be made for that
+    ///   (`VK_MEMORY_ALLOCATE_DEVICE_ADDRESS_CAPTURE_REPLAY_BIT`), and none here is.
     /// * `request.next` is null, or such a chain as [`DeviceFor::with_next`] asks for.
     pub unsafe fn create_buffer(
         &mut self,
@@ -146,7 +150,8 @@ impl Allocator {
     /// # Errors
     ///
     /// [`Error::SparseImage`], [`Error::DisjointImage`], [`Error::NoDeviceAddress`], [`Error::Chained`],
-    /// [`Error::Driver`], [`Error::Allocation`]. Whatever was made is destroyed then.
+    /// [`Error::Driver`], [`Error::Allocation`]. Whatever was made is destroyed then, and what may stay is as for
+    /// `create_buffer`.
     ///
     /// # Panics
     ///
@@ -186,8 +191,11 @@ impl Allocator {
     ///
     /// # Safety
     ///
-    /// The buffer is of this allocator, and has this block. The device is done with both
-    /// (VUID-vkDestroyBuffer-buffer-00922, VUID-vkFreeMemory-memory-00677).
+    /// * The buffer is of this allocator, and has this block. The device is done with both
+    ///   (VUID-vkDestroyBuffer-buffer-00922, VUID-vkFreeMemory-memory-00677).
+    /// * A buffer that the program created itself was created with callbacks that are compatible with
+    ///   [`DeviceInfo::callbacks`](super::DeviceInfo::callbacks), and with none where that is `None`
+    ///   (VUID-vkDestroyBuffer-buffer-00923, -00924).
     #[track_caller]
     pub unsafe fn destroy_buffer(&mut self, buffer: Buffer) {
         // SAFETY: as the caller says.
@@ -202,8 +210,11 @@ impl Allocator {
     ///
     /// # Safety
     ///
-    /// The image is of this allocator, and has this block. The device is done with both
-    /// (VUID-vkDestroyImage-image-01000, VUID-vkFreeMemory-memory-00677).
+    /// * The image is of this allocator, and has this block. The device is done with both
+    ///   (VUID-vkDestroyImage-image-01000, VUID-vkFreeMemory-memory-00677).
+    /// * An image that the program created itself was created with callbacks that are compatible with
+    ///   [`DeviceInfo::callbacks`](super::DeviceInfo::callbacks), and with none where that is `None`
+    ///   (VUID-vkDestroyImage-image-01001, -01002).
     #[track_caller]
     pub unsafe fn destroy_image(&mut self, image: Image) {
         // SAFETY: as the caller says.
@@ -216,7 +227,8 @@ impl Allocator {
     /// # Errors
     ///
     /// [`Error::NoDeviceAddress`], [`Error::Chained`], [`Error::Driver`], [`Error::Allocation`]. The buffer stays, and
-    /// has no memory.
+    /// has no memory. Only after a refused bind a free chunk of transient blocks, or a free fit chunk, may stay until
+    /// [`cleanup`](Allocator::cleanup).
     ///
     /// # Panics
     ///
@@ -224,7 +236,9 @@ impl Allocator {
     ///
     /// # Safety
     ///
-    /// * The buffer is a live one of the device, not sparse, has no memory, and no other thread uses it.
+    /// * The buffer is a live one of the device, not sparse, not for capture and replay
+    ///   ([`create_buffer`](Allocator::create_buffer)), has no memory, and no other thread uses it.
+    /// * Where the block is [`made_for`](MemoryBlock::made_for) it, nothing else is bound to the block.
     /// * `request.next` is null, or such a chain as [`DeviceFor::with_next`] asks for.
     pub unsafe fn allocate_for_buffer(
         &mut self,
@@ -241,7 +255,8 @@ impl Allocator {
     /// # Errors
     ///
     /// [`Error::NoDeviceAddress`], [`Error::Chained`], [`Error::Driver`], [`Error::Allocation`]. The image stays, and
-    /// has no memory.
+    /// has no memory. After a refused bind a free chunk may stay, as for
+    /// [`allocate_for_buffer`](Allocator::allocate_for_buffer).
     ///
     /// # Panics
     ///
@@ -251,6 +266,7 @@ impl Allocator {
     ///
     /// * The image is a live one of the device, neither sparse nor disjoint, has that tiling and no memory, and no
     ///   other thread uses it.
+    /// * Where the block is [`made_for`](MemoryBlock::made_for) it, nothing else is bound to the block.
     /// * `request.next` is null, or such a chain as [`DeviceFor::with_next`] asks for.
     pub unsafe fn allocate_for_image(
         &mut self,

@@ -13,9 +13,11 @@ use std::ptr::{from_mut, from_ref, null_mut, NonNull};
 const RANGES_AT_ONCE: usize = 16;
 
 /// What memory is for.
-#[derive(Clone, Copy, Debug, PartialEq, Eq)]
-pub(crate) enum Resource {
+#[derive(Clone, Copy, Debug, PartialEq, Eq, Hash)]
+pub enum Resource {
+    /// A buffer.
     Buffer(raw::Buffer),
+    /// An image.
     Image(raw::Image),
 }
 
@@ -162,6 +164,10 @@ impl Device {
         }
     }
 
+    /// # Errors
+    ///
+    /// [`Error::OtherResource`], [`Error::Driver`]. Nothing is changed.
+    ///
     /// # Safety
     ///
     /// As for [`bind_buffer`](Device::bind_buffer) and [`bind_image`](Device::bind_image).
@@ -171,6 +177,9 @@ impl Device {
         block: &MemoryBlock<Memory>,
         offset: u64,
     ) -> Result<(), Error> {
+        if block.made_for().is_some_and(|owner| owner != resource || offset != 0) {
+            return Err(Error::OtherResource);
+        }
         let (memory, offset) = (*block.memory(), block.offset() + offset);
         // SAFETY: as the caller says.
         unsafe {

@@ -251,12 +251,16 @@ impl Device {
     ///
     /// # Errors
     ///
-    /// [`Error::Driver`]. The block is unchanged.
+    /// [`Error::OtherResource`]: the block's object was made for another resource, or `offset` is not 0 there
+    /// ([`MemoryBlock::made_for`]). [`Error::Driver`]. The block is unchanged.
     ///
     /// # Safety
     ///
     /// * The buffer is a live one of this device, has no memory, and no other thread uses it.
-    /// * The block is of this device, and serves the buffer's requirements from `offset` on.
+    /// * The block is of this device, and serves the buffer's requirements from `offset` on. Several resources may be
+    ///   bound to one block, where each has bytes of its own.
+    /// * Where the block was imported, and the program made its object for one resource, this is that one, and the
+    ///   block with `offset` begins where the object does. Nobody checks that.
     pub unsafe fn bind_buffer(
         &self,
         buffer: raw::Buffer,
@@ -271,13 +275,17 @@ impl Device {
     ///
     /// # Errors
     ///
-    /// [`Error::Driver`]. The block is unchanged.
+    /// As for [`bind_buffer`](Device::bind_buffer).
     ///
     /// # Safety
     ///
-    /// * The image is a live one of this device, has no memory, and no other thread uses it.
-    /// * The block is of this device, and serves the image's requirements from `offset` on. It is optimal exactly where
-    ///   the image's tiling is not linear.
+    /// * The image is a live one of this device, neither sparse nor disjoint, has no memory, and no other thread uses
+    ///   it.
+    /// * The block is of this device, and serves the image's requirements from `offset` on. An image whose tiling is
+    ///   not linear wants an optimal block ([`GpuAllocator::alloc_optimal`], or [`Requirements::optimal`]), a linear
+    ///   one a block that is not.
+    /// * Several resources in one block, and an imported one, are as for `bind_buffer`. There a linear resource and an
+    ///   image that is not linear have no page of `bufferImageGranularity` together.
     pub unsafe fn bind_image(&self, image: raw::Image, block: &MemoryBlock<Memory>, offset: u64) -> Result<(), Error> {
         // SAFETY: as the caller says.
         unsafe { self.bind(Resource::Image(image), block, offset) }

@@ -102,9 +102,12 @@ impl MemoryDevice<Memory> for DeviceFor<'_> {
     }
 
     unsafe fn allocate_own(&self, size: u64, of: u32, flags: AllocationFlags) -> Result<Memory, OutOfMemory> {
-        let resource = self.resource.filter(|_| self.device.has_owners());
         // SAFETY: as the caller says.
-        self.keep(unsafe { self.device.allocate(size, of, flags, resource, self.next) }).map_err(out_of_memory)
+        self.keep(unsafe { self.device.allocate(size, of, flags, self.made_for(), self.next) }).map_err(out_of_memory)
+    }
+
+    fn made_for(&self) -> Option<Resource> {
+        self.resource.filter(|_| self.device.has_owners())
     }
 
     unsafe fn deallocate_memory(&self, memory: Memory) {

@@ -97,6 +97,10 @@ pub enum Error {
     /// (VUID-VkMemoryAllocateInfo-flags-03331).
     NoDeviceAddress,
 
+    /// The block's memory object was made for another buffer or image, or for this one from its start on
+    /// (VUID-vkBindBufferMemory-memory-01508, VUID-vkBindImageMemory-memory-02628).
+    OtherResource,
+
     /// A block that is to be flushed or invalidated is not mapped.
     NotMapped,
 
@@ -125,9 +129,11 @@ impl Error {
             Error::New(NewError::BadProperties | NewError::OtherVersion) | Error::Missing(_) | Error::Version => {
                 VkResult::ERROR_INITIALIZATION_FAILED
             }
-            Error::Map(MapError::AlreadyMapped) | Error::Chained(_) | Error::NoDeviceAddress | Error::NotMapped => {
-                VkResult::ERROR_VALIDATION_FAILED_EXT
-            }
+            Error::Map(MapError::AlreadyMapped)
+            | Error::Chained(_)
+            | Error::NoDeviceAddress
+            | Error::OtherResource
+            | Error::NotMapped => VkResult::ERROR_VALIDATION_FAILED_EXT,
             Error::NoBudget => VkResult::ERROR_EXTENSION_NOT_PRESENT,
         }
     }
@@ -147,6 +153,7 @@ impl Display for Error {
             Error::DisjointImage => formatter.write_str("Disjoint images get no memory here"),
             Error::Chained(name) => write!(formatter, "{name} is in `next`, and is chained by itself"),
             Error::NoDeviceAddress => formatter.write_str("The feature bufferDeviceAddress is not enabled"),
+            Error::OtherResource => formatter.write_str("Memory object was made for another resource or another place"),
             Error::NotMapped => formatter.write_str("Block is not mapped"),
             Error::NoBudget => formatter.write_str("The extension VK_EXT_memory_budget is not enabled or not there"),
         }

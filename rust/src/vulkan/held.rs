@@ -40,6 +40,9 @@ impl Allocator {
     /// # Safety
     ///
     /// * The object is of this device and of that memory type, not mapped, and nobody else frees it.
+    /// * It was made with callbacks that are compatible with [`DeviceInfo::callbacks`](super::DeviceInfo::callbacks),
+    ///   and with none where that is `None`: the allocator frees it with those (chapter Host Memory).
+    /// * Where it was made for one resource (`VkMemoryDedicatedAllocateInfo`), no other one is bound to the block.
     /// * `offset .. offset + size` lies in it. Where the memory is host-visible and not host-coherent, it ends at a
     ///   multiple of `nonCoherentAtomSize`, or at the object's end.
     #[track_caller]

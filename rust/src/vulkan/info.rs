@@ -45,7 +45,9 @@ pub struct DeviceInfo {
     /// What was enabled besides that version.
     pub enabled: Enabled,
 
-    /// Passed to each Vulkan call that takes them.
+    /// Passed to each Vulkan call that takes them: also where an imported object is freed, and where a resource of the
+    /// program's is destroyed. Those have to be made with compatible callbacks then, and with none where this is
+    /// `None`.
     pub callbacks: Option<AllocationCallbacks>,
 
     /// How many memory objects the program makes itself, at most, outside this allocator, including those of another

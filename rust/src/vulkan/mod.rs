@@ -39,6 +39,7 @@ pub mod raw;
 mod tests;
 
 pub use allocator::{Allocator, Buffer, Image};
+pub use calls::Resource;
 pub use device::{Device, Requirements};
 pub use device_for::DeviceFor;
 pub use error::{Error, VkResult};

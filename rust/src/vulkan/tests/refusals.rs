@@ -178,7 +178,7 @@ fn the_programs_own_resources_stay() {
     end(stub, allocator, vec![], vec![]);
 }
 
-/// The program's callbacks go to each call that takes them.
+/// The program's callbacks go to each call that takes them, also where it made the resource or the object itself.
 #[test]
 fn callbacks_are_passed_on() {
     let mut value = 0;
@@ -188,14 +188,21 @@ fn callbacks_are_passed_on() {
         let mut allocator = Allocator::new(stub.device_of(&DeviceInfo { callbacks, ..stub.info() })).unwrap();
         let made = buffer(&mut allocator, 100, LOCAL);
         let other = image(&mut allocator, 10, dedicated(LOCAL, Dedicated::Required));
-        // SAFETY: they are this allocator's, and no device uses them.
+        // SAFETY: they are this allocator's, and no device uses them. The object has that size and type.
         unsafe {
+            let device = allocator.device().clone();
+            let handle = device.create_buffer(&buffer_info(100)).unwrap();
+            let block = allocator.allocate_for_buffer(handle, LOCAL).unwrap();
+            let memory = device.allocate(64, 0, crate::AllocationFlags::empty(), None, std::ptr::null()).unwrap();
+            let import = allocator.import(memory, 0, 0, 64).unwrap();
+            allocator.destroy_buffer(Buffer { handle, block });
+            allocator.free(import);
             allocator.destroy_buffer(made);
             allocator.destroy_image(other);
         }
         drop(allocator);
-        // A buffer, an image, and two objects: made and gone.
-        assert_eq!(stub.state().callbacks, [callbacks.map_or(0, |_| user_data as usize); 8]);
+        // Two buffers, an image, and three objects: made and gone.
+        assert_eq!(stub.state().callbacks, [callbacks.map_or(0, |_| user_data as usize); 12]);
         stub.end();
     }
 }
@@ -227,6 +234,11 @@ fn texts_and_results() {
         (Error::Missing("vkFreeMemory"), "vkFreeMemory is missing", VkResult::ERROR_INITIALIZATION_FAILED),
         (Error::Version, "`api_version` is no version of Vulkan", VkResult::ERROR_INITIALIZATION_FAILED),
         (Error::SparseBuffer, "Sparse buffers get no memory here", VkResult::ERROR_FEATURE_NOT_PRESENT),
+        (
+            Error::OtherResource,
+            "Memory object was made for another resource or another place",
+            VkResult::ERROR_VALIDATION_FAILED_EXT,
+        ),
         (Error::NotMapped, "Block is not mapped", VkResult::ERROR_VALIDATION_FAILED_EXT),
         (
             Error::NoDeviceAddress,

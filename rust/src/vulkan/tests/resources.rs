@@ -1,7 +1,7 @@
 //! Buffers and images with their memory, what is chained to it, and what is dropped.
 
 use super::*;
-use crate::{AllocationError, Config};
+use crate::{AllocationError, Config, GpuAllocator, Request};
 use std::ptr::{from_ref, null};
 use stub::Chained;
 
@@ -105,6 +105,83 @@ fn bound_to_the_block() {
         assert!(one.memory() != other.memory() || pages[0] != pages[1], "{one:?} {other:?}");
     }
     end(stub, allocator, buffers, images);
+}
+
+/// An object that was made for one resource takes no other one, and that one at its start alone.
+#[test]
+fn a_dedicated_object_keeps_its_resource() {
+    let stub = Stub::new();
+    let mut allocator = allocator(&stub);
+    let device = allocator.device().clone();
+    let own = dedicated(UPLOAD, Dedicated::Required);
+    let mut core = GpuAllocator::new(device.default_config(), device.device_properties());
+    // SAFETY: the resources are the stub's, of 400 bytes, and nobody uses them. What may not be bound is refused.
+    unsafe {
+        let [one, other] = [(); 2].map(|()| device.create_buffer(&buffer_info(400)).unwrap());
+        let [first, second] = [(); 2].map(|()| device.create_image(&image_info(10)).unwrap());
+        let of_one = allocator.allocate_for_buffer(one, own).unwrap();
+        let of_first = allocator.allocate_for_image(first, Tiling::OPTIMAL, own).unwrap();
+        let request = Request { size: 400, align_mask: 255, usage: UPLOAD, memory_types: 7 };
+        let of_other = core.alloc_with_dedicated(&device.for_buffer(other), request, Dedicated::Required).unwrap();
+        let of_second = core.alloc_optimal(&device.for_image(second), request, Some(Dedicated::Required)).unwrap();
+        let asked = stub.state().asked;
+        for (block, buffer, image) in [
+            (&of_one, Some(one), None),
+            (&of_first, None, Some(first)),
+            (&of_other, Some(other), None),
+            (&of_second, None, Some(second)),
+        ] {
+            // An image's handle may be the number of a buffer's.
+            for handle in [one.0, other.0, first.0, second.0] {
+                for offset in [0, 256].into_iter().skip(usize::from(buffer == Some(raw::Buffer(handle)))) {
+                    let refused = device.bind_buffer(raw::Buffer(handle), block, offset).map_err(Error::result);
+                    assert_eq!(refused, Err(VkResult::ERROR_VALIDATION_FAILED_EXT), "{handle} {offset}");
+                }
+                for offset in [0, 256].into_iter().skip(usize::from(image == Some(raw::Image(handle)))) {
+                    let refused = device.bind_image(raw::Image(handle), block, offset).map_err(Error::result);
+                    assert_eq!(refused, Err(VkResult::ERROR_VALIDATION_FAILED_EXT), "{handle} {offset}");
+                }
+            }
+        }
+        assert_eq!(stub.state().asked, asked);
+        device.bind_buffer(other, &of_other, 0).unwrap();
+        device.bind_image(second, &of_second, 0).unwrap();
+        [one, other].into_iter().for_each(|buffer| device.destroy(calls::Resource::Buffer(buffer)));
+        [first, second].into_iter().for_each(|image| device.destroy(calls::Resource::Image(image)));
+        [of_one, of_first].into_iter().for_each(|block| allocator.free(block));
+        [of_other, of_second].into_iter().for_each(|block| core.dealloc(&device, block));
+        core.cleanup(&device);
+    }
+    end(stub, allocator, vec![], vec![]);
+}
+
+/// One that was made for no resource takes several: without the extension, and for given requirements.
+#[test]
+fn an_object_for_no_resource_takes_several() {
+    for api_version in [0, API_VERSION_1_1] {
+        let stub = Stub::new();
+        let device = stub.device_of(&DeviceInfo { api_version, ..stub.info() });
+        let mut allocator = Allocator::new(device.clone()).unwrap();
+        let own = dedicated(UPLOAD, Dedicated::Required);
+        // SAFETY: the buffers are the stub's, of 100 bytes, and nobody uses them. The blocks have room for them.
+        unsafe {
+            let buffers = [(); 4].map(|()| device.create_buffer(&buffer_info(100)).unwrap());
+            let needs = Requirements { size: 1024, ..device.buffer_requirements(buffers[0]) };
+            let block = allocator.allocate(&needs, own).unwrap();
+            let asked = device.for_buffer(buffers[2]);
+            let request = Request { size: 1024, align_mask: 255, usage: UPLOAD, memory_types: 7 };
+            let mut core = GpuAllocator::new(device.default_config(), device.device_properties());
+            let shared = core.alloc(&asked, request).unwrap();
+            for (buffer, block, offset) in [(0, &block, 0), (1, &block, 512), (3, &shared, 0), (2, &shared, 512)] {
+                device.bind_buffer(buffers[buffer], block, offset).unwrap();
+            }
+            buffers.into_iter().for_each(|buffer| device.destroy(calls::Resource::Buffer(buffer)));
+            allocator.free(block);
+            core.dealloc(&device, shared);
+            core.cleanup(&device);
+        }
+        end(stub, allocator, vec![], vec![]);
+    }
 }
 
 /// A linear image lies beside buffers.
