@@ -119,6 +119,26 @@ impl<M> GpuAllocator<M> {
 
     /// Allocates a block, in a memory object of its own where its size calls for one.
     ///
+    /// A request that would share an object is refused where no shared one can be made, though the device may have
+    /// memory for an object of its own, as in `gpu-alloc`. ([`vulkan::Allocator`](crate::vulkan::Allocator) then asks
+    /// for that.) A program that wants it asks again:
+    ///
+    /// ```
+    /// # use wallthyme::*;
+    /// # unsafe fn alloc_or_alone<M>(
+    /// #     allocator: &mut GpuAllocator<M>,
+    /// #     device: &impl MemoryDevice<M>,
+    /// #     request: Request,
+    /// # ) -> Result<MemoryBlock<M>, AllocationError> {
+    /// #     unsafe {
+    /// match allocator.alloc(device, request) {
+    ///     Err(AllocationError::OutOfDeviceMemory) => allocator.alloc_with_dedicated(device, request, Dedicated::Required),
+    ///     granted => granted,
+    /// }
+    /// #     }
+    /// # }
+    /// ```
+    ///
     /// # Errors
     ///
     /// [`AllocationError`] says why. The allocator and the device then hold what they held before.

@@ -109,6 +109,12 @@ impl Allocator {
     /// Where the driver refuses a memory object with `VK_ERROR_OUT_OF_DEVICE_MEMORY` or `VK_ERROR_TOO_MANY_OBJECTS`,
     /// the next memory type is tried. Any other error ends the request.
     ///
+    /// A shared object may be refused while there is memory for the buffer alone: a heap is nearly full, its limit is
+    /// low, or the driver makes no object that large. Where all memory types were refused for want of device memory, a
+    /// request that is not [`Dedicated::Required`] is tried once more with an object of its own, without the types
+    /// whose driver refused such an object in it. So each type is tried shared before any is tried alone, and each
+    /// block that is served so costs one of the few objects. Where that is refused too, the first error is returned.
+    ///
     /// # Panics
     ///
     /// Where a bit of `request.usage` has no name. Nothing is changed.
@@ -144,7 +150,7 @@ impl Allocator {
         Ok(Buffer { handle, block })
     }
 
-    /// Creates an image, allocates memory for it and binds it. The driver's errors are handled as in
+    /// Creates an image, allocates memory for it and binds it. What is tried after a refusal is as in
     /// [`create_buffer`](Allocator::create_buffer).
     ///
     /// # Errors
@@ -222,7 +228,8 @@ impl Allocator {
     }
 
     /// Allocates a block for a buffer that the program created, and binds it. A buffer whose address is used needs
-    /// [`UsageFlags::DEVICE_ADDRESS`].
+    /// [`UsageFlags::DEVICE_ADDRESS`]. What is tried after a refusal is as in
+    /// [`create_buffer`](Allocator::create_buffer).
     ///
     /// # Errors
     ///
@@ -250,7 +257,8 @@ impl Allocator {
         unsafe { allocate_and_bind(&mut self.core, &self.device, resource, false, &request.into()) }
     }
 
-    /// Allocates a block for an image that the program created with this tiling, and binds it.
+    /// Allocates a block for an image that the program created with this tiling, and binds it. What is tried after a
+    /// refusal is as in [`create_buffer`](Allocator::create_buffer).
     ///
     /// # Errors
     ///
@@ -279,7 +287,8 @@ impl Allocator {
         unsafe { allocate_and_bind(&mut self.core, &self.device, resource, optimal, &request.into()) }
     }
 
-    /// Allocates a block for given requirements; nothing is bound to it.
+    /// Allocates a block for given requirements; nothing is bound to it. What is tried after a refusal is as in
+    /// [`create_buffer`](Allocator::create_buffer).
     ///
     /// # Errors
     ///
@@ -356,6 +365,10 @@ unsafe fn allocate_and_bind(
     }
 }
 
+/// Where all memory types were refused, for want of device memory, a block that need not be alone in its object is asked
+/// for once more as one that is: of each type but those whose driver refused such an object. Where that is refused too,
+/// the first error stays.
+///
 /// # Safety
 ///
 /// * `asked` is the device, which is the allocator's.
@@ -383,18 +396,42 @@ unsafe fn allocate(
         (Some(Dedicated::Required), _) | (_, Some(Dedicated::Required)) => Some(Dedicated::Required),
         (wish, need) => wish.or(need),
     };
-    // SAFETY: the device is the allocator's, as the caller says, and the only one of its calls.
-    let granted = unsafe {
-        match dedicated {
-            _ if requirements.optimal => core.alloc_optimal(&asked, wanted, dedicated),
-            Some(dedicated) => core.alloc_with_dedicated(&asked, wanted, dedicated),
-            None => core.alloc(&asked, wanted),
-        }
+    // SAFETY: as the caller says.
+    let refused = match unsafe { grant(core, &asked, wanted, dedicated, requirements.optimal) } {
+        Ok(block) => return Ok(block),
+        Err(refused) => refused,
     };
-    granted.map_err(|error| match error {
+    let error = match refused {
         AllocationError::OutOfDeviceMemory | AllocationError::OutOfHostMemory => {
-            asked.failure().unwrap_or(Error::Allocation(error))
+            asked.failure().unwrap_or(Error::Allocation(refused))
         }
-        error => Error::Allocation(error),
-    })
+        refused => Error::Allocation(refused),
+    };
+    let alone = Request { memory_types: wanted.memory_types & asked.left_alone(), ..wanted };
+    let is_over = refused != AllocationError::OutOfDeviceMemory || dedicated == Some(Dedicated::Required);
+    if is_over || alone.memory_types == 0 {
+        return Err(error);
+    }
+    // SAFETY: as the caller says.
+    unsafe { grant(core, &asked, alone, Some(Dedicated::Required), requirements.optimal) }.map_err(|_| error)
+}
+
+/// # Safety
+///
+/// `asked` is the device, which is the allocator's.
+unsafe fn grant(
+    core: &mut GpuAllocator<Memory>,
+    asked: &DeviceFor<'_>,
+    request: Request,
+    dedicated: Option<Dedicated>,
+    optimal: bool,
+) -> Result<MemoryBlock<Memory>, AllocationError> {
+    // SAFETY: the device is the allocator's, as the caller says, and the only one of its calls.
+    unsafe {
+        match dedicated {
+            _ if optimal => core.alloc_optimal(asked, request, dedicated),
+            Some(dedicated) => core.alloc_with_dedicated(asked, request, dedicated),
+            None => core.alloc(asked, request),
+        }
+    }
 }

@@ -21,6 +21,8 @@ pub struct DeviceFor<'a> {
     resource: Option<Resource>,
     next: *const c_void,
     failed: Cell<Option<Error>>,
+    /// The memory types of which an object for one block was refused: bit i for the type of index i.
+    refused_alone: Cell<u32>,
 }
 
 impl<'a> DeviceFor<'a> {
@@ -30,7 +32,7 @@ impl<'a> DeviceFor<'a> {
 
     /// For a block whose resource is not known.
     pub(crate) fn none(device: &'a Device) -> Self {
-        DeviceFor { device, resource: None, next: null(), failed: Cell::new(None) }
+        DeviceFor { device, resource: None, next: null(), failed: Cell::new(None), refused_alone: Cell::new(0) }
     }
 
     /// Chains these structs too ([`MemoryRequest::next`](super::MemoryRequest::next)).
@@ -59,6 +61,11 @@ impl<'a> DeviceFor<'a> {
     /// The driver's latest result of a call that it may refuse, where that was an error: [`Error::Driver`].
     pub fn failure(&self) -> Option<Error> {
         self.failed.get()
+    }
+
+    /// The memory types of which no object for one block was refused.
+    pub(crate) fn left_alone(&self) -> u32 {
+        !self.refused_alone.get()
     }
 
     /// Keeps an answer's error, and returns its result.
@@ -103,7 +110,11 @@ impl MemoryDevice<Memory> for DeviceFor<'_> {
 
     unsafe fn allocate_own(&self, size: u64, of: u32, flags: AllocationFlags) -> Result<Memory, OutOfMemory> {
         // SAFETY: as the caller says.
-        self.keep(unsafe { self.device.allocate(size, of, flags, self.made_for(), self.next) }).map_err(out_of_memory)
+        let answer = unsafe { self.device.allocate(size, of, flags, self.made_for(), self.next) };
+        if answer.is_err() {
+            self.refused_alone.set(self.refused_alone.get() | 1 << of);
+        }
+        self.keep(answer).map_err(out_of_memory)
     }
 
     fn made_for(&self) -> Option<Resource> {

@@ -97,7 +97,9 @@ pub struct MemoryRequest {
     /// exclude, or that are outside [`Device::known_types`](super::Device::known_types), are left out.
     pub memory_types: u32,
 
-    /// Whether it must be a memory object of its own. Raised to what the driver asks for.
+    /// Whether it must be a memory object of its own. Raised to what the driver asks for, and to
+    /// [`Dedicated::Required`] where no shared object can be made
+    /// ([`create_buffer`](super::Allocator::create_buffer)).
     pub dedicated: Option<Dedicated>,
 
     /// Structs that are chained to `VkMemoryAllocateInfo` exactly where the memory object will hold only this block: a

@@ -99,7 +99,10 @@ unsafe extern "system" fn allocate_memory(
         state
             .check(chained.address == has_address, "a device address is allowed where it is not enabled, or not where");
         state.check(TYPES[memory_type as usize] & !0x3f == 0, "a type with an unknown property is used");
-        let result = state.ask("vkAllocateMemory");
+        let mut result = state.ask("vkAllocateMemory");
+        if result == VkResult::SUCCESS && state.too_large != 0 && size >= state.too_large {
+            result = VkResult::ERROR_OUT_OF_DEVICE_MEMORY;
+        }
         if result == VkResult::SUCCESS {
             let object = Object { size, memory_type, chained, bytes: None, mapped: None };
             *made = Memory(state.next());

@@ -1,5 +1,6 @@
 //! Over a stub in place of a driver.
 
+mod alone;
 mod bytes;
 mod device;
 mod functions;

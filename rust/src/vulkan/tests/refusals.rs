@@ -64,7 +64,8 @@ fn each_call_is_refused() {
             let stub = Stub::new();
             let mut allocator = allocator_with(&stub, sharing);
             let mut kept = (vec![], vec![]);
-            stub.refuse(number, result);
+            // The calls after it too: where a shared object is refused, one of the block's own is asked for.
+            stub.refuse_from(number, result);
             let error = steps(&mut allocator, &mut kept).expect_err("a call is refused");
             assert_eq!(error, Error::Driver { call, result }, "{number}");
             assert_eq!(error.result(), result);

@@ -48,9 +48,9 @@ pub(super) struct State {
     pub(super) buffers: BTreeMap<u64, Bound>,
     pub(super) images: BTreeMap<u64, Bound>,
     last: u64,
-    /// Calls that may be refused, and the one of them that is, counted from 1.
+    /// Calls that may be refused, and those of them that are, counted from 1.
     pub(super) asked: u64,
-    pub(super) refused: Option<(u64, VkResult)>,
+    pub(super) refused: Option<(Range<u64>, VkResult)>,
     pub(super) calls: Vec<&'static str>,
     /// The ranges of each flush and invalidate: offset and size.
     pub(super) ranges: Vec<Vec<(u64, u64)>>,
@@ -59,6 +59,8 @@ pub(super) struct State {
     /// A function that cannot be loaded.
     pub(super) missing: Option<&'static str>,
     pub(super) heap_size: u64,
+    /// The size from which on an object is refused for want of device memory, where it is not 0.
+    pub(super) too_large: u64,
     pub(super) heap_flags: [u32; 2],
     pub(super) budgets: MemoryBudgetProperties,
     /// What is reported of dedicated allocations: `(prefers, requires)`.
@@ -108,7 +110,14 @@ impl Stub {
     /// Refuses the call of this number from now on, counted from 1, of those that may be refused.
     pub(super) fn refuse(&self, number: u64, result: VkResult) {
         let mut state = self.state();
-        state.refused = Some((state.asked + number, result));
+        let number = state.asked + number;
+        state.refused = Some((number..number + 1, result));
+    }
+
+    /// As `refuse`, with all calls after that one.
+    pub(super) fn refuse_from(&self, number: u64, result: VkResult) {
+        let mut state = self.state();
+        state.refused = Some((state.asked + number..u64::MAX, result));
     }
 
     /// How many objects, buffers and images there are.
@@ -135,8 +144,8 @@ impl State {
     pub(super) fn ask(&mut self, call: &'static str) -> VkResult {
         self.calls.push(call);
         self.asked += 1;
-        match self.refused {
-            Some((number, result)) if number == self.asked => result,
+        match &self.refused {
+            Some((numbers, result)) if numbers.contains(&self.asked) => *result,
             _ => VkResult::SUCCESS,
         }
     }
