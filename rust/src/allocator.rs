@@ -1,12 +1,12 @@
 //! The allocator: requests go in, blocks come out and are returned.
 
-use crate::block::{Memory, MemoryBlock, Parts, Place, Shared, Start};
+use crate::block::{Memory, MemoryBlock, Parts, Shared, Start};
 use crate::config::{Config, Sharing};
 use crate::error::{AllocationError, NewError};
 use crate::ffi;
 use crate::library::{unexpected, Library, ROOM};
 use crate::objects::Objects;
-use crate::report::report;
+use crate::report::{report, Dropped, LiveBlock};
 use crate::request::{Dedicated, Request};
 use crate::types::{
     AllocationFlags, DeviceMapError, DeviceProperties, MemoryDevice, MemoryPropertyFlags, MemoryType, OutOfMemory,
@@ -27,8 +27,8 @@ static MADE: AtomicU64 = AtomicU64::new(0);
 /// A memory allocator for Vulkan and similar devices. `M` is the type of a memory object's handle.
 ///
 /// The proved library decides which memory type serves a request and where the block lies. A [`MemoryDevice`] makes the
-/// memory objects. An allocator that is dropped while it holds memory objects is reported on standard error: first
-/// return each block, and call [`cleanup`](GpuAllocator::cleanup).
+/// memory objects. An allocator that is dropped while it holds memory objects is reported, with each live block
+/// ([`Dropped`]): first return each block, and call [`cleanup`](GpuAllocator::cleanup).
 pub struct GpuAllocator<M> {
     library: Library,
     objects: Objects<M>,
@@ -132,7 +132,9 @@ impl<M> GpuAllocator<M> {
     /// # ) -> Result<MemoryBlock<M>, AllocationError> {
     /// #     unsafe {
     /// match allocator.alloc(device, request) {
-    ///     Err(AllocationError::OutOfDeviceMemory) => allocator.alloc_with_dedicated(device, request, Dedicated::Required),
+    ///     Err(AllocationError::OutOfDeviceMemory) => {
+    ///         allocator.alloc_with_dedicated(device, request, Dedicated::Required)
+    ///     }
     ///     granted => granted,
     /// }
     /// #     }
@@ -289,6 +291,21 @@ impl<M> GpuAllocator<M> {
         unsafe { self.let_go(device) };
     }
 
+    /// Sets the program's value of a block, which reports have ([`report`](GpuAllocator::report), [`Dropped`]): any
+    /// number, such as an index or a pointer. It is 0 before.
+    ///
+    /// # Panics
+    ///
+    /// Where the block is another allocator's. Nothing is changed.
+    #[track_caller]
+    pub fn set_user(&mut self, block: &mut MemoryBlock<M>, user: u64) {
+        self.assert_own(block);
+        if let Err(status) = self.library.set_user(block.key(), user) {
+            unexpected("wt_set_user", status);
+        }
+        block.set_user(user);
+    }
+
     /// The largest size of a request, in bytes.
     pub fn max_allocation_size(&self) -> u64 {
         self.max_allocation_size
@@ -429,11 +446,9 @@ impl<M> GpuAllocator<M> {
     ) -> MemoryBlock<M> {
         let kind = MemoryPropertyFlags::HOST_VISIBLE | MemoryPropertyFlags::HOST_COHERENT;
         let parts = Parts {
-            place: Place { allocator: self.number, key: block.key },
-            offset: block.offset,
-            size: block.size,
+            allocator: self.number,
+            place: place(&block),
             atom_mask: if props & kind == MemoryPropertyFlags::HOST_VISIBLE { self.atom_mask } else { 0 },
-            memory_type: block.memory_type,
             props,
             made_for,
         };
@@ -471,9 +486,10 @@ impl<M> Drop for GpuAllocator<M> {
         // Some may be released, and wait since the device panicked.
         let objects = counts.held as usize + self.gone.len();
         if counts.blocks > 0 {
-            report(&format!("an allocator was dropped, with blocks that were not given back: {}", counts.blocks));
+            report(&Dropped::Allocator { blocks: counts.blocks });
+            self.library.each_block(|block| report(&Dropped::BlockOfAllocator(place(block))));
         } else if objects > 0 {
-            report(&format!("an allocator was dropped without `cleanup`, with memory objects: {objects}"));
+            report(&Dropped::WithoutCleanup { objects });
         }
         // The memory objects are lost to the device, and dropped as values. So that the library's memory is not lost
         // too, it releases them where no block is live.
@@ -493,6 +509,11 @@ impl<M> Debug for GpuAllocator<M> {
             .field("shared_objects", &self.objects.len())
             .finish_non_exhaustive()
     }
+}
+
+fn place(block: &ffi::Block) -> LiveBlock {
+    let &ffi::Block { key, user, size, object, offset, memory_type, .. } = block;
+    LiveBlock { key, user, size, object, offset, memory_type }
 }
 
 /// An object that was made for a request, where it is mapped, and whether it is for that request's block alone, and

@@ -8,7 +8,7 @@
 //! the library's (`wt_range_of`).
 
 use crate::error::MapError;
-use crate::report::report;
+use crate::report::{report, Dropped, LiveBlock};
 use crate::types::{MappedMemoryRange, MemoryDevice, MemoryPropertyFlags, OutOfMemory};
 use crate::vulkan::Resource;
 use std::ops::Range;
@@ -48,33 +48,23 @@ pub(crate) enum Memory<M> {
     Shared(Shared<M>),
 }
 
-/// What the allocator knows a block by.
-#[derive(Debug)]
-pub(crate) struct Place {
-    pub(crate) allocator: u64,
-    pub(crate) key: u64,
-}
-
 /// Reports a block that was dropped.
 #[derive(Debug)]
-struct Unreturned;
+struct Unreturned(LiveBlock);
 
 impl Drop for Unreturned {
     fn drop(&mut self) {
-        report("a memory block was dropped, and not given back: its memory stays taken");
+        report(&Dropped::Block(self.0));
     }
 }
 
 /// A range of a memory object, to be returned by [`GpuAllocator::dealloc`](crate::GpuAllocator::dealloc). One that is
-/// dropped is reported on standard error, and its memory stays taken.
+/// dropped is reported ([`Dropped::Block`]), and its memory stays taken.
 #[derive(Debug)]
 pub struct MemoryBlock<M> {
-    place: Place,
-    offset: u64,
-    size: u64,
+    allocator: u64,
     /// The alignment less 1 of what is flushed and invalidated; 0 where no flush is needed.
     atom_mask: u64,
-    memory_type: u32,
     props: MemoryPropertyFlags,
     mapped: bool,
     memory: Memory<M>,
@@ -84,11 +74,10 @@ pub struct MemoryBlock<M> {
 
 /// What a block is made of, apart from its memory object.
 pub(crate) struct Parts {
-    pub(crate) place: Place,
-    pub(crate) offset: u64,
-    pub(crate) size: u64,
+    /// The number of its allocator.
+    pub(crate) allocator: u64,
+    pub(crate) place: LiveBlock,
     pub(crate) atom_mask: u64,
-    pub(crate) memory_type: u32,
     pub(crate) props: MemoryPropertyFlags,
     pub(crate) made_for: Option<Resource>,
 }
@@ -96,22 +85,27 @@ pub(crate) struct Parts {
 impl<M> MemoryBlock<M> {
     pub(crate) fn new(parts: Parts, memory: Memory<M>) -> Self {
         MemoryBlock {
-            place: parts.place,
-            offset: parts.offset,
-            size: parts.size,
+            allocator: parts.allocator,
             atom_mask: parts.atom_mask,
-            memory_type: parts.memory_type,
             props: parts.props,
             mapped: false,
             memory,
             made_for: parts.made_for,
-            unreturned: Unreturned,
+            unreturned: Unreturned(parts.place),
         }
     }
 
     /// The number of the block's allocator.
     pub(crate) fn allocator(&self) -> u64 {
-        self.place.allocator
+        self.allocator
+    }
+
+    fn place(&self) -> &LiveBlock {
+        &self.unreturned.0
+    }
+
+    pub(crate) fn set_user(&mut self, user: u64) {
+        self.unreturned.0.user = user;
     }
 
     /// Whether the block is mapped.
@@ -121,8 +115,9 @@ impl<M> MemoryBlock<M> {
 
     /// Ends the block, so that its allocator can free it.
     pub(crate) fn into_parts(self) -> (u64, Memory<M>) {
+        let key = self.key();
         std::mem::forget(self.unreturned);
-        (self.place.key, self.memory)
+        (key, self.memory)
     }
 
     /// The block's memory object.
@@ -134,16 +129,29 @@ impl<M> MemoryBlock<M> {
         }
     }
 
+    /// What its allocator knows the block by: no other live block of it has the same, and reports name it
+    /// ([`GpuAllocator::report`](crate::GpuAllocator::report), [`Dropped`]).
+    #[inline]
+    pub fn key(&self) -> u64 {
+        self.place().key
+    }
+
+    /// The program's value, 0 until [`GpuAllocator::set_user`](crate::GpuAllocator::set_user) sets it.
+    #[inline]
+    pub fn user(&self) -> u64 {
+        self.place().user
+    }
+
     /// Where the block starts, in bytes from the start of its memory object.
     #[inline]
     pub fn offset(&self) -> u64 {
-        self.offset
+        self.place().offset
     }
 
     /// The block's size in bytes: at least what was asked for.
     #[inline]
     pub fn size(&self) -> u64 {
-        self.size
+        self.place().size
     }
 
     /// The properties of the block's memory type.
@@ -155,7 +163,7 @@ impl<M> MemoryBlock<M> {
     /// The index of the block's memory type.
     #[inline]
     pub fn memory_type(&self) -> u32 {
-        self.memory_type
+        self.place().memory_type
     }
 
     /// The buffer or image that the block's memory object was made for, where it is chained to it
@@ -196,12 +204,12 @@ impl<M> MemoryBlock<M> {
         size: usize,
     ) -> Result<NonNull<u8>, MapError> {
         let size = u64::try_from(size).expect("`size` has to fit 64 bits");
-        assert!(offset < self.size, "`offset` has to be less than the block's size");
-        assert!(size <= self.size - offset, "`offset + size` has to be at most the block's size");
+        assert!(offset < self.size(), "`offset` has to be less than the block's size");
+        assert!(size <= self.size() - offset, "`offset + size` has to be at most the block's size");
         self.may_be_mapped()?;
         let range = self.whole_atoms(offset, size.max(1));
         let base = if let Memory::Own(_) = self.memory { range.start } else { 0 };
-        let distance = usize::try_from(self.offset + offset - base).expect("a mapping has to fit the host's memory");
+        let distance = usize::try_from(self.offset() + offset - base).expect("a mapping has to fit the host's memory");
         let start = match &mut self.memory {
             // SAFETY: the device is the object's, as the caller says. The object is host-visible, and not mapped, as
             // only this block maps it. The range lies in the block, or begins less than an atom before it, inside the
@@ -318,7 +326,7 @@ impl<M> MemoryBlock<M> {
 
     /// The result of writing or reading no bytes at `offset`.
     fn reaches(&self, offset: u64) -> Result<(), MapError> {
-        assert!(offset <= self.size, "`offset` has to be at most the block's size");
+        assert!(offset <= self.size(), "`offset` has to be at most the block's size");
         self.may_be_mapped()
     }
 
@@ -344,17 +352,10 @@ impl<M> MemoryBlock<M> {
     /// The atoms of the memory object that have these bytes of the block, cut at the block's end. An atom ends there,
     /// except in an object of the block's own, which may end inside one.
     pub(crate) fn whole_atoms(&self, offset: u64, size: u64) -> Range<u64> {
-        let start = self.offset + offset;
+        let start = self.offset() + offset;
         let end = start + size;
-        let block_end = self.offset + self.size;
+        let block_end = self.offset() + self.size();
         let rounded = end.checked_add(self.atom_mask).map_or(block_end, |end| end & !self.atom_mask);
         start & !self.atom_mask..rounded.min(block_end)
-    }
-}
-
-#[cfg(test)]
-impl<M> MemoryBlock<M> {
-    pub(crate) fn key(&self) -> u64 {
-        self.place.key
     }
 }

@@ -128,9 +128,9 @@ structs! {
         answer: u32,
     }
 
-    /// Nothing here reads its last four fields.
+    /// Nothing here reads its last three fields.
     #[allow(dead_code)]
-    #[derive(Default)]
+    #[derive(Clone, Copy, Default)]
     struct wt_block Block {
         key: u64,
         object: u64,
@@ -205,6 +205,8 @@ extern "C" {
         size: u64,
         block: *mut Block,
     ) -> u32;
+    pub(crate) fn wt_set_user(a: *mut Allocator, key: u64, user: u64) -> u32;
+    pub(crate) fn wt_blocks(a: *mut Allocator, after: u64, blocks: *mut Block, room: usize, count: *mut usize) -> u32;
     pub(crate) fn wt_free(a: *mut Allocator, key: u64) -> u32;
     pub(crate) fn wt_cleanup(a: *mut Allocator) -> u32;
     pub(crate) fn wt_gone(a: *mut Allocator, names: *mut u64, room: usize, count: *mut usize) -> u32;

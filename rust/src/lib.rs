@@ -28,6 +28,7 @@ pub use allocator::GpuAllocator;
 pub use block::MemoryBlock;
 pub use config::{Config, Sharing};
 pub use error::{AllocationError, MapError, NewError};
+pub use report::{set_drop_handler, Dropped, LiveBlock};
 pub use request::{Dedicated, Request};
 pub use types::{
     AllocationFlags, DeviceMapError, DeviceProperties, MappedMemoryRange, MemoryDevice, MemoryHeap,

@@ -4,7 +4,7 @@ use crate::error::NewError;
 use crate::ffi;
 use crate::{Config, DeviceProperties, Sharing};
 
-/// The least room for names where they are read.
+/// The room for live blocks, and the least room for names, where they are read.
 pub(crate) const ROOM: usize = 32;
 
 /// An open allocator, until it is closed.
@@ -103,6 +103,33 @@ impl Library {
         match unsafe { ffi::wt_import(&mut self.state.handle, memory_type, object, offset, size, &mut block) } {
             ffi::OK => Ok(block),
             status => Err(status),
+        }
+    }
+
+    /// Sets the program's value of a block, or returns the status where no block has this key.
+    pub(crate) fn set_user(&mut self, key: u64, user: u64) -> Result<(), u32> {
+        // SAFETY: the handle is open.
+        match unsafe { ffi::wt_set_user(&mut self.state.handle, key, user) } {
+            ffi::OK => Ok(()),
+            status => Err(status),
+        }
+    }
+
+    /// Shows each live block.
+    pub(crate) fn each_block(&mut self, mut show: impl FnMut(&ffi::Block)) {
+        let mut blocks = [ffi::Block::default(); ROOM];
+        let mut after = 0;
+        loop {
+            let (room, mut count) = (blocks.len(), 0);
+            // SAFETY: the handle is open, and both pointers are good until the call ends, with room for that many.
+            let status =
+                unsafe { ffi::wt_blocks(&mut self.state.handle, after, blocks.as_mut_ptr(), room, &mut count) };
+            expect("wt_blocks", status);
+            blocks[..count].iter().for_each(&mut show);
+            if count < room {
+                return;
+            }
+            after = blocks[room - 1].key;
         }
     }
 

@@ -9,8 +9,8 @@ use super::raw::{self, BufferCreateInfo, ImageCreateInfo, Memory, Tiling};
 use crate::{AllocationError, Config, Dedicated, GpuAllocator, MemoryBlock, Request, Sharing, UsageFlags};
 use std::mem::forget;
 
-/// A buffer and its memory, to be destroyed by [`Allocator::destroy_buffer`]. One that is dropped is reported on
-/// standard error, like its block; buffer and memory stay.
+/// A buffer and its memory, to be destroyed by [`Allocator::destroy_buffer`]. One that is dropped is reported by its
+/// block ([`Dropped`](crate::Dropped)); buffer and memory stay.
 #[derive(Debug)]
 #[must_use]
 pub struct Buffer {
@@ -20,8 +20,8 @@ pub struct Buffer {
     pub block: MemoryBlock<Memory>,
 }
 
-/// An image and its memory, to be destroyed by [`Allocator::destroy_image`]. One that is dropped is reported on
-/// standard error, like its block; image and memory stay.
+/// An image and its memory, to be destroyed by [`Allocator::destroy_image`]. One that is dropped is reported by its
+/// block ([`Dropped`](crate::Dropped)); image and memory stay.
 #[derive(Debug)]
 #[must_use]
 pub struct Image {
@@ -53,8 +53,8 @@ impl Drop for Created<'_> {
 /// An allocator of buffers and images with their memory, over a [`Device`].
 ///
 /// One that is dropped frees each memory object that no block needs. Where blocks are live, their objects stay, and it
-/// is reported on standard error, as for a [`GpuAllocator`]. Drop it before the `VkDevice` is destroyed
-/// (`vkDestroyDevice` wants each object of the device gone).
+/// is reported with each of them, as for a [`GpuAllocator`] ([`Dropped`](crate::Dropped)). Drop it before the
+/// `VkDevice` is destroyed (`vkDestroyDevice` wants each object of the device gone).
 #[derive(Debug)]
 pub struct Allocator {
     pub(super) device: Device,
@@ -365,9 +365,9 @@ unsafe fn allocate_and_bind(
     }
 }
 
-/// Where all memory types were refused, for want of device memory, a block that need not be alone in its object is asked
-/// for once more as one that is: of each type but those whose driver refused such an object. Where that is refused too,
-/// the first error stays.
+/// Where all memory types were refused, for want of device memory, a block that need not be alone in its object is
+/// asked for once more as one that is: of each type but those whose driver refused such an object. Where that is
+/// refused too, the first error stays.
 ///
 /// # Safety
 ///

@@ -63,6 +63,17 @@ impl Allocator {
         Ok(unsafe { self.core.import_memory(memory, memory_type, props, offset, size) })
     }
 
+    /// Sets the program's value of a block, which reports have. See
+    /// [`GpuAllocator::set_user`](crate::GpuAllocator::set_user).
+    ///
+    /// # Panics
+    ///
+    /// Where the block is another allocator's. Nothing is changed.
+    #[track_caller]
+    pub fn set_user(&mut self, block: &mut MemoryBlock<Memory>, user: u64) {
+        self.core.set_user(block, user);
+    }
+
     /// Frees the memory objects that no block needs.
     pub fn cleanup(&mut self) {
         // SAFETY: the device is the allocator's, and live, as the caller of `load` says.

@@ -1,7 +1,7 @@
 //! Requests that no shared object can be made for, while there is memory for objects of their own.
 
 use super::*;
-use crate::{AllocationError, GpuAllocator, Request};
+use crate::{AllocationError, AllocationFlags, GpuAllocator, Request};
 use std::ptr::null;
 
 const MIB: u64 = 1 << 20;
@@ -74,22 +74,17 @@ fn heaps_with_little_left() {
         let mut allocator = allocator_with(&stub, sharing);
         let held = stub.state().heap_size - 3 * MIB;
         let device = allocator.device().clone();
-        for memory_type in [0, 1] {
-            // SAFETY: the heap has that much. The object goes back with its block.
-            unsafe {
-                let none = crate::AllocationFlags::empty();
-                let memory = device.allocate(held, memory_type, none, None, null()).unwrap();
-                let block = allocator.import(memory, memory_type, 0, held).unwrap();
-                std::mem::forget(block);
-            }
-        }
+        let none = AllocationFlags::empty();
+        // SAFETY: the heaps have that much, and the objects are of those types.
+        let imports = [0, 1].map(|memory_type| unsafe {
+            let memory = device.allocate(held, memory_type, none, None, null()).unwrap();
+            allocator.import(memory, memory_type, 0, held).unwrap()
+        });
         let made = buffer(&mut allocator, 4096, LOCAL);
         assert_eq!(stub.state().objects[&made.block.memory().0].size, 4096);
-        // SAFETY: it is this allocator's, and no device uses it. The imports are given up.
-        unsafe { allocator.destroy_buffer(made) };
-        drop(allocator);
-        stub.state().objects.clear();
-        stub.end();
+        // SAFETY: they are this allocator's, and no device uses them.
+        imports.into_iter().for_each(|block| unsafe { allocator.free(block) });
+        end(stub, allocator, vec![made], vec![]);
     }
 }
 

@@ -1,7 +1,8 @@
 //! Buffers and images with their memory, what is chained to it, and what is dropped.
 
 use super::*;
-use crate::{AllocationError, Config, GpuAllocator, Request};
+use crate::{set_drop_handler, AllocationError, Config, Dropped, GpuAllocator, Request};
+use std::cell::RefCell;
 use std::ptr::{from_ref, null};
 use stub::Chained;
 
@@ -318,6 +319,39 @@ fn a_drop_frees_what_no_block_needs() {
         stub.device().free(*other.block.memory());
     }
     std::mem::forget(other);
+    stub.end();
+}
+
+thread_local! {
+    /// What this thread dropped and should have returned.
+    static DROPPED: RefCell<Vec<Dropped>> = const { RefCell::new(vec![]) };
+}
+
+/// What is live is reported with its place, and then what is dropped.
+#[test]
+fn a_drop_reports_what_is_live() {
+    set_drop_handler(|dropped| DROPPED.with_borrow_mut(|all| all.push(*dropped)));
+    let stub = Stub::new();
+    let mut allocator = allocator(&stub);
+    let made = buffer(&mut allocator, 100, LOCAL);
+    let mut other = image(&mut allocator, 10, dedicated(LOCAL, Dedicated::Required));
+    allocator.set_user(&mut other.block, 77);
+    assert_eq!((made.block.user(), other.block.user()), (0, 77));
+    assert!(allocator.report().unwrap().contains(&format!(r#""key":{},"user":77"#, other.block.key())));
+    drop(allocator);
+    let told = DROPPED.take();
+    let [Dropped::Allocator { blocks: 2 }, Dropped::BlockOfAllocator(one), Dropped::BlockOfAllocator(two)] = told[..]
+    else {
+        panic!("{told:?}")
+    };
+    assert_eq!((one.key, one.user, one.size, one.offset), (made.block.key(), 0, 256, made.block.offset()));
+    assert_eq!((two.key, two.user, two.size, two.offset), (other.block.key(), 77, 400, 0));
+    assert_eq!((one.memory_type, two.memory_type, one.object != two.object), (0, 0, true));
+    drop((made, other));
+    assert_eq!(DROPPED.take(), [Dropped::Block(one), Dropped::Block(two)]);
+    stub.state().objects.clear();
+    stub.state().buffers.clear();
+    stub.state().images.clear();
     stub.end();
 }
 
