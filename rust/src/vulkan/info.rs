@@ -39,7 +39,8 @@ pub struct DeviceInfo {
     pub get_instance_proc_addr: Option<GetInstanceProcAddr>,
 
     /// The lesser of the version that the instance was created for and the one that the device offers, for instance
-    /// `VK_API_VERSION_1_1` (`1 << 22 | 1 << 12`). 0 means 1.0.
+    /// `VK_API_VERSION_1_1` (`1 << 22 | 1 << 12`). 0 means 1.0. Nothing above 1.1 is loaded, so that a higher version
+    /// than the lesser is refused ([`Error::Missing`](super::Error::Missing)) only where functions of 1.1 are missing.
     pub api_version: u32,
 
     /// What was enabled besides that version.

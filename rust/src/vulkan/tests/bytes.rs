@@ -86,6 +86,46 @@ fn flushed_where_it_has_to_be() {
     end(stub, allocator, vec![coherent, cached], vec![]);
 }
 
+/// A write or a read is one mapping at most, and one flush or invalidate. It needs no allocator: another thread may use
+/// that meanwhile.
+#[test]
+fn no_call_is_made_twice() {
+    const MAP: &str = "vkMapMemory";
+    const UNMAP: &str = "vkUnmapMemory";
+    const FLUSH: &str = "vkFlushMappedMemoryRanges";
+    const INVALIDATE: &str = "vkInvalidateMappedMemoryRanges";
+    let stub = Stub::new();
+    let mut allocator = allocator(&stub);
+    let own = |usage| dedicated(usage, Dedicated::Required);
+    let mut buffers = vec![];
+    for (request, written, read) in [
+        (UPLOAD.into(), &[][..], &[][..]),
+        (DOWNLOAD.into(), &[FLUSH], &[INVALIDATE]),
+        (own(UPLOAD), &[MAP, UNMAP], &[MAP, UNMAP]),
+        (own(DOWNLOAD), &[MAP, FLUSH, UNMAP], &[MAP, INVALIDATE, UNMAP]),
+    ] {
+        let mut made = buffer(&mut allocator, 1000, request);
+        let device = allocator.device().clone();
+        let calls = || std::mem::take(&mut stub.state().calls);
+        calls();
+        // SAFETY: no device uses the block.
+        unsafe {
+            made.block.write_bytes(&device, 1, &[1; 500]).unwrap();
+            assert_eq!(calls(), written);
+            made.block.read_bytes(&device, 1, &mut [0; 500]).unwrap();
+            assert_eq!(calls(), read);
+            allocator.write(&mut made.block, 1, &[1; 500]).unwrap();
+            assert_eq!(calls(), written);
+            allocator.read(&mut made.block, 1, &mut [0; 500]).unwrap();
+            assert_eq!(calls(), read);
+            allocator.write(&mut made.block, 1000, &[]).unwrap();
+            assert_eq!(calls(), [""; 0]);
+        }
+        buffers.push(made);
+    }
+    end(stub, allocator, buffers, vec![]);
+}
+
 #[test]
 fn imports() {
     let stub = Stub::new();

@@ -34,6 +34,8 @@ fn what_was_enabled() {
         (DeviceInfo { enabled: Enabled::DEDICATED_ALLOCATION, ..plain }, u64::MAX, true),
         (DeviceInfo { enabled: both, api_version: API_VERSION_1_1 - 1, ..plain }, LARGEST, true),
         (stub.info(), LARGEST, true),
+        // A higher version than the device may have: nothing above 1.1 is loaded.
+        (DeviceInfo { api_version: 1 << 22 | 4 << 12, ..plain }, LARGEST, true),
     ] {
         stub.state().own = (0, 1);
         let device = stub.device_of(&info);
