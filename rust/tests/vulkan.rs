@@ -13,7 +13,7 @@ use std::ffi::c_void;
 use std::ptr::{copy_nonoverlapping, from_ref, null_mut};
 use std::sync::atomic::{AtomicI64, Ordering};
 use wallthyme::vulkan::{
-    AllocationCallbacks, Allocator, Device, DeviceInfo, Enabled, Error, MemoryRequest, Tiling, VkResult,
+    AllocationCallbacks, Allocator, Device, DeviceInfo, Enabled, Error, MemoryRequest, Resource, Tiling, VkResult,
 };
 use wallthyme::{Config, Dedicated, UsageFlags};
 
@@ -114,6 +114,35 @@ fn each_function_is_refused() {
             allocator.destroy_buffer(buffer);
         }
     }
+    assert_eq!(device.close(), 0);
+}
+
+/// Below the size of a shared object, a buffer and an image get objects of their own, which take nothing else.
+#[test]
+fn a_low_limit() {
+    let Some(device) = driver::open("a low limit over Vulkan") else { return };
+    // SAFETY: the device outlives the allocator, and offers what it says.
+    let loaded = unsafe { Device::load(&device.info()) }.expect("the driver has all functions");
+    let mut allocator = Allocator::new(loaded).expect("a driver has good properties");
+    let chunk = allocator.device().default_config().starting_free_list_chunk;
+    for (heap, of) in (0..).zip(allocator.device().clone().device_properties().memory_heaps.iter()) {
+        allocator.set_heap_limit(heap, chunk.min(of.size / 32) - 1);
+    }
+    // SAFETY: the device allows them, and does not use them. What may not be bound is refused.
+    unsafe {
+        let mut buffer = allocator.create_buffer(&buffer_info(4096), UsageFlags::UPLOAD).expect("there is room");
+        let image = allocator.create_image(&image_info(4, Tiling::OPTIMAL), UsageFlags::empty()).expect("as above");
+        assert_eq!(buffer.block.made_for(), Some(Resource::Buffer(buffer.handle)));
+        assert_eq!(image.block.made_for(), Some(Resource::Image(image.handle)));
+        let device = allocator.device().clone();
+        assert_eq!(device.bind_image(image.handle, &buffer.block, 0), Err(Error::OtherResource));
+        assert_eq!(device.bind_buffer(buffer.handle, &image.block, 0), Err(Error::OtherResource));
+        assert_eq!(device.bind_buffer(buffer.handle, &buffer.block, 64), Err(Error::OtherResource));
+        allocator.write(&mut buffer.block, 0, &[1; 4096]).expect("it is mapped");
+        allocator.destroy_buffer(buffer);
+        allocator.destroy_image(image);
+    }
+    drop(allocator);
     assert_eq!(device.close(), 0);
 }
 

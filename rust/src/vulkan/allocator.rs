@@ -287,7 +287,8 @@ impl Allocator {
         unsafe { allocate_and_bind(&mut self.core, &self.device, resource, optimal, &request.into()) }
     }
 
-    /// Allocates a block for given requirements; nothing is bound to it. What is tried after a refusal is as in
+    /// Allocates a block for given requirements, and binds nothing to it: [`Device::bind_buffer`] and
+    /// [`Device::bind_image`] say what may be. It is made for no resource. What is tried after a refusal is as in
     /// [`create_buffer`](Allocator::create_buffer).
     ///
     /// # Errors
