@@ -100,6 +100,7 @@ impl<M> MemoryBlock<M> {
         self.allocator
     }
 
+    #[inline]
     fn place(&self) -> &LiveBlock {
         &self.unreturned.0
     }
