@@ -409,8 +409,8 @@ unsafe fn allocate(
         refused => Error::Allocation(refused),
     };
     let alone = Request { memory_types: wanted.memory_types & asked.left_alone(), ..wanted };
-    let is_over = refused != AllocationError::OutOfDeviceMemory || dedicated == Some(Dedicated::Required);
-    if is_over || alone.memory_types == 0 {
+    let ends = refused != AllocationError::OutOfDeviceMemory || dedicated == Some(Dedicated::Required);
+    if ends || alone.memory_types == 0 {
         return Err(error);
     }
     // SAFETY: as the caller says.

@@ -97,8 +97,8 @@ pub enum Error {
     /// (VUID-VkMemoryAllocateInfo-flags-03331).
     NoDeviceAddress,
 
-    /// The block's memory object was made for another buffer or image, or for this one from its start on
-    /// (VUID-vkBindBufferMemory-memory-01508, VUID-vkBindImageMemory-memory-02628).
+    /// The block's memory object was made for another buffer or image, or it was made for this one, which then has to
+    /// lie at its start (VUID-vkBindBufferMemory-memory-01508, VUID-vkBindImageMemory-memory-02628).
     OtherResource,
 
     /// A block that is to be flushed or invalidated is not mapped.
