@@ -1,6 +1,8 @@
 """Many scripts for one build of the program, without proof: `rt try --cases FOLDER` runs it on each file of a folder."""
 import os
 import re
+import subprocess
+import tempfile
 
 
 def write_cases(folder, scripts):
@@ -18,3 +20,13 @@ def answers(output, said):
     for name, ended, status in re.findall(rb"^case=(\w+) run=(\S+)(?: status=(\d+))?", said, re.M):
         if ended != b"no-answer":
             yield name.decode(), outputs.get(name, b""), int(status) if ended == b"ended" else ended.decode()
+
+
+def try_scripts(crate, scripts):
+    """Builds the program of a crate without proof, and runs it on these scripts. Returns what came of each that was
+    answered, and what the run wrote on standard error."""
+    with tempfile.TemporaryDirectory(prefix="wallthyme-") as room:
+        write_cases(room, scripts)
+        how = {"cwd": crate, "stdin": subprocess.DEVNULL, "capture_output": True}
+        ran = subprocess.run(["rt", "try", "--cases", room], **how)
+    return list(answers(ran.stdout, ran.stderr)), ran.stderr
