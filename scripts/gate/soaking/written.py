@@ -49,12 +49,14 @@ def word_of(name):
 
 
 def faults(cases, answered):
-    """All that is wrong, one or two lines for each script. `answered` has what came, and the status, by its word."""
+    """All that is wrong, a text of one or two lines for each script. `answered` has what came, and the status, by its
+    word."""
     yield from faults_of_files()
     for name, (script, wanted) in cases.items():
         answer = answered.get(word_of(name))
-        found = faults_of(script, wanted, *answer) if answer else ["it has no answer"]
-        yield from (f"{name}: {fault}" for fault in found)
+        found = list(faults_of(script, wanted, *answer)) if answer else ["it has no answer"]
+        if found:
+            yield "\n    ".join([f"{name}: {found[0]}", *found[1:]])
 
 
 def faults_of_files():
