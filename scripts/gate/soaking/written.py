@@ -37,7 +37,7 @@ def written(with_many):
     cases = {os.path.relpath(stem, FOLDER): (read(stem + SCRIPT), read(stem + REPLIES)) for stem in stems}
     for family in families.FAMILIES + (families.MANY if with_many else ()):
         for number, (script, replies) in enumerate(family(), 1):
-            shown = f" {script!r}" if len(script) <= SHOWN else ""
+            shown = f" {script!a}" if len(script) <= SHOWN else ""
             script = script if isinstance(script, bytes) else script.encode()
             cases[f"{family.__name__} {number}{shown}"] = script, replies.encode()
     return cases
