@@ -27,7 +27,7 @@ def read(path):
 
 def paths(ending):
     """The files with this ending, without it."""
-    return {path.removesuffix(ending) for path in glob.glob(f"{FOLDER}/*/*{ending}")}
+    return {path.removesuffix(ending) for path in glob.glob(f"{FOLDER}/**/*{ending}", recursive=True)}
 
 
 def written(with_many):
