@@ -283,7 +283,7 @@ impl<M: MemoryObject, A: Allocator> Fits<M, A> {
         let Some(place) = place_of(
             &self.chunks,
             &self.tiles,
-            &mut self.known,
+            &mut self.known.searches,
             hint,
             slot.object,
             slot.offset,
@@ -354,10 +354,12 @@ impl<M: MemoryObject, A: Allocator> Fits<M, A> {
         ensures exact { (slot : LiveSlot) → IsLiveFitSpan (self.now).space object offset size slot
             → IfSome result (λ found. found.0 ≡ slot) }
     {
-        let place = place_uncounted(
+        // Nothing changes, so this search is not counted.
+        let mut uncounted = 0;
+        let place = place_of(
             &self.chunks,
             &self.tiles,
-            &self.known,
+            &mut uncounted,
             key,
             object,
             offset,
@@ -395,7 +397,7 @@ impl<M: MemoryObject, A: Allocator> Fits<M, A> {
     /// How many times all tiles were searched, modulo 2^64: for a place, about once for each new chunk, and for each
     /// block that was returned with another key than its own. Tests look at it, and no contract.
     pub fn searches(&self) -> u64 {
-        self.known.searches()
+        self.known.searches
     }
 
     /// A lemma: does nothing at run time. Its contract is what every store keeps.
@@ -469,35 +471,12 @@ fn let_chunk_go<M: MemoryObject, A: Allocator>(
 }
 
 /// The place of the tile that is the live block of this span: under `key` if it is there, or else where a search finds
-/// it.
+/// it, which `searches` counts.
 #[inline(always)]
 fn place_of<M: MemoryObject, A: Allocator>(
     chunks: &Slab<Chunk<M>, A>,
     tiles: &Slab<Node, A>,
-    known: &mut Known,
-    key: usize,
-    object: u64,
-    offset: u64,
-    size: u64,
-) -> Option<Place>
-    requires kept { AreNodesKept (chunk_size_in chunks.now) tiles.now }
-    ensures full { known.new.full ≡ known.old.full }
-    ensures place { MatchOption result
-        ((k : ℕ) → IsAtKey (chunks_of_rows M.object chunks.now) (tile_in tiles.now) object offset size k → ⊥)
-        (IsBlockPlace M.object chunks.now tiles.now object offset size) }
-{
-    match place_at(chunks, tiles, key, object, offset, size) {
-        Some(place) => Some(place),
-        None => searched(chunks, tiles, known, object, offset, size),
-    }
-}
-
-/// The same. A search is not counted.
-#[inline(always)]
-fn place_uncounted<M: MemoryObject, A: Allocator>(
-    chunks: &Slab<Chunk<M>, A>,
-    tiles: &Slab<Node, A>,
-    known: &Known,
+    searches: &mut u64,
     key: usize,
     object: u64,
     offset: u64,
@@ -508,28 +487,6 @@ fn place_uncounted<M: MemoryObject, A: Allocator>(
         ((k : ℕ) → IsAtKey (chunks_of_rows M.object chunks.now) (tile_in tiles.now) object offset size k → ⊥)
         (IsBlockPlace M.object chunks.now tiles.now object offset size) }
 {
-    match place_at(chunks, tiles, key, object, offset, size) {
-        Some(place) => Some(place),
-        None => {
-            let mut known = *known;
-            searched(chunks, tiles, &mut known, object, offset, size)
-        }
-    }
-}
-
-/// The place of the tile that is the live block of this span, if it is under `key`.
-#[inline(always)]
-fn place_at<M: MemoryObject, A: Allocator>(
-    chunks: &Slab<Chunk<M>, A>,
-    tiles: &Slab<Node, A>,
-    key: usize,
-    object: u64,
-    offset: u64,
-    size: u64,
-) -> Option<Place>
-    requires kept { AreNodesKept (chunk_size_in chunks.now) tiles.now }
-    ensures { IfSome result (IsBlockPlace M.object chunks.now tiles.now object offset size) }
-{
     if let Some(node) = tiles.get(key) {
         if is_of(chunks, node.tile, object, offset, size) {
             return Some(Place {
@@ -539,52 +496,32 @@ fn place_at<M: MemoryObject, A: Allocator>(
             });
         }
     }
-    None
-}
-
-/// The place of the tile that is the live block of this span, by a search, which is counted.
-#[inline(always)]
-fn searched<M: MemoryObject, A: Allocator>(
-    chunks: &Slab<Chunk<M>, A>,
-    tiles: &Slab<Node, A>,
-    known: &mut Known,
-    object: u64,
-    offset: u64,
-    size: u64,
-) -> Option<Place>
-    requires kept { AreNodesKept (chunk_size_in chunks.now) tiles.now }
-    ensures full { known.new.full ≡ known.old.full }
-    ensures place { MatchOption result
-        ((k : ℕ) → IsAtKey (chunks_of_rows M.object chunks.now) (tile_in tiles.now) object offset size k → ⊥)
-        (IsBlockPlace M.object chunks.now tiles.now object offset size) }
-{
-    let key = search(chunks, tiles, known, object, offset, size)?;
-    let node = tiles[key];
+    let found = search(chunks, tiles, searches, object, offset, size)?;
+    let node = tiles[found];
     Some(Place {
-        key,
+        key: found,
         node,
         whole: chunks[node.tile.chunk].size,
     })
 }
 
-/// The key of the tile that is the live block of this span, by a search of all tiles, which is counted.
+/// The key of the tile that is the live block of this span, by a search of all tiles, which `searches` counts.
 #[cold]
 #[inline(never)]
 fn search<M: MemoryObject, A: Allocator>(
     chunks: &Slab<Chunk<M>, A>,
     tiles: &Slab<Node, A>,
-    known: &mut Known,
+    searches: &mut u64,
     object: u64,
     offset: u64,
     size: u64,
 ) -> Option<usize>
     requires kept { AreNodesKept (chunk_size_in chunks.now) tiles.now }
-    ensures full { known.new.full ≡ known.old.full }
-    ensures found { MatchOption result
+    ensures { MatchOption result
         ((k : ℕ) → IsAtKey (chunks_of_rows M.object chunks.now) (tile_in tiles.now) object offset size k → ⊥)
         (IsAtKey (chunks_of_rows M.object chunks.now) (tile_in tiles.now) object offset size) }
 {
-    known.count();
+    *searches = searches.wrapping_add(1);
     for (key, node) in tiles.iter() {
         if is_of(chunks, node.tile, object, offset, size) {
             return Some(key);

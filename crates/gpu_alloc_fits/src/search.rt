@@ -31,8 +31,8 @@ pub(crate) struct Known {
     /// The tile that the last search of all tiles found: a hint.
     found: usize,
 
-    /// How many searches of all tiles were made.
-    searches: u64,
+    /// How many searches of all tiles were made, modulo 2^64.
+    pub(crate) searches: u64,
 }
 
 impl Known {
@@ -56,19 +56,6 @@ impl Known {
             Some(full) => full.size <= size && full.align_mask <= align_mask,
             None => false,
         }
-    }
-
-    /// Counts a search of all tiles.
-    #[inline(always)]
-    pub(crate) fn count(&mut self)
-        ensures { self.new.full ≡ self.old.full }
-    {
-        self.searches = self.searches.wrapping_add(1);
-    }
-
-    /// How many searches of all tiles were made, modulo 2^64.
-    pub(crate) fn searches(&self) -> u64 {
-        self.searches
     }
 }
 
@@ -205,7 +192,7 @@ fn find_beyond<A: Allocator>(
             return Some(last);
         }
     }
-    known.count();
+    known.searches = known.searches.wrapping_add(1);
     let found = search_room(nodes, size, align_mask);
     if let Some(key) = found {
         known.found = key;

@@ -22,8 +22,8 @@ is_of-requires-clause-nonempty g c = omega (arith, c.requires.kept.tiled.nonempt
 pub is_of-requires-clause-held : goal.is_of-requires-clause-held
 is_of-requires-clause-held g c = row_there c.args.chunks.now c.args.tiles.now c.in-Some.key c.in-Some.node.now.tile c.requires.kept (here g c)
 
-pub returns-then-is_of-clause-found : goal.returns-then-is_of-clause-found
-returns-then-is_of-clause-found g c = is_found _ _ _ _ _ _ c.in-Some.ensures.steps c.loop-key.invariant.2 (c.is_of.ensures.0 c.if-is_of.true)
+pub returns-then-is_of : goal.returns-then-is_of
+returns-then-is_of g c = is_found _ _ _ _ _ _ c.in-Some.ensures.steps c.loop-key.invariant.2 (c.is_of.ensures.0 c.if-is_of.true)
 
 pub loop-key-preserved : goal.loop-key-preserved
 loop-key-preserved g c =

@@ -13,7 +13,7 @@ unreachable-requires g c =
     let slot = c.into_parts-hint.result.1 in
     let live = subst (λ (s : FitStore). IsLiveSlot s.space slot) (sym c.self.view_is) (subst (IsLiveSlot c.args.self.now.space) (sym c.into_parts-hint.ensures.slot) c.requires.live) in
     let at = found_at g.M.MemoryObject.object c.self.inside.chunks c.self.inside.tiles c.self.invariant.kept slot live in
-    c.in_default.ensures.place at.0 at.1
+    c.in_default.ensures at.0 at.1
 
 -- Its neighbours are looked at.
 
@@ -21,27 +21,27 @@ pub returns-then-not-is_whole-clause-looks : goal.returns-then-not-is_whole-clau
 returns-then-not-is_whole-clause-looks g c =
     c.put_back-key.ensures.looks
     ∙ ap (λ n. c.args.looks.now + n) (neighbours_are g.M.MemoryObject.object c.self.inside.chunks c.self.inside.tiles c.self.invariant.kept c.self.invariant.one_object c.args.self.now.space (ap (λ (s : FitStore). s.space) c.self.view_is) c.args.block
-    c.into_parts-hint.result.1 c.into_parts-hint.ensures.slot c.requires.live c.in-Some.place.key (at_place c.in-Some.ensures.place) c.in-Some.place.whole c.in-Some.ensures.place.whole)
+    c.into_parts-hint.result.1 c.into_parts-hint.ensures.slot c.requires.live c.in-Some.place.key (at_place c.in-Some.ensures) c.in-Some.place.whole c.in-Some.ensures.whole)
 
 pub returns-in-None-clause-looks : goal.returns-in-None-clause-looks
 returns-in-None-clause-looks g c =
     c.put_back-key.ensures.looks
     ∙ ap (λ n. c.args.looks.now + n) (neighbours_are g.M.MemoryObject.object c.self.inside.chunks c.self.inside.tiles c.self.invariant.kept c.self.invariant.one_object c.args.self.now.space (ap (λ (s : FitStore). s.space) c.self.view_is) c.args.block
-    c.into_parts-hint.result.1 c.into_parts-hint.ensures.slot c.requires.live c.in-Some.place.key (at_place c.in-Some.ensures.place) c.in-Some.place.whole c.in-Some.ensures.place.whole)
+    c.into_parts-hint.result.1 c.into_parts-hint.ensures.slot c.requires.live c.in-Some.place.key (at_place c.in-Some.ensures) c.in-Some.place.whole c.in-Some.ensures.whole)
 
 pub returns-in-Some-spare-clause-looks : goal.returns-in-Some-spare-clause-looks
 returns-in-Some-spare-clause-looks g c =
     c.put_back-key.ensures.looks
     ∙ ap (λ n. c.args.looks.now + n) (neighbours_are g.M.MemoryObject.object c.self.inside.chunks c.self.inside.tiles c.self.invariant.kept c.self.invariant.one_object c.args.self.now.space (ap (λ (s : FitStore). s.space) c.self.view_is) c.args.block
-    c.into_parts-hint.result.1 c.into_parts-hint.ensures.slot c.requires.live c.in-Some.place.key (at_place c.in-Some.ensures.place) c.in-Some.place.whole c.in-Some.ensures.place.whole)
+    c.into_parts-hint.result.1 c.into_parts-hint.ensures.slot c.requires.live c.in-Some.place.key (at_place c.in-Some.ensures) c.in-Some.place.whole c.in-Some.ensures.whole)
 
 -- Other blocks of its chunk are live.
 
 partly : (g : Over) (c : goal.Then-not-is_whole g) → IsReturned g.M.MemoryObject.object c.self.inside.chunks c.put_back-key.new.nodes c.self.inside.spare c.args.self.now.space c.args.block
 partly g c =
     returned_partly g.M.MemoryObject.object c.self.inside.chunks c.self.inside.tiles c.put_back-key.new.nodes c.self.inside.spare c.self.inside.known.full c.self.invariant c.args.self.now.space (ap (λ (s : FitStore). s.space) c.self.view_is) c.args.block
-    c.into_parts-hint.result.1 c.into_parts-hint.ensures.slot c.requires.live c.in-Some.place.key (at_place c.in-Some.ensures.place) c.put_back-key.result.0 c.put_back-key.ensures.back c.put_back-key.result.1 c.put_back-key.ensures.joint c.put_back-key.ensures.elsewhere c.put_back-key.ensures.kept
-    c.in-Some.place.whole c.in-Some.ensures.place.whole
+    c.into_parts-hint.result.1 c.into_parts-hint.ensures.slot c.requires.live c.in-Some.place.key (at_place c.in-Some.ensures) c.put_back-key.result.0 c.put_back-key.ensures.back c.put_back-key.result.1 c.put_back-key.ensures.joint c.put_back-key.ensures.elsewhere c.put_back-key.ensures.kept
+    c.in-Some.place.whole c.in-Some.ensures.whole
     (λ h. let yes' = c.is_whole.ensures.1 h in let no' = c.if-not-is_whole.true in cc)
 
 pub invariant_of-self : goal.invariant_of-self
@@ -59,8 +59,8 @@ first : (g : Over) (c : goal.After-self-in-None-1 g) → IsReturned g.M.MemoryOb
 first g c =
     let all = c.is_whole.ensures.0 c.if-not-is_whole.false in
     returned_first g.M.MemoryObject.object c.self.inside.chunks c.self.inside.tiles c.put_back-key.new.nodes c.self.inside.spare c.self.inside.known.full c.self.invariant c.args.self.now.space (ap (λ (s : FitStore). s.space) c.self.view_is) c.args.block
-    c.into_parts-hint.result.1 c.into_parts-hint.ensures.slot c.requires.live c.in-Some.place.key (at_place c.in-Some.ensures.place) c.put_back-key.result.0 c.put_back-key.ensures.back c.put_back-key.result.1 c.put_back-key.ensures.joint c.put_back-key.ensures.elsewhere c.put_back-key.ensures.kept
-    c.in-Some.place.whole c.in-Some.ensures.place.whole
+    c.into_parts-hint.result.1 c.into_parts-hint.ensures.slot c.requires.live c.in-Some.place.key (at_place c.in-Some.ensures) c.put_back-key.result.0 c.put_back-key.ensures.back c.put_back-key.result.1 c.put_back-key.ensures.joint c.put_back-key.ensures.elsewhere c.put_back-key.ensures.kept
+    c.in-Some.place.whole c.in-Some.ensures.whole
     all.0 all.1 c.in-None.is
 
 pub invariant_of-self-in-None : goal.invariant_of-self-in-None
@@ -78,8 +78,8 @@ other : (g : Over) (c : goal.After-let_chunk_go g) → IsReturnedWith g.M.Memory
 other g c =
     let all = c.is_whole.ensures.0 c.if-not-is_whole.false in
     returned_with g.M.MemoryObject.object c.self.inside.chunks c.self.inside.tiles c.put_back-key.new.nodes c.self.inside.spare c.self.inside.known.full c.self.invariant c.args.self.now.space (ap (λ (s : FitStore). s.space) c.self.view_is) c.args.block
-    c.into_parts-hint.result.1 c.into_parts-hint.ensures.slot c.requires.live c.in-Some.place.key (at_place c.in-Some.ensures.place) c.put_back-key.result.0 c.put_back-key.ensures.back c.put_back-key.result.1 c.put_back-key.ensures.joint c.put_back-key.ensures.elsewhere c.put_back-key.ensures.kept
-    c.in-Some.place.whole c.in-Some.ensures.place.whole
+    c.into_parts-hint.result.1 c.into_parts-hint.ensures.slot c.requires.live c.in-Some.place.key (at_place c.in-Some.ensures) c.put_back-key.result.0 c.put_back-key.ensures.back c.put_back-key.result.1 c.put_back-key.ensures.joint c.put_back-key.ensures.elsewhere c.put_back-key.ensures.kept
+    c.in-Some.place.whole c.in-Some.ensures.whole
     all.0 all.1 (record { memory = c.let_chunk_go.result.0; size = c.let_chunk_go.result.1 }) c.let_chunk_go.ensures.row c.in-Some-spare.field-0 c.in-Some-spare.is c.let_chunk_go.new.chunks c.let_chunk_go.new.tiles c.let_chunk_go.ensures.updates c.let_chunk_go.ensures.lives c.let_chunk_go.ensures.elsewhere c.let_chunk_go.ensures.kept
 
 pub invariant_of-self-in-Some-spare : goal.invariant_of-self-in-Some-spare
