@@ -1,6 +1,6 @@
 -- Shared chunks and the live blocks in them: what is free, where there is room, and how a grant and a return change
 -- them.
-use Rattle.std.specs.Prelude.{◌≡◌, ◌≢◌, ◌==◌, ℕ, ◌+◌, ◌<◌, ◌≤◌, ◌^◌, Option, Some, None, IsSome, IsTrue, cond}
+use Rattle.std.specs.Prelude.{◌≡◌, ◌≢◌, ◌==◌, ◌↔◌, ◌⊎◌, ℕ, ◌+◌, ◌<◌, ◌≤◌, ◌^◌, Option, Some, None, IsSome, IsTrue, cond}
 use Rattle.std.specs.FinMap as map
 use Rattle.std.specs.FinSet as set
 use Rattle.gpu_alloc_types.specs.declared.types.FreeRange.{FreeRange}
@@ -12,6 +12,7 @@ use Rattle.gpu_alloc_base.specs.InHand as in_hand
 use Rattle.gpu_alloc_base.specs.InHand.{Bytes}
 use Rattle.gpu_alloc_base.specs.Slots.{slot_cmp}
 use Rattle.gpu_alloc_base.specs.declared.free_list_block.Slot.{Slot}
+use Rattle.gpu_alloc_base.specs.declared.region.FreeListRegion.{FreeListRegion}
 
 -- the held chunks by key, and the live blocks
 pub record FitSpace : Type 0 where
@@ -134,6 +135,34 @@ size_of (Some chunk) = chunk.size
 
 abbrev pub neighbours : FitSpace → Slot → ℕ
 neighbours s slot = neighbours_in (size_of (map.get s.chunks slot.chunk)) slot.offset (slot.offset + slot.size)
+
+-- the region is the bytes of a live block
+pub record IsOfBlock (s : FitSpace) (r : FreeListRegion) : Type 0 where
+  pub slot : Slot
+  pub live : IsLiveSlot s slot
+  pub chunk : slot.chunk ≡ r.chunk
+  pub start : slot.offset ≡ r.start
+  pub end : slot.offset + slot.size ≡ r.end
+
+-- it is a free run or a live block
+abbrev pub IsRunOrBlock : FitSpace → FreeListRegion → Type 0
+IsRunOrBlock s r = IsFreeRun (IsFreeIn s) r.chunk r.start r.end ⊎ IsOfBlock s r
+
+-- 1 for a region, 0 for none
+abbrev pub count_of : Option FreeListRegion → ℕ
+count_of None = 0
+count_of (Some r) = 1
+
+-- at most one free run or live block of its chunk ends where the block starts, at most one starts where it ends, and
+-- they are as many as `neighbours` counts
+pub record HasNeighbours (s : FitSpace) (slot : Slot) : Type 0 where
+  pub left : Option FreeListRegion
+  pub right : Option FreeListRegion
+  pub ends : (r : FreeListRegion) → (left ≡ Some r)
+      ↔ (IsRunOrBlock s r × (r.chunk ≡ slot.chunk) × (r.end ≡ slot.offset))
+  pub starts : (r : FreeListRegion) → (right ≡ Some r)
+      ↔ (IsRunOrBlock s r × (r.chunk ≡ slot.chunk) × (r.start ≡ slot.offset + slot.size))
+  pub count : neighbours s slot ≡ count_of left + count_of right
 
 -- Blocks in hand.
 

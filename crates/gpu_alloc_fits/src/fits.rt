@@ -14,8 +14,9 @@ ghost use Rattle.gpu_alloc_fits.specs.Inside.{IsAtKey, IsBlockPlace, IsBlockTile
 ghost use Rattle.gpu_alloc_fits.specs.Inside.{chunk_size_in, chunks_of_rows, free_range, listed, live_row};
 ghost use Rattle.gpu_alloc_fits.specs.Links.{AreNodesKept};
 ghost use Rattle.gpu_alloc_fits.specs.Listed.{AddsSlots, ListsChunks};
-ghost use Rattle.gpu_alloc_fits.specs.Space.{Adds, BeginsFitChunk, HasPlace, IsFitRunOf, IsLiveFitSpan, IsLiveSlot, IsNoLiveFitSpan};
-ghost use Rattle.gpu_alloc_fits.specs.Space.{IsSoundFitSpace, IsSpare, IsUnheld, IsWhollyFree, Leaves, Removes, neighbours, no_fit_space};
+ghost use Rattle.gpu_alloc_fits.specs.Space.{Adds, BeginsFitChunk, HasNeighbours, HasPlace, IsFitRunOf, IsLiveFitSpan};
+ghost use Rattle.gpu_alloc_fits.specs.Space.{IsLiveSlot, IsNoLiveFitSpan, IsSoundFitSpace, IsSpare, IsUnheld};
+ghost use Rattle.gpu_alloc_fits.specs.Space.{IsWhollyFree, Leaves, Removes, neighbours, no_fit_space};
 ghost use Rattle.gpu_alloc_fits.specs.Space.{with_chunk, with_slot, without_chunk, without_slot};
 ghost use Rattle.gpu_alloc_fits.specs.Tiles.{KeepsElsewhere, KeepsLive, tile_in};
 
@@ -403,6 +404,14 @@ impl<M: MemoryObject, A: Allocator> Fits<M, A> {
     /// A lemma: does nothing at run time. Its contract is what every store keeps.
     pub fn keeps_sound(&self)
         ensures { IsSoundFitSpace (self.now).space }
+    {
+        let _ = &self.chunks;
+    }
+
+    /// A lemma: does nothing at run time. On each side of a live block at most one free run or live block touches it,
+    /// and they are as many as `neighbours` counts.
+    pub fn keeps_neighbours(&self)
+        ensures { (slot : LiveSlot) → IsLiveSlot (self.now).space slot → HasNeighbours (self.now).space slot }
     {
         let _ = &self.chunks;
     }
