@@ -17,7 +17,7 @@ ghost use Rattle.gpu_alloc_buddy.specs.BuddyState.{Buddy, IsFreeInBuddy};
 ghost use Rattle.gpu_alloc_base.specs.Config.{potato, prototyping};
 ghost use Rattle.gpu_alloc.specs.FreeBytes.{IsFreeByte};
 ghost use Rattle.gpu_alloc.specs.FreeRanges.{HasByte, IsFreeOf, IsFreeRangeOf};
-ghost use Rattle.gpu_alloc.specs.FitSharing.{FitChunksAreSmall, HasFitPlace, IsFitChunk, IsSmallFit, fit_alignment, fit_question, fit_size, grain_of, largest_fit};
+ghost use Rattle.gpu_alloc.specs.FitSharing.{FitChunksAreSmall, HasFitPlace, IsFitChunk, IsSmallFit, fit_alignment, fit_question, fit_size, fits_first, grain_of, largest_fit};
 ghost use Rattle.gpu_alloc.specs.FitSharing.{next_fit_chunk, with_fit_chunk};
 ghost use Rattle.gpu_alloc_freelist.specs.FreeList.{HasPlace};
 ghost use Rattle.gpu_alloc_freelist.specs.FreeListState.{ListSpace, IsFreeIn};
@@ -45,6 +45,7 @@ ghost use Rattle.gpu_alloc_block.specs.declared.block.Kind.{Kind};
 ghost use Rattle.gpu_alloc_block.specs.declared.block.Kind.TheVariants.{FitChunk};
 ghost use Rattle.gpu_alloc_base.specs.declared.piece.Piece.{Piece};
 ghost use Rattle.gpu_alloc.specs.declared.request.Dedicated.TheVariants.{Required, Preferred};
+ghost use Rattle.gpu_alloc.specs.declared.request.Request.{Request};
 
 use crate::GpuAllocator;
 pub use gpu_alloc_base::laws::{
@@ -132,13 +133,17 @@ pub fn free_list_chunks_of_samples()
 /// Sizes of fit chunks, for every configuration, heap and grain. The first one has room for every request that shares
 /// one (`sizes`). Whatever calls were made, each held one has whole grains, no fewer bytes than the first and at most
 /// four times as many, and none is larger than a 32nd of its heap, or a single grain (`held`). The same holds of the
-/// least size of the next one (`next`).
+/// least size of the next one (`next`). So for a request that the first one would hold, a chunk of exactly the next
+/// one's size is asked for (`asked`).
 pub fn fit_chunks_are_small()
     ensures sizes { FitChunksAreSmall }
     ensures held { (s : State) → IsSound s → (t object : ℕ) (is : IsFitChunk s t object)
         → IsSmallFit s t (is.chunk).counted }
     ensures next { (s : State) → IsSound s → (t : ℕ) → t < length s.properties.memory_types
         → IsSmallFit s t (next_fit_chunk s t) }
+    ensures asked { (s : State) → IsSound s → (t : ℕ) → t < length s.properties.memory_types
+        → (r : Request) → fits_first s r t ≡ true
+        → (fit_question s t (fit_size s r t)).size ≡ next_fit_chunk s t }
 {}
 
 /// A fit chunk is cut at grains alone: each free range of it starts and ends at a multiple of the grain, as its live
