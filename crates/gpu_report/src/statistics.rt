@@ -1,6 +1,6 @@
 //! The sums of one memory type, for callers that need no more of it.
 
-ghost use Rattle.std.specs.Prelude.{◌≡◌, ◌<◌, ◌≤◌, ◌↔◌, IfOk, IfSome, None, length};
+ghost use Rattle.std.specs.Prelude.{◌≡◌, ◌<◌, ◌≤◌, ◌↔◌, IfOk, IfSome, None, OnErr, length};
 ghost use Rattle.gpu_report.specs.Statistics.{AreStatistics};
 
 use crate::build::free_of;
@@ -78,7 +78,7 @@ impl Statistics {
 
     /// What a desk holds of a memory type, or `None` exactly where the type does not exist. Nothing changes.
     ///
-    /// The only error is want of host memory.
+    /// The only error is want of host memory, and only for a type that exists.
     pub fn of_desk(
         alloc: Global,
         desk: &Desk,
@@ -87,6 +87,7 @@ impl Statistics {
         ensures told { IfOk result (λ answer. IfSome answer (AreStatistics desk.now.allocator memory_type)) }
         ensures none { IfOk result (λ answer. (answer ≡ None)
             ↔ (length (desk.now.allocator.properties).memory_types ≤ memory_type)) }
+        ensures known { OnErr result (memory_type < length (desk.now.allocator.properties).memory_types) }
     {
         let allocator = desk.allocator();
         if memory_type >= allocator.type_count() {
