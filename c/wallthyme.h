@@ -15,7 +15,8 @@
  * - Each live block is a range of a memory object, inside it, aligned as asked and at least as large. No two share a
  *   byte. In shared objects of memory that is not coherent, blocks begin and end at whole atoms, so none share one.
  * - A call that does not end in WT_OK changes nothing, and writes nothing to its pointers, but for *question at WT_ASK.
- * - WT_OK comes only where no misuse is. wt_alloc and wt_map report a misuse before WT_OUT_OF_HOST_MEMORY.
+ * - Behind what a call writes to an array, the array stays as it is.
+ * - WT_OK comes only where no misuse is. Each call but wt_open reports a misuse before WT_OUT_OF_HOST_MEMORY.
  * - Names of objects rise, and none comes twice. Each object is reported once to be freed, when no block needs it.
  * - After all blocks are freed and wt_cleanup, no object is held.
  * - The requested bytes of an optimal block share no page with a linear one (WT_OPTIMAL).

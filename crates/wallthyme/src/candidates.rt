@@ -1,6 +1,6 @@
 //! The call that lists the memory types that would serve a usage.
 
-ghost use Rattle.std.specs.Prelude.{◌≡◌, ◌≢◌, ◌↔◌, ◌⊎◌, IsNone, false, length, true};
+ghost use Rattle.std.specs.Prelude.{◌≡◌, ◌≢◌, ◌↔◌, ◌⊎◌, IsNone, drop, false, length, true};
 ghost use Rattle.wallthyme.specs.Candidates.{AreListed, candidates_for, needs_feature};
 ghost use Rattle.wallthyme.specs.Handles.{OnDesks, desk_of};
 ghost use Rattle.wallthyme.specs.Malformed.{IsUsage};
@@ -31,6 +31,7 @@ pub extern "C" fn wt_candidates(
     ensures lacks { result ≡ NO_DEVICE_ADDRESS → OnDesks (λ old _. needs_feature old usage ≡ true) handle.old handle.new }
     ensures able { result ≢ BAD_USAGE → result ≢ NO_DEVICE_ADDRESS
         → OnDesks (λ old _. needs_feature old usage ≡ false) handle.old handle.new }
+    ensures rest { result ≡ OK → drop count.new types.new ≡ drop count.new types.old }
     ensures kept { result ≢ OK → (types.new ≡ types.old) × (count.new ≡ count.old) }
     ensures same { desk_of handle.new ≡ desk_of handle.old }
 {
@@ -55,7 +56,8 @@ pub extern "C" fn wt_candidates(
 
 /// Writes memory types to C's array, as many as fit.
 fn tell_types(found: &[u32], types: &mut [u32])
-    ensures { AreListed found.now types.new }
+    ensures told { AreListed found.now types.new }
+    ensures rest { drop (length found.now) types.new ≡ drop (length found.now) types.old }
 {
     for (index, place) in types.iter_mut().enumerate() {
         let Some(memory_type) = found.get(index) else {

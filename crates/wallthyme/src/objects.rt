@@ -1,6 +1,6 @@
 //! The calls on what is held: released objects, counts, limits, free ranges.
 
-ghost use Rattle.std.specs.Prelude.{◌≡◌, ◌≢◌, ◌↔◌, ◌⊎◌, ◌<◌, ◌≤◌, ◌+◌, ◌^◌, [], IsNone, List, drop, length, take};
+ghost use Rattle.std.specs.Prelude.{◌≡◌, ◌≢◌, ◌↔◌, ◌⊎◌, ◌<◌, ◌≤◌, ◌+◌, ◌-◌, ◌^◌, [], IsNone, List, drop, length, take};
 ghost use Rattle.std.specs.FinMap as map;
 ghost use Rattle.gpu_desk.specs.Calls.{CleansUp, CountsOf, HeapCountsOf, LimitsHeap};
 ghost use Rattle.gpu_answers.specs.Held.{KeepsNames};
@@ -48,6 +48,7 @@ pub extern "C" fn wt_gone(
     ensures read { result ≡ OK → OnDesks (λ old new. Reads old (take count.new names.new) new) handle.old handle.new }
     ensures all { result ≡ OK → count.new < length names.new
         → OnDesks (λ _ new. new.device.held.gone ≡ []) handle.old handle.new }
+    ensures rest { result ≡ OK → drop count.new names.new ≡ drop count.new names.old }
     ensures kept { result ≢ OK → (names.new ≡ names.old) × (count.new ≡ count.old) }
     ensures keeps { result ≡ OK → OnDesks (KeepsBut (take count.new names.new)) handle.old handle.new }
 {
@@ -65,6 +66,7 @@ fn read_gone(desk: &mut Desk, names: &mut [u64]) -> usize
     ensures read { Reads desk.old (take result names.new) desk.new }
     ensures names { KeepsNames (desk.old.device).held (desk.new.device).held }
     ensures all { result < length names.new → desk.new.device.held.gone ≡ [] }
+    ensures rest { drop result names.new ≡ drop result names.old }
 {
     for (count, place) in names.iter_mut().enumerate() {
         let Some(name) = desk.next_gone() else {
@@ -194,6 +196,7 @@ pub extern "C" fn wt_free_ranges(
         length old.allocator.properties.memory_types ≤ memory_type) handle.old handle.new }
     ensures known { result ≢ BAD_MEMORY_TYPE → OnDesks (λ old _.
         memory_type < length old.allocator.properties.memory_types) handle.old handle.new }
+    ensures rest { result ≡ OK → drop (count.new - first) ranges.new ≡ drop (count.new - first) ranges.old }
     ensures kept { result ≢ OK → (ranges.new ≡ ranges.old) × (count.new ≡ count.old) }
     ensures same { desk_of handle.new ≡ desk_of handle.old }
 {
@@ -224,7 +227,8 @@ fn rest_from(first: usize, found: &[FreeRange]) -> &[FreeRange]
 
 /// Writes free ranges to C's array, as many as fit.
 fn tell(found: &[FreeRange], ranges: &mut [layout::Range])
-    ensures { AreRangesTold found.now ranges.new }
+    ensures told { AreRangesTold found.now ranges.new }
+    ensures rest { drop (length found.now) ranges.new ≡ drop (length found.now) ranges.old }
 {
     for (index, place) in ranges.iter_mut().enumerate() {
         let Some(range) = found.get(index) else {

@@ -23,7 +23,7 @@ pub extern "C" fn wt_statistics(
     ensures told { result ≡ OK → OnDesks (λ old _. SumsUp old memory_type statistics.new) handle.old handle.new }
     ensures bad { result ≡ BAD_MEMORY_TYPE → OnDesks (λ old _.
         length old.allocator.properties.memory_types ≤ memory_type) handle.old handle.new }
-    ensures known { result ≡ OK → OnDesks (λ old _.
+    ensures known { result ≢ BAD_MEMORY_TYPE → OnDesks (λ old _.
         memory_type < length old.allocator.properties.memory_types) handle.old handle.new }
     ensures kept { result ≢ OK → statistics.new ≡ statistics.old }
     ensures same { desk_of handle.new ≡ desk_of handle.old }

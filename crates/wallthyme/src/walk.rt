@@ -1,6 +1,6 @@
 //! The call that walks over live blocks.
 
-ghost use Rattle.std.specs.Prelude.{◌≡◌, ◌≢◌, ◌↔◌, ◌⊎◌, ◌<◌, ◌≤◌, IsNone, length, take};
+ghost use Rattle.std.specs.Prelude.{◌≡◌, ◌≢◌, ◌↔◌, ◌⊎◌, ◌<◌, ◌≤◌, IsNone, drop, length, take};
 ghost use Rattle.gpu_desk.specs.Walk.{IsLast};
 ghost use Rattle.wallthyme.specs.Handles.{OnDesks, desk_of};
 ghost use Rattle.wallthyme.specs.Walk.{AreNext, key_behind};
@@ -25,6 +25,7 @@ pub extern "C" fn wt_blocks(
     ensures next { result ≡ OK → OnDesks (λ old _. AreNext old after (take count.new blocks.new)) handle.old handle.new }
     ensures all { result ≡ OK → count.new < length blocks.new
         → OnDesks (λ old _. IsLast old (key_behind after (take count.new blocks.new))) handle.old handle.new }
+    ensures rest { result ≡ OK → drop count.new blocks.new ≡ drop count.new blocks.old }
     ensures kept { result ≢ OK → (blocks.new ≡ blocks.old) × (count.new ≡ count.old) }
     ensures same { desk_of handle.new ≡ desk_of handle.old }
 {
@@ -41,6 +42,7 @@ fn walk_on(desk: &Desk, after: u64, blocks: &mut [layout::Block]) -> usize
     ensures fits { result ≤ length blocks.new }
     ensures next { AreNext desk.now after (take result blocks.new) }
     ensures all { result < length blocks.new → IsLast desk.now (key_behind after (take result blocks.new)) }
+    ensures rest { drop result blocks.new ≡ drop result blocks.old }
 {
     let mut last = after;
     for (count, place) in blocks.iter_mut().enumerate() {

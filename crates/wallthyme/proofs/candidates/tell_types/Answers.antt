@@ -2,6 +2,7 @@
 use Rattle.std.proofs.Common.{◌≡◌, ◌≤◌, ℕ, List, length, take, arith, sym, ◌∙◌, subst}
 use Rattle.std.proofs.lemmas.List.{take_all}
 use Rattle.wallthyme.specs.Candidates.{AreListed}
+use Rattle.wallthyme.proofs.Rest.{nothing_behind}
 use Rattle.wallthyme.proofs.candidates.tell_types.Goals as goal
 
 -- what is told of as many as there is room for
@@ -12,7 +13,10 @@ told_in_full found told fits each =
 
 pub returns : goal.returns
 returns c =
-    let full : c.loop-index.index ≡ length c.loop-index.types = omega arith in
-    told_in_full c.args.found.now c.loop-index.types (omega arith)
-    (let P : ℕ → Type 0 = λ n. take n c.loop-index.types ≡ take n c.args.found.now in
-    subst P full c.loop-index.invariant.told)
+    let l = c.loop-index in
+    let full : l.index ≡ length l.types = omega arith in
+    let P : ℕ → Type 0 = λ n. take n l.types ≡ take n c.args.found.now in
+    record {
+      told = told_in_full c.args.found.now l.types (omega arith) (subst P full l.invariant.told);
+      rest = nothing_behind l.types c.args.types.now (length c.args.found.now) (omega arith) (omega arith);
+    }

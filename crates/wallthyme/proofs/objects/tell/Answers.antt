@@ -6,6 +6,7 @@ use Rattle.gpu_alloc_types.specs.declared.types.FreeRange.{FreeRange}
 use Rattle.wallthyme.specs.Layout.{free_range_of}
 use Rattle.wallthyme.specs.Objects.{AreRangesTold}
 use Rattle.wallthyme.specs.declared.layout.Range.{Range}
+use Rattle.wallthyme.proofs.Rest.{nothing_behind}
 use Rattle.wallthyme.proofs.objects.tell.Goals as goal
 
 -- what is told of as many as there is room for
@@ -17,7 +18,10 @@ told_in_full found told fits each =
 
 pub returns : goal.returns
 returns c =
-    let full : c.loop-index.index ≡ length c.loop-index.ranges = omega arith in
-    told_in_full c.args.found.now c.loop-index.ranges (omega arith)
-    (let P : ℕ → Type 0 = λ n. take n c.loop-index.ranges ≡ map free_range_of (take n c.args.found.now) in
-    subst P full c.loop-index.invariant.told)
+    let l = c.loop-index in
+    let full : l.index ≡ length l.ranges = omega arith in
+    let P : ℕ → Type 0 = λ n. take n l.ranges ≡ map free_range_of (take n c.args.found.now) in
+    record {
+      told = told_in_full c.args.found.now l.ranges (omega arith) (subst P full l.invariant.told);
+      rest = nothing_behind l.ranges c.args.ranges.now (length c.args.found.now) (omega arith) (omega arith);
+    }

@@ -4,6 +4,7 @@ use Rattle.gpu_desk.specs.Calls.{Told}
 use Rattle.gpu_desk.specs.Walk.{IsNext}
 use Rattle.gpu_desk.specs.declared.told.Grant.{Grant}
 use Rattle.wallthyme.specs.Walk.{IsNextBlock}
+use Rattle.wallthyme.proofs.Rest.{rest_stays}
 use Rattle.wallthyme.proofs.Walks.{one_more_behind, one_more_next}
 use Rattle.wallthyme.proofs.walk.walk_on.Goals as goal
 
@@ -25,4 +26,5 @@ loop-count-preserved c =
           one_more_next s c.args.after l.blocks l.count b within l.invariant.told
           (subst (λ n. IsNextBlock s n b) l.invariant.last next);
       last = sym key ∙ one_more_behind s c.args.after l.blocks l.count b within;
+      rest = rest_stays l.blocks c.args.blocks.now l.count b l.invariant.rest;
     }

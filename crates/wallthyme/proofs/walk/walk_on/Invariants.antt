@@ -1,5 +1,5 @@
--- The blocks before the index are told, and the walk goes on behind the last of them.
-use Rattle.std.proofs.Common.{◌≡◌, take}
+-- The blocks before the index are told, and the walk goes on behind the last of them. The others stay as they were.
+use Rattle.std.proofs.Common.{◌≡◌, drop, take}
 use Rattle.wallthyme.specs.Walk.{AreNext, key_behind}
 use Rattle.wallthyme.proofs.walk.walk_on.Given as goal
 
@@ -7,4 +7,5 @@ abbrev pub invariant-loop-count : goal.invariant-loop-count
 invariant-loop-count l = record {
   told : AreNext l.desk l.fn.after (take l.count l.blocks);
   last : l.last ≡ key_behind l.fn.after (take l.count l.blocks);
+  rest : drop l.count l.blocks ≡ drop l.count l.fn.blocks;
 }
