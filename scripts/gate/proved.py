@@ -60,10 +60,10 @@ class Program:
 
 
 SCRIPT, VIEW = Program("gpu_script"), Program("gpu_view")
-SCRIPT_TESTS, ALLOC_TESTS = (Program(crate, f"{crate}_tests") for crate in ("gpu_script", "gpu_alloc_tests"))
+TESTS = Program("gpu_alloc_tests", "gpu_alloc_tests_tests")
 LIBRARY = Program("wallthyme", "libwallthyme.a")
 # What rt ci leaves when it has passed.
-PASSED = SCRIPT, VIEW, SCRIPT_TESTS, ALLOC_TESTS
+PASSED = SCRIPT, VIEW, TESTS
 
 
 def record(of):

@@ -1,6 +1,6 @@
-//! Tests of `gpu_alloc` other than rows of grants: the flag types, texts of errors, configurations as text, rankings,
-//! the allocators of shared chunks by themselves, the bytes of blocks, and the simulated device. They are in a crate of
-//! their own, since a crate with tests is proved twice.
+//! Tests of what no contract says: the flag types, texts of errors, configurations as text, rankings, the allocators of
+//! shared chunks by themselves, the bytes of blocks, the simulated device, and scripts. They are in a crate of their own,
+//! since a crate with tests is proved twice.
 #![tactic(auto)]
 
 #[cfg(test)]

@@ -2,11 +2,7 @@
 //! output.
 #![tactic(auto)]
 
-mod sim;
-#[cfg(test)]
-mod tests;
-
-pub use gpu_script_language::run_script;
+use gpu_script_language::run_script;
 use std::io;
 use std::process::ExitCode;
 

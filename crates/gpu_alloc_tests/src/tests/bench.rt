@@ -171,6 +171,16 @@ impl<A: Allocator + Copy> Bench<A> {
         (self.allocator.holds(object), self.allocator.owns(block))
     }
 
+    /// Whether the allocator owns each block of another bench.
+    pub(super) fn owns_all_of(&self, other: &Bench<A>) -> bool {
+        other.blocks.iter().all(|block| self.allocator.owns(block))
+    }
+
+    /// Exchanges the blocks with those of another bench.
+    pub(super) fn swap_blocks(&mut self, other: &mut Bench<A>) {
+        std::mem::swap(&mut self.blocks, &mut other.blocks);
+    }
+
     /// Sets how many more objects may be held.
     pub(super) fn allow(&mut self, rt: &impl Abort, remaining: u32) {
         allow(rt, &mut self.allocator, &self.device, remaining);

@@ -8,8 +8,6 @@ ghost use Rattle.gpu_alloc.specs.FreeListAllocator.{Adds, Leaves, Removes};
 ghost use Rattle.gpu_alloc.specs.FreeListState.{IsLiveSlot};
 ghost use Rattle.gpu_alloc.specs.FreeSpace.{IsMultipleOf};
 ghost use Rattle.gpu_alloc.specs.Steps.{Begins};
-ghost use Rattle.gpu_alloc_base.specs.Sizes.{up};
-ghost use Rattle.gpu_sim.specs.Question.{CanRefuse};
 
 use super::lists::{FIRST, LARGEST};
 use super::offers::HEAPS;
@@ -28,152 +26,6 @@ use std::marker::{Brand, Model};
 use std::process::Abort;
 use std::sync::ledger::{Blank, Ledger};
 use std::test::Fail;
-
-/// A first request for 100 bytes that is refused.
-#[derive(Drop)]
-struct Refused {
-    props: MemoryPropertyFlags,
-    remaining: u32,
-
-    /// The refusal that is known before the request.
-    told: Option<AllocationError>,
-
-    error: AllocationError,
-
-    /// How often the device is asked to allocate.
-    asked: u64,
-}
-
-/// Compares what a refused request leaves: the device holds nothing, and the ledger and the count are as before.
-fn compare_nothing_held(
-    rt: &impl Abort,
-    device: &Sim,
-    heap: &Heap,
-    remaining: u32,
-    case: &Refused,
-) {
-    let asked = device.asked(Question::Allocate);
-    same(
-        rt,
-        "objects and questions",
-        &(device.objects(), asked),
-        &(0, case.asked),
-    );
-    same(rt, "the heap", &(heap.size(), heap.used()), &(1 << 20, 0));
-    same(rt, "remaining", &remaining, &case.remaining);
-}
-
-/// Compares the result where the device refuses the first question of a kind. Nothing is held after it.
-fn compare_refusal(
-    rt: &impl Abort,
-    alloc: Global,
-    kind: Question,
-    cause: Cause,
-    case: &Refused,
-) -> Result<(), Fail>
-    requires plan { CanRefuse cause kind }
-    requires count { case.now.remaining ≤ 4096 }
-{
-    let types = [MemoryType {
-        heap: 0,
-        props: case.props,
-    }];
-    let offered = DeviceProperties {
-        memory_types: &types,
-        memory_heaps: &HEAPS,
-        max_memory_allocation_count: 4096,
-        max_memory_allocation_size: 1 << 30,
-        non_coherent_atom_size: 1,
-        buffer_device_address: false,
-    };
-    let mut device = Sim::new(alloc, offered)?;
-    match device.refuse(kind, 1, cause) {
-        Ok(()) => {}
-        Err(e) => {
-            drop(device);
-            return Err(Fail::from(e));
-        }
-    }
-    let mut heap = Heap::new(1 << 20);
-    let mut remaining = case.remaining;
-    let mut allocator = FreeListAllocator::new(alloc, 8192, 32768, 0, case.props, 0);
-    let told = allocator.refuses(100, 0, &heap, remaining);
-    same(rt, "what is told", &told, &case.told);
-    match allocator.alloc(
-        &mut device,
-        100,
-        0,
-        AllocationFlags::empty(),
-        &mut heap,
-        &mut remaining,
-    ) {
-        Ok(block) => panic!(rt; "a block at {}", block.offset()),
-        Err(error) => {
-            same(rt, "a refusal", &error, &case.error);
-            compare_nothing_held(rt, &device, &heap, remaining, case);
-            allocator.close();
-        }
-    }
-    drop(device);
-    Ok(())
-}
-
-/// Where no more objects may be held, the request is refused before the device is asked, and that is known beforehand.
-/// If not, a device would be asked for more objects than it can hold.
-#[test]
-fn a_chunk_beyond_the_count_is_refused_first(rt: HostRuntime) -> Result<(), Fail> {
-    compare_refusal(
-        &rt,
-        rt.alloc(),
-        Question::Allocate,
-        Cause::Device,
-        &Refused {
-            props: MemoryPropertyFlags::DEVICE_LOCAL,
-            remaining: 0,
-            told: Some(AllocationError::TooManyObjects),
-            error: AllocationError::TooManyObjects,
-            asked: 0,
-        },
-    )
-}
-
-/// The device's refusal comes through with its cause, after one question. If not, a chunk that was never made would be
-/// counted, or the caller would take want of device memory for something else.
-#[test]
-fn a_chunk_that_the_device_refuses_is_not_held(rt: HostRuntime) -> Result<(), Fail> {
-    compare_refusal(
-        &rt,
-        rt.alloc(),
-        Question::Allocate,
-        Cause::Device,
-        &Refused {
-            props: MemoryPropertyFlags::DEVICE_LOCAL,
-            remaining: 4096,
-            told: None,
-            error: AllocationError::OutOfDeviceMemory,
-            asked: 1,
-        },
-    )
-}
-
-/// A chunk that was made and cannot be mapped is released. If not, its object would be held for ever and counted
-/// nowhere.
-#[test]
-fn a_chunk_that_cannot_be_mapped_is_let_go(rt: HostRuntime) -> Result<(), Fail> {
-    compare_refusal(
-        &rt,
-        rt.alloc(),
-        Question::Map,
-        Cause::Failed,
-        &Refused {
-            props: MemoryPropertyFlags::HOST_VISIBLE | MemoryPropertyFlags::HOST_COHERENT,
-            remaining: 4096,
-            told: None,
-            error: AllocationError::OutOfHostMemory,
-            asked: 1,
-        },
-    )
-}
 
 /// A free-list allocator with its device, its ledger and its count of objects. Contracts see the allocator.
 pub(super) struct Chunks {
@@ -291,18 +143,6 @@ impl Chunks {
         )
     }
 
-    /// A block of at least this many bytes.
-    fn take(&mut self, rt: &impl Abort, size: u64) -> FreeListBlock<SimMemory>
-        ensures added { Adds self.old self.new result }
-        ensures leaves { Leaves self.old self.new }
-    {
-        holds(rt, size > 0, "a block of no bytes");
-        match self.ask(rt, size, 0) {
-            Ok(block) => block,
-            Err(error) => panic!(rt; "{error}"),
-        }
-    }
-
     /// Returns a block.
     pub(super) fn dealloc(&mut self, block: FreeListBlock<SimMemory>)
         requires live { IsLiveSlot (self.old).space block }
@@ -317,18 +157,6 @@ impl Chunks {
     {
         self.allocator
             .cleanup(&mut self.device, &mut self.heap, &mut self.remaining);
-    }
-
-    /// Compares how many objects the device holds, and how much the ledger counts. It was asked for one chunk.
-    fn compare(&self, rt: &impl Abort, objects: usize, used: u128) {
-        let (asked, _) = self.asked();
-        let (held, bytes, _) = self.held();
-        same(
-            rt,
-            "what was asked and is held",
-            &(asked, held, bytes),
-            &(1, objects, used),
-        );
     }
 
     /// How many objects the device holds, how many bytes the ledger counts, and how many more objects may be held.
@@ -366,37 +194,6 @@ impl Chunks {
         holds(rt, remaining == most, "objects held at the end");
         allocator.close();
     }
-}
-
-/// Where a block lies: the name of its object, its offset and its size.
-fn place_of(block: &FreeListBlock<SimMemory>) -> (u64, u64, u64) {
-    (block.memory().object(), block.offset(), block.size())
-}
-
-/// Blocks are cut off the end of one chunk. It stays when both are returned, since the last run lies in it, and is
-/// released by a cleanup. If not, blocks would lie elsewhere than in the original crate, each request would ask the
-/// device anew, or a chunk that nobody uses would be held for ever.
-#[test]
-fn two_blocks_share_a_chunk(rt: HostRuntime) -> Result<(), Fail> {
-    let mut chunks = Chunks::new(rt.alloc(), 4096)?;
-    let first = chunks.take(&rt, 100);
-    let second = chunks.take(&rt, 200);
-    same(&rt, "the first block", &place_of(&first), &(1, 8092, 100));
-    same(&rt, "the second block", &place_of(&second), &(1, 7892, 200));
-    chunks.compare(&rt, 1, 8192);
-    let free = FreeRange {
-        object: 1,
-        start: 0,
-        end: 7892,
-    };
-    chunks.compare_ranges(&rt, &[free]);
-    chunks.dealloc(first);
-    chunks.dealloc(second);
-    chunks.compare(&rt, 1, 8192);
-    chunks.clean();
-    chunks.compare(&rt, 0, 0);
-    chunks.end(&rt);
-    Ok(())
 }
 
 /// A handle that is only a name.

@@ -334,6 +334,8 @@ impl Hand {
             self.blocks.len() < self.blocks.capacity(),
             "no place for a block",
         );
+        let told = self.chunks.told(size, align_mask);
+        same(rt, "what is told", &told, &None);
         match self.chunks.ask(size, align_mask) {
             Ok(block) => {
                 let object = block.memory().object();

@@ -5,8 +5,8 @@ ghost use Rattle.gpu_alloc_types.specs.Properties.{IsUsable};
 ghost use Rattle.gpu_script_language.specs.Setup.{offered};
 
 use super::questions::told;
-use super::same::{same, same_at};
 use super::scripts::{are_usable, open_session};
+use crate::tests::same::{same, same_at};
 use gpu_alloc::AllocationError;
 use gpu_script_language::{Script, Setup, SimSession};
 use gpu_session::{Command, Fault, Reply, Session, SessionOpenError};

@@ -2,7 +2,7 @@
 //! texts of errors, which contracts state.
 
 use super::add_bytes;
-use crate::tests::memory::FAULTS;
+use crate::tests::script::memory::FAULTS;
 use gpu_session::{Fault, Reply};
 use std::alloc::{AllocError, Global};
 use std::slice::Iter;

@@ -1,10 +1,10 @@
 //! Each request for host memory of a whole script refused in turn, including growths and duplicates of handles, with
 //! one command a list. Compares the reply to the command that makes it, and that nothing is changed.
 
-use super::same::same_at;
 use super::scarce::{Outcome, Refusals, ScarceSession};
 use super::scripts::good_script;
 use super::whole::{BYTES, OBJECTS};
+use crate::tests::same::same_at;
 use gpu_session::Command;
 use gpu_sim::ScarceMemory;
 use std::alloc::{AllocError, Allocator, Global};

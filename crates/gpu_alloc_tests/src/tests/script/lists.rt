@@ -4,12 +4,12 @@
 mod printed;
 mod tally;
 
-use super::same::{same, same_at};
 use super::scripts;
-use crate::sim::{Question, Sim};
+use crate::tests::same::{same, same_at};
 use gpu_alloc::{Dedicated, MapError, Request, UsageFlags};
 use gpu_script_language::SimSession;
 use gpu_session::{Bytes, Command, Fault, Reply, values_of};
+use gpu_sim::{Question, Sim};
 use printed::printed;
 use std::alloc::{AllocError, Global};
 use std::process::Abort;

@@ -2,12 +2,12 @@
 //! changes nothing, and at the end nothing is held.
 
 use super::lists::session_of;
-use super::same::{same, same_at};
 use super::scripts::{compare, good_script};
 use super::whole::BYTES;
-use crate::sim::Question;
+use crate::tests::same::{same, same_at};
 use gpu_script_language::{SimSession, print_reply};
 use gpu_session::{Command, Reply};
+use gpu_sim::Question;
 use std::alloc::{AllocError, Allocator, Global};
 use std::process::Abort;
 use std::test::Fail;

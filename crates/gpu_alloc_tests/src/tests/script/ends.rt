@@ -1,7 +1,7 @@
 //! Readers and writers that fail.
 
-use super::same::{same, same_at};
-use crate::run_script;
+use crate::tests::same::{same, same_at};
+use gpu_script_language::run_script;
 use gpu_sim::ScarceMemory;
 use std::alloc::{Allocator, Global};
 use std::io;

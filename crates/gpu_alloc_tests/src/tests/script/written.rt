@@ -1,9 +1,9 @@
 //! What `values_of` returns for bytes, from the commands of a script and their replies.
 
 use super::lists::session_of;
-use super::same::{same, same_at};
 use super::scripts::good_script;
 use super::whole::BYTES;
+use crate::tests::same::{same, same_at};
 use gpu_session::{Command, Reply, values_of};
 use std::alloc::{AllocError, Global};
 use std::process::Abort;

@@ -1,10 +1,10 @@
 //! How often each thing occurs in lists of commands, so that a test fails where one is missing.
 
 use super::{KINDS, Kind, Line, NAMES, Plan, Written, has_bytes};
-use crate::sim::{Question, Sim};
 use crate::tests::same::same_at;
 use gpu_alloc::MapError;
 use gpu_session::Reply;
+use gpu_sim::{Question, Sim};
 use std::alloc::{AllocError, Global};
 use std::process::Abort;
 

@@ -1,10 +1,9 @@
 //! Host memory that is refused: to the program, and to single commands, each of whose requests is refused in turn.
 
-use super::same::{same, same_at};
 use super::scarce::{Outcome, Refusals, ScarceSession};
 use super::scripts::good_script;
-use crate::run_script;
-use gpu_script_language::print_reply;
+use crate::tests::same::{same, same_at};
+use gpu_script_language::{print_reply, run_script};
 use gpu_session::{Command, Fault, Reply};
 use gpu_sim::ScarceMemory;
 use std::alloc::{AllocError, Allocator, Global};

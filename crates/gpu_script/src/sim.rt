@@ -1,3 +1,0 @@
-//! The simulated device.
-
-pub use gpu_sim::{Cause, Question, Sim, SimMemory};
