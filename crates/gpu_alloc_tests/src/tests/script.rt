@@ -1,10 +1,10 @@
 //! Scripts: what they print, and what is left where memory is missing or a reader fails. More are in tests/scripts.
 
 mod ends;
-mod growths;
 mod lines;
 mod lists;
 mod memory;
+mod openings;
 mod questions;
 mod scarce;
 mod scripts;

@@ -133,11 +133,6 @@ impl<'a, A: Allocator + Copy> ScarceSession<'a, A> {
         same_at(rt, "left are", &room, &left, &true);
     }
 
-    /// Loses `count` bytes, if they are left.
-    pub(super) fn lose(&self, count: usize) {
-        let _lost: Result<Vec<u8, A>, AllocError> = Vec::with_capacity(self.host, count);
-    }
-
     /// What is held. From now on memory is ample.
     pub(super) fn told(&mut self, alloc: Global) -> Result<Vec<String>, AllocError> {
         self.memory.lift();
