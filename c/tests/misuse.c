@@ -173,11 +173,13 @@ static void begin_and_take_its_heap(world *w, const test_case *c) {
 
 /* ---- Calls ---- */
 
-static uint32_t request(world *w, const test_case *c) {
-    questions talk;
-    wt_block block;
-    return allocate(&w->allocator, &c->request, c->answer ? c->answer : grants, &talk, &block);
-}
+#define CALL(name, ...) \
+    static uint32_t name(world *w, const test_case *c) { \
+        return (void)w, (void)c, (__VA_ARGS__); \
+    }
+
+CALL(request, allocate(&w->allocator, &c->request, c->answer ? c->answer : grants, &(questions){ .len = 0 },
+                       &(wt_block){ 0 }))
 
 static uint32_t is_never_asked(const wt_question *question) {
     (void)question;
@@ -197,10 +199,7 @@ static uint32_t answer_begun_into(world *w, const test_case *c, wt_block *block)
     return wt_alloc(&w->allocator, &c->request, w->talk.asked, w->talk.len, block, &question);
 }
 
-static uint32_t answer_begun(world *w, const test_case *c) {
-    wt_block block;
-    return answer_begun_into(w, c, &block);
-}
+CALL(answer_begun, answer_begun_into(w, c, &(wt_block){ 0 }))
 
 static uint32_t answer_with_another_field(world *w, const test_case *c) {
     wt_question *answered = &w->talk.asked[0];
@@ -234,32 +233,19 @@ static uint32_t map_with(world *w, size_t of, uint64_t offset, uint64_t size, an
     return map(&w->allocator, w->blocks[of].key, offset, size, answer, &talk, &mapped);
 }
 
-static uint32_t map_host(world *w, const test_case *c) {
-    return map_with(w, HOST_BLOCK, 0, 1, c->answer ? c->answer : grants);
-}
-static uint32_t map_shared(world *w, const test_case *c) { (void)c; return map_with(w, SHARED_BLOCK, 0, 1, grants); }
-static uint32_t map_local(world *w, const test_case *c) { (void)c; return map_with(w, LOCAL_BLOCK, 0, 1, grants); }
-static uint32_t map_nothing(world *w, const test_case *c) { (void)c; return map_with(w, HOST_BLOCK, 0, 0, grants); }
+CALL(map_host, map_with(w, HOST_BLOCK, 0, 1, c->answer ? c->answer : grants))
+CALL(map_shared, map_with(w, SHARED_BLOCK, 0, 1, grants))
+CALL(map_local, map_with(w, LOCAL_BLOCK, 0, 1, grants))
+CALL(map_nothing, map_with(w, HOST_BLOCK, 0, 0, grants))
 
 /* Ranges that pass the end of a block of 1000 bytes: by one, from behind it, and by a sum that has no 64 bits. */
 static const wt_range bad_ranges[] = { { 0, 0, 1001 }, { 0, 1001, 1 }, { 0, 1000, 1 }, { 0, 1, UINT64_MAX },
                                        { 0, UINT64_MAX, 1 } };
 
-static uint32_t map_past_the_end(world *w, const test_case *c) {
-    return map_with(w, HOST_BLOCK, bad_ranges[c->which].offset, bad_ranges[c->which].size, grants);
-}
-
-static uint32_t range_past_the_end(world *w, const test_case *c) {
-    wt_range range;
-    return wt_range_of(&w->allocator, w->blocks[HOST_BLOCK].key, bad_ranges[c->which].offset, bad_ranges[c->which].size,
-                       &range);
-}
-
-static uint32_t range_of_local(world *w, const test_case *c) {
-    wt_range range;
-    (void)c;
-    return wt_range_of(&w->allocator, w->blocks[LOCAL_BLOCK].key, 0, 1, &range);
-}
+CALL(map_past_the_end, map_with(w, HOST_BLOCK, bad_ranges[c->which].offset, bad_ranges[c->which].size, grants))
+CALL(range_past_the_end, wt_range_of(&w->allocator, w->blocks[HOST_BLOCK].key, bad_ranges[c->which].offset,
+                                     bad_ranges[c->which].size, &(wt_range){ 0 }))
+CALL(range_of_local, wt_range_of(&w->allocator, w->blocks[LOCAL_BLOCK].key, 0, 1, &(wt_range){ 0 }))
 
 /* Maps with one answer, which is to the right question but for one field. */
 static uint32_t map_with_another_field(world *w, const test_case *c) {
@@ -341,44 +327,16 @@ static uint32_t use_keys_of_another(world *w, const test_case *c) {
     return status;
 }
 
-static uint32_t remain_too_many(world *w, const test_case *c) {
-    (void)c;
-    return wt_set_remaining(&w->allocator, UINT32_MAX - counts_of(&w->allocator).held + 1);
-}
+static const uint32_t no_heaps[] = { HEAPS, HEAPS + 1, UINT32_MAX }, no_types[] = { TYPES, TYPES + 1, UINT32_MAX };
 
-static uint32_t look_at_no_heap(world *w, const test_case *c) {
-    wt_heap_counts counts;
-    (void)c;
-    return wt_heap(&w->allocator, HEAPS, &counts);
-}
-
-static uint32_t limit_no_heap(world *w, const test_case *c) {
-    static const uint32_t none[] = { HEAPS, HEAPS + 1, UINT32_MAX };
-    return wt_set_heap_limit(&w->allocator, none[c->which], 0);
-}
-
-static uint32_t candidates_for(world *w, const test_case *c) {
-    uint32_t types[TYPES];
-    size_t count;
-    return wt_candidates(&w->allocator, c->request.usage, c->request.memory_types, types, LENGTH(types), &count);
-}
-
-static uint32_t ranges_of_no_type(world *w, const test_case *c) {
-    size_t count;
-    (void)c;
-    return wt_free_ranges(&w->allocator, TYPES, 0, NULL, 0, &count);
-}
-
-static uint32_t statistics_of_no_type(world *w, const test_case *c) {
-    static const uint32_t none[] = { TYPES, TYPES + 1, UINT32_MAX };
-    wt_type_statistics statistics;
-    return wt_statistics(&w->allocator, none[c->which], &statistics);
-}
-
-static uint32_t close_it(world *w, const test_case *c) {
-    (void)c;
-    return wt_close(&w->allocator);
-}
+CALL(remain_too_many, wt_set_remaining(&w->allocator, UINT32_MAX - counts_of(&w->allocator).held + 1))
+CALL(look_at_no_heap, wt_heap(&w->allocator, HEAPS, &(wt_heap_counts){ 0 }))
+CALL(limit_no_heap, wt_set_heap_limit(&w->allocator, no_heaps[c->which], 0))
+CALL(candidates_for, wt_candidates(&w->allocator, c->request.usage, c->request.memory_types, (uint32_t[TYPES]){ 0 },
+                                   TYPES, &(size_t){ 0 }))
+CALL(ranges_of_no_type, wt_free_ranges(&w->allocator, TYPES, 0, NULL, 0, &(size_t){ 0 }))
+CALL(statistics_of_no_type, wt_statistics(&w->allocator, no_types[c->which], &(wt_type_statistics){ 0 }))
+CALL(close_it, wt_close(&w->allocator))
 
 static uint32_t any_call(world *w, const test_case *c) {
     wt_block block;

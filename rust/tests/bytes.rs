@@ -14,16 +14,6 @@ fn two_kinds(allocator: &mut GpuAllocator<Memory>, device: &Device, size: u64) -
     })
 }
 
-fn end(mut allocator: GpuAllocator<Memory>, device: &Device, blocks: impl IntoIterator<Item = MemoryBlock<Memory>>) {
-    for block in blocks {
-        // SAFETY: the block is this allocator's, and there is one device.
-        unsafe { allocator.dealloc(device, block) };
-    }
-    // SAFETY: as above.
-    unsafe { allocator.cleanup(device) };
-    assert_eq!(device.held(), 0);
-}
-
 /// What one side writes the other one sees, over shared and own objects, from any offset.
 #[test]
 fn written_and_read_back() {

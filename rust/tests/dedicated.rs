@@ -10,20 +10,16 @@ fn objects_of_two(size: u64, dedicated: Option<Dedicated>) -> usize {
     let device = Device::new();
     let mut allocator = allocator(64);
     let request = request(size, UsageFlags::UPLOAD | UsageFlags::TRANSIENT);
-    // SAFETY: there is one device, which offers what the allocator was made with. The blocks are this allocator's.
-    unsafe {
-        let blocks = [(); 2].map(|()| match dedicated {
+    // SAFETY: there is one device, which offers what the allocator was made with.
+    let blocks = [(); 2].map(|()| unsafe {
+        match dedicated {
             None => allocator.alloc(&device, request).unwrap(),
             Some(dedicated) => allocator.alloc_with_dedicated(&device, request, dedicated).unwrap(),
-        });
-        let held = device.held();
-        for block in blocks {
-            allocator.dealloc(&device, block);
         }
-        allocator.cleanup(&device);
-        assert_eq!((device.held(), allocator.remaining_allocations()), (0, 64));
-        held
-    }
+    });
+    let held = device.held();
+    assert_eq!(end(allocator, &device, blocks), 64);
+    held
 }
 
 #[test]

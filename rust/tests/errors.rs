@@ -127,11 +127,7 @@ fn a_request_of_no_bytes() {
     // SAFETY: there is one device, which offers what the allocator was made with.
     let block = unsafe { allocator.alloc(&device, request(0, UsageFlags::empty())) }.unwrap();
     assert!(block.size() >= 1);
-    // SAFETY: the block is this allocator's.
-    unsafe {
-        allocator.dealloc(&device, block);
-        allocator.cleanup(&device);
-    }
+    end(allocator, &device, [block]);
 }
 
 #[test]

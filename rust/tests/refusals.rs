@@ -84,13 +84,7 @@ fn program(question: u64, refusal: Refusal) -> (u64, u64) {
         blocks.push(block);
     }
     assert_eq!(allocator.remaining_allocations() as usize, 64 - device.held());
-    for block in blocks {
-        // SAFETY: the block is this allocator's, and the device does not use it.
-        unsafe { allocator.dealloc(&device, block) };
-    }
-    // SAFETY: as above.
-    unsafe { allocator.cleanup(&device) };
-    assert_eq!((device.held(), allocator.remaining_allocations()), (0, 64));
+    assert_eq!(end(allocator, &device, blocks), 64);
     (device.questions(), refused)
 }
 
@@ -122,10 +116,5 @@ fn an_object_that_was_made_in_vain_goes_back() {
     let block = ask(&mut allocator, &device, wanted).expect("there are two types that the host sees");
     assert!(device.questions() > 2);
     assert_eq!((block.memory_type(), device.held()), (2, 1));
-    // SAFETY: the block is this allocator's, and there is one device.
-    unsafe {
-        allocator.dealloc(&device, block);
-        allocator.cleanup(&device);
-    }
-    assert_eq!((device.held(), allocator.remaining_allocations()), (0, 64));
+    assert_eq!(end(allocator, &device, [block]), 64);
 }

@@ -15,16 +15,12 @@ fn shared_by(sharing: Sharing) -> GpuAllocator<Memory> {
 /// The sizes of blocks for such requests, and how many objects are held for them.
 fn granted(sharing: Sharing, sizes: &[u64]) -> (Vec<u64>, usize) {
     let (device, mut allocator) = (Device::new(), shared_by(sharing));
-    // SAFETY: there is one device, which offers what the allocator was made with. The blocks are this allocator's.
-    unsafe {
-        let ask = |&size: &u64| allocator.alloc(&device, request(size, UsageFlags::FAST_DEVICE_ACCESS)).unwrap();
-        let blocks: Vec<_> = sizes.iter().map(ask).collect();
-        let told = (blocks.iter().map(MemoryBlock::size).collect(), device.held());
-        blocks.into_iter().for_each(|block| allocator.dealloc(&device, block));
-        allocator.cleanup(&device);
-        assert_eq!(device.held(), 0);
-        told
-    }
+    let fast = |size| request(size, UsageFlags::FAST_DEVICE_ACCESS);
+    // SAFETY: there is one device, which offers what the allocator was made with.
+    let blocks: Vec<_> = sizes.iter().map(|&size| unsafe { allocator.alloc(&device, fast(size)) }.unwrap()).collect();
+    let told = (blocks.iter().map(MemoryBlock::size).collect(), device.held());
+    end(allocator, &device, blocks);
+    told
 }
 
 #[test]
@@ -51,9 +47,8 @@ fn one_fit_chunk_stays() {
             assert!(device.held() > 1, "{sharing:?}");
             blocks.into_iter().for_each(|block| allocator.dealloc(&device, block));
             assert_eq!(device.held(), stay, "{sharing:?}");
-            allocator.cleanup(&device);
         }
-        assert_eq!((device.held(), allocator.remaining_allocations()), (0, 100));
+        assert_eq!(end(allocator, &device, []), 100);
     }
 }
 

@@ -195,7 +195,8 @@ static void check_mapping(worker *w, const resource *r)
     wtv_block now;
     must(wtv_block_of(w->world->allocator, r->block.allocation, &now) == VK_SUCCESS, "a live block is unknown");
     must((now.mapped != NULL) == is_held_mapped, "a block is mapped where it should not be, or is not");
-    must(stub_is_mapped(w->world->driver, r->block.memory) == is_held_mapped, "the driver disagrees on a mapping");
+    must(stub_object_of(w->world->driver, r->block.memory).is_mapped == is_held_mapped,
+         "the driver disagrees on a mapping");
     must(r->maps == 0 || now.mapped == r->mapped, "a block is mapped at two places");
 }
 
@@ -344,7 +345,7 @@ static void check_block(worker *w, const resource *r, const VkMemoryRequirements
     must(block->dedicated == 0 || block->offset == 0, "an own object that does not begin with its block");
     must((block->mapped != NULL) == (is_visible(r) && block->dedicated == 0), "a wrong mapping");
     must(is_visible(r) || !r->is_seen, "a block that the host does not see");
-    must(stub_priority(w->world->driver, block->memory)
+    must(stub_object_of(w->world->driver, block->memory).priority
              == (block->dedicated == 1 && priority != NULL ? priority->priority : -1),
          "a chain is lost, or went to a shared object");
     must(wtv_block_of(w->world->allocator, block->allocation, &now) == VK_SUCCESS, "a new block is unknown");
@@ -746,41 +747,6 @@ static void *work(void *argument)
     return NULL;
 }
 
-/* ---- Callbacks of the program's. ---- */
-
-static uint64_t callback_blocks; /* live ones; atomic */
-
-static VKAPI_ATTR void *VKAPI_CALL allocate_by_program(void *user, size_t size, size_t alignment,
-                                                       VkSystemAllocationScope scope)
-{
-    must(user == &callback_blocks && alignment <= sizeof(uint64_t), "a callback gets something else");
-    (void)scope;
-    __atomic_fetch_add(&callback_blocks, 1, __ATOMIC_RELAXED);
-    return malloc(size);
-}
-
-static VKAPI_ATTR void *VKAPI_CALL reallocate_by_program(void *user, void *old, size_t size, size_t alignment,
-                                                         VkSystemAllocationScope scope)
-{
-    must(false, "nothing grows by callbacks");
-    (void)user, (void)old, (void)size, (void)alignment, (void)scope;
-    return NULL;
-}
-
-static VKAPI_ATTR void VKAPI_CALL free_by_program(void *user, void *memory)
-{
-    must(user == &callback_blocks, "a callback gets something else");
-    __atomic_fetch_sub(&callback_blocks, 1, __ATOMIC_RELAXED);
-    free(memory);
-}
-
-static const VkAllocationCallbacks callbacks = {
-    .pUserData = &callback_blocks,
-    .pfnAllocation = allocate_by_program,
-    .pfnReallocation = reallocate_by_program,
-    .pfnFree = free_by_program,
-};
-
 /* ---- Faults, planted between the allocator and the stub. ---- */
 
 static VKAPI_ATTR VkResult VKAPI_CALL bind_buffer_shifted(VkDevice device, VkBuffer buffer, VkDeviceMemory memory,
@@ -828,23 +794,16 @@ static VKAPI_ATTR VkResult VKAPI_CALL allocate_without_chain(VkDevice device, co
     return stub_table.allocate_memory(device, &bare, given, memory);
 }
 
-static VKAPI_ATTR void VKAPI_CALL tell_half_a_page(VkPhysicalDevice physical, VkPhysicalDeviceProperties2 *properties)
-{
-    stub_table.get_physical_device_properties2(physical, properties);
-    properties->properties.limits.bufferImageGranularity /= 2;
-}
+#define TELLS(name, limit, change) \
+    static VKAPI_ATTR void VKAPI_CALL name(VkPhysicalDevice physical, VkPhysicalDeviceProperties2 *properties) \
+    { \
+        stub_table.get_physical_device_properties2(physical, properties); \
+        properties->properties.limits.limit change; \
+    }
 
-static VKAPI_ATTR void VKAPI_CALL tell_half_an_atom(VkPhysicalDevice physical, VkPhysicalDeviceProperties2 *properties)
-{
-    stub_table.get_physical_device_properties2(physical, properties);
-    properties->properties.limits.nonCoherentAtomSize /= 2;
-}
-
-static VKAPI_ATTR void VKAPI_CALL tell_more_objects(VkPhysicalDevice physical, VkPhysicalDeviceProperties2 *properties)
-{
-    stub_table.get_physical_device_properties2(physical, properties);
-    properties->properties.limits.maxMemoryAllocationCount *= 2;
-}
+TELLS(tell_half_a_page, bufferImageGranularity, /= 2)
+TELLS(tell_half_an_atom, nonCoherentAtomSize, /= 2)
+TELLS(tell_more_objects, maxMemoryAllocationCount, *= 2)
 
 static VKAPI_ATTR void VKAPI_CALL tell_no_budget(VkPhysicalDevice physical,
                                                  VkPhysicalDeviceMemoryProperties2 *properties)
@@ -899,7 +858,7 @@ static stub_plan plan_of(uint64_t seed, uint32_t percent)
     plan.atom = atoms[seed % LENGTH(atoms)];
     plan.max_objects = seed % 5 == 0 ? 40 : 160;
     plan.draws_budgets = true;
-    plan.callbacks = seed % 2 == 0 ? &callbacks : NULL;
+    plan.callbacks = seed % 2 == 0 ? &stub_callbacks : NULL;
     plan.api_version = seed % 3 == 2 ? VK_API_VERSION_1_1 : VK_API_VERSION_1_0;
     if (seed % 3 == 1)
         plan.flags = WTV_CREATE_PROPERTIES2 | WTV_CREATE_DEDICATED_ALLOCATION;
@@ -1078,6 +1037,6 @@ int main(int argc, char **argv)
     check_refusals(&o, resources);
     print_run(&o, workers);
     must(stub_close(o.driver) == 0, "the stub found failures");
-    must(callback_blocks == 0, "memory of the program's callbacks is not freed");
+    must(stub_pieces_taken == stub_pieces_given, "memory of the program's callbacks is not freed");
     return 0;
 }

@@ -9,34 +9,10 @@
 
 /* ---- What the linker puts in place of the functions for memory, of the lock's, and of four of the library's. ---- */
 
-void *__real_malloc(size_t size);
-void *__real_calloc(size_t count, size_t size);
-void *__real_realloc(void *old, size_t size);
-void __real_free(void *memory);
-void *__real_memcpy(void *to, const void *from, size_t size);
-int __real_pthread_mutex_init(pthread_mutex_t *lock, const pthread_mutexattr_t *attributes);
-int __real_pthread_mutex_lock(pthread_mutex_t *lock);
-int __real_pthread_mutex_unlock(pthread_mutex_t *lock);
-uint32_t __real_wt_version(void);
-uint32_t __real_wt_alloc(wt_allocator *a, const wt_request *request, const wt_question *asked, size_t asked_len,
-                         wt_block *block, wt_question *question);
-uint32_t __real_wt_block_of(wt_allocator *a, uint64_t key, wt_block *block);
-uint32_t __real_wt_map(wt_allocator *a, uint64_t key, uint64_t offset, uint64_t size, const wt_question *asked,
-                       size_t asked_len, wt_range *mapped, wt_question *question);
-void *__wrap_malloc(size_t size);
-void *__wrap_calloc(size_t count, size_t size);
-void *__wrap_realloc(void *old, size_t size);
-void __wrap_free(void *memory);
-void *__wrap_memcpy(void *to, const void *from, size_t size);
-int __wrap_pthread_mutex_init(pthread_mutex_t *lock, const pthread_mutexattr_t *attributes);
-int __wrap_pthread_mutex_lock(pthread_mutex_t *lock);
-int __wrap_pthread_mutex_unlock(pthread_mutex_t *lock);
-uint32_t __wrap_wt_version(void);
-uint32_t __wrap_wt_alloc(wt_allocator *a, const wt_request *request, const wt_question *asked, size_t asked_len,
-                         wt_block *block, wt_question *question);
-uint32_t __wrap_wt_block_of(wt_allocator *a, uint64_t key, wt_block *block);
-uint32_t __wrap_wt_map(wt_allocator *a, uint64_t key, uint64_t offset, uint64_t size, const wt_question *asked,
-                       size_t asked_len, wt_range *mapped, wt_question *question);
+/* Declares what a function really is, and begins what stands in its place. */
+#define WRAP(type, name, parameters) \
+    type __real_##name parameters; \
+    type __wrap_##name parameters
 
 static long served_before = -1; /* how many requests are served before one is refused; below 0: each is served */
 static bool is_all_refused, is_lock_refused, is_in_vain;
@@ -61,11 +37,8 @@ static void *counted(void *memory)
     return memory;
 }
 
-/* The driver's own memory never lacks. */
 static bool is_refused(void)
 {
-    if (stub_is_at_work())
-        return false;
     bool refused = is_all_refused || served_before == 0;
     if (served_before >= 0)
         served_before--;
@@ -73,17 +46,17 @@ static bool is_refused(void)
     return refused;
 }
 
-void *__wrap_malloc(size_t size)
+WRAP(void *, malloc, (size_t size))
 {
     return is_refused() ? NULL : counted(__real_malloc(size));
 }
 
-void *__wrap_calloc(size_t count, size_t size)
+WRAP(void *, calloc, (size_t count, size_t size))
 {
     return is_refused() ? NULL : counted(__real_calloc(count, size));
 }
 
-void *__wrap_realloc(void *old, size_t size)
+WRAP(void *, realloc, (void *old, size_t size))
 {
     if (is_refused())
         return NULL;
@@ -92,13 +65,13 @@ void *__wrap_realloc(void *old, size_t size)
     return larger;
 }
 
-void __wrap_free(void *memory)
+WRAP(void, free, (void *memory))
 {
     live_memory -= memory != NULL;
     __real_free(memory);
 }
 
-void *__wrap_memcpy(void *to, const void *from, size_t size)
+WRAP(void *, memcpy, (void *to, const void *from, size_t size))
 {
     if (seen_of_lock.bytes != NULL && (from == seen_of_lock.bytes || to == seen_of_lock.bytes)) {
         seen_of_lock.copies++;
@@ -109,13 +82,13 @@ void *__wrap_memcpy(void *to, const void *from, size_t size)
     return __real_memcpy(to, from, size);
 }
 
-int __wrap_pthread_mutex_init(pthread_mutex_t *lock, const pthread_mutexattr_t *attributes)
+WRAP(int, pthread_mutex_init, (pthread_mutex_t *lock, const pthread_mutexattr_t *attributes))
 {
     seen_of_lock.lock = lock;
     return is_lock_refused ? 1 : __real_pthread_mutex_init(lock, attributes);
 }
 
-int __wrap_pthread_mutex_lock(pthread_mutex_t *lock)
+WRAP(int, pthread_mutex_lock, (pthread_mutex_t *lock))
 {
     int result = __real_pthread_mutex_lock(lock);
     if (lock == seen_of_lock.lock) {
@@ -125,35 +98,35 @@ int __wrap_pthread_mutex_lock(pthread_mutex_t *lock)
     return result;
 }
 
-int __wrap_pthread_mutex_unlock(pthread_mutex_t *lock)
+WRAP(int, pthread_mutex_unlock, (pthread_mutex_t *lock))
 {
     if (lock == seen_of_lock.lock)
         seen_of_lock.is_held = false;
     return __real_pthread_mutex_unlock(lock);
 }
 
-uint32_t __wrap_wt_version(void)
+WRAP(uint32_t, wt_version, (void))
 {
     return other_version != 0 ? other_version : __real_wt_version();
 }
 
 /* The library may lack memory once the driver has answered. */
-uint32_t __wrap_wt_alloc(wt_allocator *a, const wt_request *request, const wt_question *asked, size_t asked_len,
-                         wt_block *block, wt_question *question)
+WRAP(uint32_t, wt_alloc, (wt_allocator *a, const wt_request *request, const wt_question *asked, size_t asked_len,
+                          wt_block *block, wt_question *question))
 {
     if (is_in_vain && asked_len > 0)
         return WT_OUT_OF_HOST_MEMORY;
     return __real_wt_alloc(a, request, asked, asked_len, block, question);
 }
 
-uint32_t __wrap_wt_block_of(wt_allocator *a, uint64_t key, wt_block *block)
+WRAP(uint32_t, wt_block_of, (wt_allocator *a, uint64_t key, wt_block *block))
 {
     seen_of_lock.lookups++;
     return __real_wt_block_of(a, key, block);
 }
 
-uint32_t __wrap_wt_map(wt_allocator *a, uint64_t key, uint64_t offset, uint64_t size, const wt_question *asked,
-                       size_t asked_len, wt_range *mapped, wt_question *question)
+WRAP(uint32_t, wt_map, (wt_allocator *a, uint64_t key, uint64_t offset, uint64_t size, const wt_question *asked,
+                        size_t asked_len, wt_range *mapped, wt_question *question))
 {
     if (is_in_vain && asked_len > 0)
         return WT_OUT_OF_HOST_MEMORY;
@@ -262,16 +235,30 @@ static const wt_config small_config = {
     .initial_buddy_dedicated_size = 8 << 10,
 };
 
+static wtv_allocator *created(stub *s, const wtv_functions *functions, const wt_config *config)
+{
+    wtv_create_info info = stub_info(s);
+    wtv_allocator *a = NULL;
+    info.config = config;
+    info.functions = functions;
+    info.other_objects = 1;
+    expect(wtv_create(&info, &a) == VK_SUCCESS, "no allocator is created");
+    return a;
+}
+
+static void closed(stub *s, wtv_allocator *a)
+{
+    expect(wtv_destroy(a, NULL, 0, NULL) == VK_SUCCESS, "an allocator is not destroyed");
+    expect(stub_close(s) == 0, "the stub found failures");
+}
+
 static world begun(const char *name)
 {
     stub_plan plan = stub_usual_plan();
     plan.max_objects = MOST_OBJECTS;
     world w = {.driver = stub_open(&plan)};
-    wtv_create_info info = stub_info(w.driver);
     current = name;
-    info.other_objects = 1;
-    info.config = &small_config;
-    expect(wtv_create(&info, &w.allocator) == VK_SUCCESS, "no allocator is created");
+    w.allocator = created(w.driver, NULL, &small_config);
     fill(&w);
     return w;
 }
@@ -287,8 +274,7 @@ static void ended(world *w)
         expect(wtv_free(w->allocator, w->at[i]) == VK_SUCCESS, "a block is not taken back");
     expect(wtv_destroy_buffer(w->allocator, w->buffer, w->at[BUFFER]) == VK_SUCCESS, "a buffer is not destroyed");
     expect(wtv_destroy_image(w->allocator, w->image, w->at[IMAGE]) == VK_SUCCESS, "an image is not destroyed");
-    expect(wtv_destroy(w->allocator, NULL, 0, NULL) == VK_SUCCESS, "an allocator is not destroyed");
-    expect(stub_close(w->driver) == 0, "the stub found failures");
+    closed(w->driver, w->allocator);
 }
 
 /* All that can be seen of a world, but for free chunks. */
@@ -346,21 +332,48 @@ typedef struct row {
 
 static const char bytes_of_program[BLOCK_SIZE];
 
-static VkResult call_block_of(world *w, const row *r)
-{
-    wtv_block block;
-    return wtv_block_of(w->allocator, w->at[r->which], &block);
-}
+/* A call, of which AT is the row's allocation; and one that makes an allocation, which an error does not write. */
+#define CALL(name, ...) \
+    static VkResult call_##name(world *w, const row *r) \
+    { \
+        return (void)r, (__VA_ARGS__); \
+    }
+#define MAKES(name, ...) \
+    static VkResult call_##name(world *w, const row *r) \
+    { \
+        wtv_allocation allocation = 7; \
+        VkResult result = __VA_ARGS__; \
+        expect(result == VK_SUCCESS || allocation == 7, "an error writes an allocation"); \
+        return result; \
+    }
+#define AT w->at[r->which]
 
-static VkResult call_set_user(world *w, const row *r)
-{
-    return wtv_set_user(w->allocator, w->at[r->which], 7);
-}
-
-static VkResult call_free(world *w, const row *r)
-{
-    return wtv_free(w->allocator, w->at[r->which]);
-}
+CALL(block_of, wtv_block_of(w->allocator, AT, &(wtv_block){0}))
+CALL(set_user, wtv_set_user(w->allocator, AT, 7))
+CALL(free, wtv_free(w->allocator, AT))
+CALL(unmap, wtv_unmap(w->allocator, AT))
+CALL(write, wtv_write(w->allocator, AT, r->offset, bytes_of_program, (size_t)r->size))
+CALL(read, wtv_read(w->allocator, AT, r->offset, (char[BLOCK_SIZE]){0}, (size_t)r->size))
+CALL(flush_too_many, wtv_flush(w->allocator, &(wtv_range){AT, 0, 1}, (size_t)UINT32_MAX + 1))
+CALL(bind_buffer, wtv_bind_buffer(w->allocator, AT, r->offset, w->loose_buffer))
+CALL(bind_image, wtv_bind_image(w->allocator, AT, r->offset, w->loose_image))
+CALL(bind_no_buffer, wtv_bind_buffer(w->allocator, AT, r->offset, VK_NULL_HANDLE))
+CALL(bind_no_image, wtv_bind_image(w->allocator, AT, r->offset, VK_NULL_HANDLE))
+CALL(destroy_buffer, wtv_destroy_buffer(w->allocator, w->loose_buffer, AT))
+CALL(destroy_image, wtv_destroy_image(w->allocator, w->loose_image, AT))
+CALL(destroy_no_buffer, wtv_destroy_buffer(w->allocator, VK_NULL_HANDLE, AT))
+CALL(destroy_no_image, wtv_destroy_image(w->allocator, VK_NULL_HANDLE, AT))
+CALL(set_heap_limit, wtv_set_heap_limit(w->allocator, r->number, 1000))
+CALL(heap, wtv_heap(w->allocator, r->number, &(wt_heap_counts){0}))
+CALL(statistics, wtv_statistics(w->allocator, r->number, &(wt_type_statistics){0}))
+CALL(update_budget, wtv_update_budget(w->allocator))
+MAKES(import, wtv_import(w->allocator, w->loose_memory, r->number, OBJECT_SIZE, r->offset, r->size, &allocation, NULL))
+MAKES(allocate, wtv_allocate(w->allocator, &(VkMemoryRequirements){r->size, r->number, r->flags}, &r->request,
+                             &allocation, NULL))
+MAKES(allocate_for_buffer, wtv_allocate_for_buffer(w->allocator, w->loose_buffer, &r->request, &allocation, NULL))
+MAKES(allocate_for_image, wtv_allocate_for_image(w->allocator, w->loose_image, &r->request, &allocation, NULL))
+MAKES(allocate_for_no_buffer, wtv_allocate_for_buffer(w->allocator, VK_NULL_HANDLE, &r->request, &allocation, NULL))
+MAKES(allocate_for_no_image, wtv_allocate_for_image(w->allocator, VK_NULL_HANDLE, &r->request, &allocation, NULL))
 
 static VkResult call_map(world *w, const row *r)
 {
@@ -368,22 +381,6 @@ static VkResult call_map(world *w, const row *r)
     VkResult result = wtv_map(w->allocator, w->at[r->which], &bytes);
     expect(result == VK_SUCCESS || bytes == w, "an error writes a pointer");
     return result;
-}
-
-static VkResult call_unmap(world *w, const row *r)
-{
-    return wtv_unmap(w->allocator, w->at[r->which]);
-}
-
-static VkResult call_write(world *w, const row *r)
-{
-    return wtv_write(w->allocator, w->at[r->which], r->offset, bytes_of_program, (size_t)r->size);
-}
-
-static VkResult call_read(world *w, const row *r)
-{
-    char bytes[BLOCK_SIZE];
-    return wtv_read(w->allocator, w->at[r->which], r->offset, bytes, (size_t)r->size);
 }
 
 /* The ranges of a row: r->number good ones before the one that it names. */
@@ -407,90 +404,12 @@ static VkResult call_invalidate(world *w, const row *r)
     return wtv_invalidate(w->allocator, ranges, ranges_of(w, r, ranges));
 }
 
-static VkResult call_flush_too_many(world *w, const row *r)
-{
-    const wtv_range range = {w->at[r->which], 0, 1};
-    return wtv_flush(w->allocator, &range, (size_t)UINT32_MAX + 1);
-}
-
-static VkResult call_bind_buffer(world *w, const row *r)
-{
-    return wtv_bind_buffer(w->allocator, w->at[r->which], r->offset, w->loose_buffer);
-}
-
-static VkResult call_bind_image(world *w, const row *r)
-{
-    return wtv_bind_image(w->allocator, w->at[r->which], r->offset, w->loose_image);
-}
-
-static VkResult call_bind_no_buffer(world *w, const row *r)
-{
-    return wtv_bind_buffer(w->allocator, w->at[r->which], r->offset, VK_NULL_HANDLE);
-}
-
-static VkResult call_bind_no_image(world *w, const row *r)
-{
-    return wtv_bind_image(w->allocator, w->at[r->which], r->offset, VK_NULL_HANDLE);
-}
-
-static VkResult call_destroy_buffer(world *w, const row *r)
-{
-    return wtv_destroy_buffer(w->allocator, w->loose_buffer, w->at[r->which]);
-}
-
-static VkResult call_destroy_image(world *w, const row *r)
-{
-    return wtv_destroy_image(w->allocator, w->loose_image, w->at[r->which]);
-}
-
-static VkResult call_destroy_no_buffer(world *w, const row *r)
-{
-    return wtv_destroy_buffer(w->allocator, VK_NULL_HANDLE, w->at[r->which]);
-}
-
-static VkResult call_destroy_no_image(world *w, const row *r)
-{
-    return wtv_destroy_image(w->allocator, VK_NULL_HANDLE, w->at[r->which]);
-}
-
-static VkResult call_import(world *w, const row *r)
-{
-    wtv_allocation allocation = 7;
-    VkResult result = wtv_import(w->allocator, w->loose_memory, r->number, OBJECT_SIZE, r->offset, r->size, &allocation,
-                                 NULL);
-    expect(result == VK_SUCCESS || allocation == 7, "an error writes an allocation");
-    return result;
-}
-
 static VkResult call_candidates(world *w, const row *r)
 {
     uint32_t types[32], count = 7;
     VkResult result = wtv_candidates(w->allocator, r->number, STUB_ALL_TYPES, types, &count);
     expect(result == VK_SUCCESS || count == 7, "an error writes a count");
     return result;
-}
-
-static VkResult call_set_heap_limit(world *w, const row *r)
-{
-    return wtv_set_heap_limit(w->allocator, r->number, 1000);
-}
-
-static VkResult call_heap(world *w, const row *r)
-{
-    wt_heap_counts counts;
-    return wtv_heap(w->allocator, r->number, &counts);
-}
-
-static VkResult call_statistics(world *w, const row *r)
-{
-    wt_type_statistics statistics;
-    return wtv_statistics(w->allocator, r->number, &statistics);
-}
-
-static VkResult call_update_budget(world *w, const row *r)
-{
-    (void)r;
-    return wtv_update_budget(w->allocator);
 }
 
 static VkResult call_destroy(world *w, const row *r)
@@ -500,43 +419,6 @@ static VkResult call_destroy(world *w, const row *r)
     VkResult result = wtv_destroy(w->allocator, live, (size_t)r->number, &count);
     expect(count == BLOCKS, "other blocks are live");
     return result;
-}
-
-static VkResult call_allocate(world *w, const row *r)
-{
-    const VkMemoryRequirements needs = {r->size, r->number, r->flags};
-    wtv_allocation allocation = 7;
-    VkResult result = wtv_allocate(w->allocator, &needs, &r->request, &allocation, NULL);
-    expect(result == VK_SUCCESS || allocation == 7, "an error writes an allocation");
-    return result;
-}
-
-static VkResult call_allocate_for_buffer(world *w, const row *r)
-{
-    wtv_allocation allocation = 7;
-    VkResult result = wtv_allocate_for_buffer(w->allocator, w->loose_buffer, &r->request, &allocation, NULL);
-    expect(result == VK_SUCCESS || allocation == 7, "an error writes an allocation");
-    return result;
-}
-
-static VkResult call_allocate_for_image(world *w, const row *r)
-{
-    wtv_allocation allocation = 7;
-    VkResult result = wtv_allocate_for_image(w->allocator, w->loose_image, &r->request, &allocation, NULL);
-    expect(result == VK_SUCCESS || allocation == 7, "an error writes an allocation");
-    return result;
-}
-
-static VkResult call_allocate_for_no_buffer(world *w, const row *r)
-{
-    wtv_allocation allocation;
-    return wtv_allocate_for_buffer(w->allocator, VK_NULL_HANDLE, &r->request, &allocation, NULL);
-}
-
-static VkResult call_allocate_for_no_image(world *w, const row *r)
-{
-    wtv_allocation allocation;
-    return wtv_allocate_for_image(w->allocator, VK_NULL_HANDLE, &r->request, &allocation, NULL);
 }
 
 static VkResult call_create_buffer(world *w, const row *r)
@@ -633,7 +515,13 @@ static const VkMemoryPriorityAllocateInfoEXT before_address = {
 #define ABSENT VK_ERROR_FEATURE_NOT_PRESENT
 #define LACKING VK_ERROR_OUT_OF_DEVICE_MEMORY
 #define UNMAPPABLE VK_ERROR_MEMORY_MAP_FAILED
-#define ALLOCATE .call = call_allocate, .size = 100, .number = 16, .flags = STUB_ALL_TYPES
+#define OF_TYPES(types) .call = call_allocate, .size = 100, .number = 16, .flags = types
+#define ALLOCATE OF_TYPES(STUB_ALL_TYPES)
+#define BUFFER_WITH .call = call_create_buffer, .size = 100
+#define IMAGE_WITH .call = call_create_image, .size = 10
+#define SPARSE_BUFFER(kind) BUFFER_WITH, .flags = VK_BUFFER_CREATE_SPARSE_##kind##_BIT
+#define SPARSE_IMAGE(kind) IMAGE_WITH, .flags = VK_IMAGE_CREATE_SPARSE_##kind##_BIT
+#define OWN_OF_HELD .request.flags = WT_HELD_ONLY, .request.dedicated = WT_REQUIRED
 
 static const row rows[] = {
     {"map what the host does not see", UNMAPPABLE, call_map, .which = LOCAL},
@@ -710,25 +598,22 @@ static const row rows[] = {
     {"allocate with an address chained", INVALID, ALLOCATE, .request.next = &address},
     {"allocate with an owner chained behind", INVALID, ALLOCATE, .request.next = &before_owner},
     {"allocate with an address chained behind", INVALID, ALLOCATE, .request.next = &before_address},
-    {"allocate of no type", ABSENT, call_allocate, .size = 100, .number = 16},
-    {"allocate of types that never serve", ABSENT, call_allocate, .size = 100, .number = 16,
-     .flags = (uint32_t)STUB_ALL_TYPES & ~0u << STUB_SERVING},
-    {"allocate of none of the program's types", ABSENT, call_allocate, .size = 100, .number = 16,
-     .flags = 1u << STUB_LOCAL, .request.memory_types = 1u << STUB_CACHED},
-    {"allocate for the host where it sees nothing", ABSENT, call_allocate, .size = 100, .number = 16,
-     .flags = 1u << STUB_LOCAL, .request.usage = WT_USAGE_HOST_ACCESS},
+    {"allocate of no type", ABSENT, OF_TYPES(0)},
+    {"allocate of types that never serve", ABSENT, OF_TYPES((uint32_t)STUB_ALL_TYPES & ~0u << STUB_SERVING)},
+    {"allocate of none of the program's types", ABSENT, OF_TYPES(1u << STUB_LOCAL),
+     .request.memory_types = 1u << STUB_CACHED},
+    {"allocate for the host where it sees nothing", ABSENT, OF_TYPES(1u << STUB_LOCAL),
+     .request.usage = WT_USAGE_HOST_ACCESS},
     {"allocate more than the device allows", LACKING, call_allocate, .size = (4 << 20) + 1, .number = 16,
      .flags = STUB_ALL_TYPES},
     {"allocate over all limits", LACKING, ALLOCATE, .request.dedicated = WT_REQUIRED, .prepare = limit_all_heaps},
     {"allocate with all objects held", VK_ERROR_TOO_MANY_OBJECTS, ALLOCATE, .request.dedicated = WT_REQUIRED,
      .prepare = hold_all_objects},
 
-    {"allocate an object where nothing may be made", LACKING, ALLOCATE, .request.flags = WT_HELD_ONLY,
-     .request.dedicated = WT_REQUIRED},
-    {"allocate an object where nothing may be made and no more held", LACKING, ALLOCATE, .request.flags = WT_HELD_ONLY,
-     .request.dedicated = WT_REQUIRED, .prepare = hold_all_objects},
-    {"allocate of no type where nothing may be made", ABSENT, call_allocate, .size = 100, .number = 16,
-     .request.flags = WT_HELD_ONLY},
+    {"allocate an object where nothing may be made", LACKING, ALLOCATE, OWN_OF_HELD},
+    {"allocate an object where nothing may be made and no more held", LACKING, ALLOCATE, OWN_OF_HELD,
+     .prepare = hold_all_objects},
+    {"allocate of no type where nothing may be made", ABSENT, OF_TYPES(0), .request.flags = WT_HELD_ONLY},
 
     {"allocate in vain", VK_ERROR_OUT_OF_HOST_MEMORY, ALLOCATE, .request.dedicated = WT_REQUIRED,
      .prepare = answer_in_vain},
@@ -743,31 +628,26 @@ static const row rows[] = {
     {"allocate for a buffer with a wrong chain", INVALID, call_allocate_for_buffer, .request.next = &before_owner},
     {"allocate for an image with a wrong chain", INVALID, call_allocate_for_image, .request.next = &address},
 
-    {"a sparse buffer", ABSENT, call_create_buffer, .size = 100, .flags = VK_BUFFER_CREATE_SPARSE_BINDING_BIT},
-    {"a buffer of sparse residency", ABSENT, call_create_buffer, .size = 100,
-     .flags = VK_BUFFER_CREATE_SPARSE_RESIDENCY_BIT},
-    {"a sparse aliased buffer", ABSENT, call_create_buffer, .size = 100, .flags = VK_BUFFER_CREATE_SPARSE_ALIASED_BIT},
-    {"a buffer with a flag", INVALID, call_create_buffer, .size = 100, .request.flags = WT_OPTIMAL},
-    {"a buffer with a flag beside one that it may have", INVALID, call_create_buffer, .size = 100,
+    {"a sparse buffer", ABSENT, SPARSE_BUFFER(BINDING)},
+    {"a buffer of sparse residency", ABSENT, SPARSE_BUFFER(RESIDENCY)},
+    {"a sparse aliased buffer", ABSENT, SPARSE_BUFFER(ALIASED)},
+    {"a buffer with a flag", INVALID, BUFFER_WITH, .request.flags = WT_OPTIMAL},
+    {"a buffer with a flag beside one that it may have", INVALID, BUFFER_WITH,
      .request.flags = WT_OPTIMAL | WT_HELD_ONLY},
-    {"a buffer with an object of its own where nothing may be made", LACKING, call_create_buffer, .size = 100,
-     .request.flags = WT_HELD_ONLY, .request.dedicated = WT_REQUIRED},
-    {"a buffer with a wrong usage", INVALID, call_create_buffer, .size = 100, .request.usage = 0x80},
-    {"a buffer with a wrong wish", INVALID, call_create_buffer, .size = 100, .request.dedicated = 4},
-    {"a buffer with a wrong chain", INVALID, call_create_buffer, .size = 100, .request.next = &owner},
-    {"a buffer of no permitted type", ABSENT, call_create_buffer, .size = 100,
-     .request.memory_types = 1u << STUB_LAZY},
+    {"a buffer with an object of its own where nothing may be made", LACKING, BUFFER_WITH, OWN_OF_HELD},
+    {"a buffer with a wrong usage", INVALID, BUFFER_WITH, .request.usage = 0x80},
+    {"a buffer with a wrong wish", INVALID, BUFFER_WITH, .request.dedicated = 4},
+    {"a buffer with a wrong chain", INVALID, BUFFER_WITH, .request.next = &owner},
+    {"a buffer of no permitted type", ABSENT, BUFFER_WITH, .request.memory_types = 1u << STUB_LAZY},
     {"a buffer that is too large", LACKING, call_create_buffer, .size = 5 << 20},
-    {"a sparse image", ABSENT, call_create_image, .size = 10, .flags = VK_IMAGE_CREATE_SPARSE_BINDING_BIT},
-    {"an image of sparse residency", ABSENT, call_create_image, .size = 10,
-     .flags = VK_IMAGE_CREATE_SPARSE_RESIDENCY_BIT},
-    {"a sparse aliased image", ABSENT, call_create_image, .size = 10, .flags = VK_IMAGE_CREATE_SPARSE_ALIASED_BIT},
-    {"a disjoint image", ABSENT, call_create_image, .size = 10, .flags = VK_IMAGE_CREATE_DISJOINT_BIT},
-    {"an image with a flag", INVALID, call_create_image, .size = 10, .request.flags = WT_OPTIMAL},
-    {"a linear image with a flag", INVALID, call_create_image, .size = 10, .number = 1, .request.flags = WT_OPTIMAL},
-    {"an image with an object of its own where nothing may be made", LACKING, call_create_image, .size = 10,
-     .request.flags = WT_HELD_ONLY, .request.dedicated = WT_REQUIRED},
-    {"an image with a wrong chain", INVALID, call_create_image, .size = 10, .request.next = &before_address},
+    {"a sparse image", ABSENT, SPARSE_IMAGE(BINDING)},
+    {"an image of sparse residency", ABSENT, SPARSE_IMAGE(RESIDENCY)},
+    {"a sparse aliased image", ABSENT, SPARSE_IMAGE(ALIASED)},
+    {"a disjoint image", ABSENT, IMAGE_WITH, .flags = VK_IMAGE_CREATE_DISJOINT_BIT},
+    {"an image with a flag", INVALID, IMAGE_WITH, .request.flags = WT_OPTIMAL},
+    {"a linear image with a flag", INVALID, IMAGE_WITH, .number = 1, .request.flags = WT_OPTIMAL},
+    {"an image with an object of its own where nothing may be made", LACKING, IMAGE_WITH, OWN_OF_HELD},
+    {"an image with a wrong chain", INVALID, IMAGE_WITH, .request.next = &before_address},
     {"an image that is too large", LACKING, call_create_image, .size = 1500},
 };
 
@@ -833,90 +713,33 @@ static void run_unknown(void)
 typedef struct creation {
     const char *name;
     VkResult wanted;
-    void (*spoil)(stub *, wtv_create_info *);
+    void (*spoil)(wtv_create_info *);
     uint32_t flags, api_version; /* of the plan; a version of 0 is 1.1 */
     VkDeviceSize atom, page;     /* of the plan, where they are not 0 */
 } creation;
 
-static void take_instance(stub *s, wtv_create_info *info)
-{
-    (void)s;
-    info->functions = &stub_table;
-    info->instance = VK_NULL_HANDLE;
-}
+#define SPOIL(name, ...) \
+    static void name(wtv_create_info *info) \
+    { \
+        (void)info, __VA_ARGS__; \
+    }
 
-static void take_physical_device(stub *s, wtv_create_info *info)
-{
-    (void)s;
-    info->functions = &stub_table;
-    info->physical_device = VK_NULL_HANDLE;
-}
+SPOIL(take_instance, info->functions = &stub_table, info->instance = VK_NULL_HANDLE)
+SPOIL(take_physical_device, info->functions = &stub_table, info->physical_device = VK_NULL_HANDLE)
+SPOIL(take_device, info->functions = &stub_table, info->device = VK_NULL_HANDLE)
+SPOIL(take_functions, info->get_instance_proc_addr = NULL)
+SPOIL(add_flag, info->flags |= 0x20)
+SPOIL(ask_for_budgets, info->flags |= WTV_CREATE_MEMORY_BUDGET)
+SPOIL(say_a_variant, info->api_version |= 1u << 29)
+SPOIL(say_a_higher_version, info->api_version = VK_MAKE_API_VERSION(0, 1, 4, 0))
+SPOIL(say_no_version, info->api_version = 1)
+SPOIL(refuse_lock, is_lock_refused = true)
+SPOIL(change_version, other_version = WT_VERSION + 0x100)
+SPOIL(change_last_number, other_version = WT_VERSION + 1)
 
-static void take_device(stub *s, wtv_create_info *info)
-{
-    (void)s;
-    info->functions = &stub_table;
-    info->device = VK_NULL_HANDLE;
-}
-
-static void take_functions(stub *s, wtv_create_info *info)
-{
-    (void)s;
-    info->get_instance_proc_addr = NULL;
-}
-
-static void add_flag(stub *s, wtv_create_info *info)
-{
-    (void)s;
-    info->flags |= 0x20;
-}
-
-static void ask_for_budgets(stub *s, wtv_create_info *info)
-{
-    (void)s;
-    info->flags |= WTV_CREATE_MEMORY_BUDGET;
-}
-
-static void say_a_variant(stub *s, wtv_create_info *info)
-{
-    (void)s;
-    info->api_version |= 1u << 29;
-}
-
-static void say_a_higher_version(stub *s, wtv_create_info *info)
-{
-    (void)s;
-    info->api_version = VK_MAKE_API_VERSION(0, 1, 4, 0);
-}
-
-static void say_no_version(stub *s, wtv_create_info *info)
-{
-    (void)s;
-    info->api_version = 1;
-}
-
-static void refuse_lock(stub *s, wtv_create_info *info)
-{
-    (void)s, (void)info;
-    is_lock_refused = true;
-}
-
-static void change_version(stub *s, wtv_create_info *info)
-{
-    (void)s, (void)info;
-    other_version = WT_VERSION + 0x100;
-}
-
-static void change_last_number(stub *s, wtv_create_info *info)
-{
-    (void)s, (void)info;
-    other_version = WT_VERSION + 1;
-}
-
-static void share_in_a_third_way(stub *s, wtv_create_info *info)
+static void share_in_a_third_way(wtv_create_info *info)
 {
     static wt_config third = WT_CONFIG_POTATO;
-    (void)s;
     third.sharing = WT_FIT + 1;
     info->config = &third;
 }
@@ -974,7 +797,7 @@ static void run_creation(const creation *c)
     wtv_create_info info = stub_info(s);
     current = c->name;
     if (c->spoil != NULL)
-        c->spoil(s, &info);
+        c->spoil(&info);
     create_and_destroy(s, &info, c->wanted);
     is_lock_refused = false;
     other_version = 0;
@@ -1034,94 +857,47 @@ typedef struct deed {
 static const wtv_request shared_wish = {.usage = WT_USAGE_UPLOAD | WT_USAGE_TRANSIENT};
 static const wtv_request own_wish = {.usage = WT_USAGE_UPLOAD, .dedicated = WT_REQUIRED};
 static const wtv_request image_wish = {.usage = WT_USAGE_FAST_DEVICE_ACCESS | WT_USAGE_TRANSIENT};
+static const wtv_request optimal_wish = {
+    .usage = WT_USAGE_FAST_DEVICE_ACCESS | WT_USAGE_TRANSIENT,
+    .flags = WT_OPTIMAL,
+};
 static const wtv_request own_image_wish = {.dedicated = WT_REQUIRED};
 
-static VkResult create_shared_buffer(world *w)
+static VkResult create_buffer(world *w, const wtv_request *wish)
 {
     const VkBufferCreateInfo info = stub_buffer_info(SMALL);
-    return wtv_create_buffer(w->allocator, &info, &shared_wish, &w->made_buffer, &w->made, NULL);
+    return wtv_create_buffer(w->allocator, &info, wish, &w->made_buffer, &w->made, NULL);
 }
 
-static VkResult create_own_buffer(world *w)
+static VkResult create_image(world *w, const wtv_request *wish, bool is_optimal)
 {
-    const VkBufferCreateInfo info = stub_buffer_info(SMALL);
-    return wtv_create_buffer(w->allocator, &info, &own_wish, &w->made_buffer, &w->made, NULL);
+    const VkImageCreateInfo info = stub_image_info(SIDE, SIDE, is_optimal);
+    return wtv_create_image(w->allocator, &info, wish, &w->made_image, &w->made, NULL);
 }
 
-static VkResult create_shared_image(world *w)
-{
-    const VkImageCreateInfo info = stub_image_info(SIDE, SIDE, true);
-    return wtv_create_image(w->allocator, &info, &image_wish, &w->made_image, &w->made, NULL);
-}
+#define DEED(name, ...) \
+    static VkResult name(world *w) \
+    { \
+        return __VA_ARGS__; \
+    }
+#define SMALL_NEEDS &(VkMemoryRequirements){SMALL, 16, STUB_ALL_TYPES}
+#define ALL_OF_CACHED(ranges) &(row){.which = CACHED, .size = VK_WHOLE_SIZE, .number = ranges}
 
-static VkResult create_own_image(world *w)
-{
-    const VkImageCreateInfo info = stub_image_info(SIDE, SIDE, false);
-    return wtv_create_image(w->allocator, &info, &own_image_wish, &w->made_image, &w->made, NULL);
-}
-
-static VkResult allocate_for_buffer(world *w)
-{
-    return wtv_allocate_for_buffer(w->allocator, w->loose_buffer, &shared_wish, &w->made, NULL);
-}
-
-static VkResult allocate_for_image(world *w)
-{
-    wtv_request optimal = image_wish;
-    optimal.flags = WT_OPTIMAL;
-    return wtv_allocate_for_image(w->allocator, w->loose_image, &optimal, &w->made, NULL);
-}
-
-static VkResult allocate_shared(world *w)
-{
-    const VkMemoryRequirements needs = {SMALL, 16, STUB_ALL_TYPES};
-    return wtv_allocate(w->allocator, &needs, &shared_wish, &w->made, NULL);
-}
-
-static VkResult allocate_own(world *w)
-{
-    const VkMemoryRequirements needs = {SMALL, 16, STUB_ALL_TYPES};
-    return wtv_allocate(w->allocator, &needs, &own_wish, &w->made, NULL);
-}
-
-static VkResult bind_loose_buffer(world *w)
-{
-    return wtv_bind_buffer(w->allocator, w->at[SHARED], 0, w->loose_buffer);
-}
-
-static VkResult bind_loose_image(world *w)
-{
-    return wtv_bind_image(w->allocator, w->at[LOCAL], 0, w->loose_image);
-}
-
-static VkResult map_own(world *w)
-{
-    void *bytes;
-    return wtv_map(w->allocator, w->at[OWN], &bytes);
-}
-
-static VkResult write_own(world *w)
-{
-    return wtv_write(w->allocator, w->at[OWN], 5, bytes_of_program, 100);
-}
-
-static VkResult read_own(world *w)
-{
-    char bytes[100];
-    return wtv_read(w->allocator, w->at[OWN], 5, bytes, sizeof bytes);
-}
-
-static VkResult flush_cached(world *w)
-{
-    const row all = {.which = CACHED, .size = VK_WHOLE_SIZE, .number = MANY_RANGES};
-    return call_flush(w, &all);
-}
-
-static VkResult invalidate_cached(world *w)
-{
-    const row all = {.which = CACHED, .size = VK_WHOLE_SIZE, .number = 1};
-    return call_invalidate(w, &all);
-}
+DEED(create_shared_buffer, create_buffer(w, &shared_wish))
+DEED(create_own_buffer, create_buffer(w, &own_wish))
+DEED(create_shared_image, create_image(w, &image_wish, true))
+DEED(create_own_image, create_image(w, &own_image_wish, false))
+DEED(allocate_for_buffer, wtv_allocate_for_buffer(w->allocator, w->loose_buffer, &shared_wish, &w->made, NULL))
+DEED(allocate_for_image, wtv_allocate_for_image(w->allocator, w->loose_image, &optimal_wish, &w->made, NULL))
+DEED(allocate_shared, wtv_allocate(w->allocator, SMALL_NEEDS, &shared_wish, &w->made, NULL))
+DEED(allocate_own, wtv_allocate(w->allocator, SMALL_NEEDS, &own_wish, &w->made, NULL))
+DEED(bind_loose_buffer, wtv_bind_buffer(w->allocator, w->at[SHARED], 0, w->loose_buffer))
+DEED(bind_loose_image, wtv_bind_image(w->allocator, w->at[LOCAL], 0, w->loose_image))
+DEED(map_own, wtv_map(w->allocator, w->at[OWN], &(void *){NULL}))
+DEED(write_own, wtv_write(w->allocator, w->at[OWN], 5, bytes_of_program, 100))
+DEED(read_own, wtv_read(w->allocator, w->at[OWN], 5, (char[100]){0}, 100))
+DEED(flush_cached, call_flush(w, ALL_OF_CACHED(MANY_RANGES)))
+DEED(invalidate_cached, call_invalidate(w, ALL_OF_CACHED(1)))
 
 static void destroy_made(world *w)
 {
@@ -1225,14 +1001,9 @@ static unsigned lose_device_in_turn(const deed *d)
 {
     for (unsigned skip = 0;; skip++) {
         world w = begun(d->name);
-        stub_lose_device(w.driver, skip);
-        picture before = taken(&w);
-        VkResult result = d->call(&w);
+        stub_refuse(w.driver, STUB_ANY, VK_ERROR_DEVICE_LOST, skip, true);
+        VkResult result = done_and_undone(&w, d);
         expect(result == VK_SUCCESS || result == VK_ERROR_DEVICE_LOST, "a lost device ends a request otherwise");
-        stub_refuse(w.driver, STUB_FUNCTIONS, VK_SUCCESS, 0, false);
-        if (result == VK_SUCCESS)
-            d->undo(&w);
-        compare(before, taken(&w));
         ended(&w);
         if (result == VK_SUCCESS)
             return skip;
@@ -1299,33 +1070,12 @@ static VkResult create_scarcely(scarcity *s)
     return wtv_create(&info, &s->allocator);
 }
 
-static VkResult take_own(scarcity *s)
-{
-    return take_one(s, WT_USAGE_HOST_ACCESS, WT_REQUIRED);
-}
-
-static VkResult take_shared(scarcity *s)
-{
-    return take_one(s, WT_USAGE_HOST_ACCESS, WT_SHARED);
-}
-
-static VkResult take_transient(scarcity *s)
-{
-    return take_one(s, WT_USAGE_HOST_ACCESS | WT_USAGE_TRANSIENT, WT_SHARED);
-}
-
 static VkResult import_scarcely(scarcity *s)
 {
     VkResult result = wtv_import(s->allocator, s->memory, STUB_CACHED, OBJECT_SIZE, 0, OBJECT_SIZE,
                                  &s->blocks[s->blocks_len], NULL);
     s->blocks_len += result == VK_SUCCESS;
     return result;
-}
-
-static VkResult map_last(scarcity *s)
-{
-    void *bytes;
-    return wtv_map(s->allocator, s->blocks[s->blocks_len - 1], &bytes);
 }
 
 static VkResult flush_many(scarcity *s)
@@ -1336,35 +1086,30 @@ static VkResult flush_many(scarcity *s)
     return wtv_flush(s->allocator, ranges, LENGTH(ranges));
 }
 
-static VkResult ask_candidates(scarcity *s)
-{
-    uint32_t types[32], count;
-    return wtv_candidates(s->allocator, WT_USAGE_UPLOAD, STUB_ALL_TYPES, types, &count);
-}
-
-static VkResult ask_statistics(scarcity *s)
-{
-    wt_type_statistics statistics;
-    return wtv_statistics(s->allocator, STUB_CACHED, &statistics);
-}
-
-static VkResult write_statistics(scarcity *s)
+static VkResult write_text(scarcity *s, VkResult (*write)(wtv_allocator *, char **))
 {
     char *text = NULL;
-    VkResult result = wtv_statistics_text(s->allocator, &text);
+    VkResult result = write(s->allocator, &text);
     expect((text != NULL) == (result == VK_SUCCESS), "an error writes a text");
     wtv_free_text(text);
     return result;
 }
 
-static VkResult write_report(scarcity *s)
-{
-    char *text = NULL;
-    VkResult result = wtv_report_text(s->allocator, &text);
-    expect((text != NULL) == (result == VK_SUCCESS), "an error writes a text");
-    wtv_free_text(text);
-    return result;
-}
+#define SCARCELY(name, ...) \
+    static VkResult name(scarcity *s) \
+    { \
+        return __VA_ARGS__; \
+    }
+
+SCARCELY(take_own, take_one(s, WT_USAGE_HOST_ACCESS, WT_REQUIRED))
+SCARCELY(take_shared, take_one(s, WT_USAGE_HOST_ACCESS, WT_SHARED))
+SCARCELY(take_transient, take_one(s, WT_USAGE_HOST_ACCESS | WT_USAGE_TRANSIENT, WT_SHARED))
+SCARCELY(map_last, wtv_map(s->allocator, s->blocks[s->blocks_len - 1], &(void *){NULL}))
+SCARCELY(ask_candidates, wtv_candidates(s->allocator, WT_USAGE_UPLOAD, STUB_ALL_TYPES, (uint32_t[32]){0},
+                                        &(uint32_t){0}))
+SCARCELY(ask_statistics, wtv_statistics(s->allocator, STUB_CACHED, &(wt_type_statistics){0}))
+SCARCELY(write_statistics, write_text(s, wtv_statistics_text))
+SCARCELY(write_report, write_text(s, wtv_report_text))
 
 /* The library does with less where it can: then a call succeeds though a piece was refused. */
 static void call_scarcely(scarcity *s, VkResult (*call)(scarcity *))
@@ -1413,9 +1158,8 @@ static void end_without_memory(scarcity *s)
     while (s->blocks_len > 0)
         expect(wtv_free(s->allocator, s->blocks[--s->blocks_len]) == VK_SUCCESS, "a return takes memory");
     expect(wtv_cleanup(s->allocator) == VK_SUCCESS, "a cleanup takes memory");
-    expect(wtv_destroy(s->allocator, NULL, 0, NULL) == VK_SUCCESS, "destroying takes memory");
+    closed(s->driver, s->allocator);
     is_all_refused = false;
-    expect(stub_close(s->driver) == 0, "the stub found failures");
 }
 
 /* All calls that take memory, with one of its pieces refused. It says whether there is a piece of that number. */
@@ -1454,29 +1198,13 @@ static void run_scarcity(void)
 
 /* ---- What is raised by itself, what zeros mean, budgets, and the usual configuration. ---- */
 
-static wtv_allocator *created(stub *s, const wtv_functions *functions)
-{
-    wtv_create_info info = stub_info(s);
-    wtv_allocator *a = NULL;
-    info.config = &small_config;
-    info.functions = functions;
-    expect(wtv_create(&info, &a) == VK_SUCCESS, "no allocator is created");
-    return a;
-}
-
-static void closed(stub *s, wtv_allocator *a)
-{
-    expect(wtv_destroy(a, NULL, 0, NULL) == VK_SUCCESS, "an allocator is not destroyed");
-    expect(stub_close(s) == 0, "the stub found failures");
-}
-
 /* An image of that many texels a side, and whether it gets an object of its own for nothing but the driver's wish. */
 static void check_wish(uint32_t side, uint32_t version, bool is_wanted)
 {
     stub_plan plan = stub_usual_plan();
     plan.api_version = version;
     stub *s = stub_open(&plan);
-    wtv_allocator *a = created(s, &stub_table);
+    wtv_allocator *a = created(s, &stub_table, &small_config);
     const VkImageCreateInfo info = stub_image_info(side, side, true);
     VkImage image;
     wtv_block block;
@@ -1515,7 +1243,7 @@ static void check_addresses(uint32_t flags, VkResult wanted, uint32_t usage, uin
     stub_plan plan = stub_usual_plan();
     plan.flags = flags;
     stub *s = stub_open(&plan);
-    wtv_allocator *a = created(s, flags == 0 ? &without : NULL);
+    wtv_allocator *a = created(s, flags == 0 ? &without : NULL, &small_config);
     VkBufferCreateInfo info = stub_buffer_info(SMALL);
     const wtv_request request = {.usage = usage};
     VkBuffer buffer = VK_NULL_HANDLE;
@@ -1597,7 +1325,7 @@ static void unmap_beside(void)
     wtv_block block;
     expect(wtv_unmap(beside->allocator, beside->at[OWN]) == VK_SUCCESS, "a block is not unmapped");
     expect(wtv_block_of(beside->allocator, beside->at[OWN], &block) == VK_SUCCESS && block.mapped != NULL
-               && stub_is_mapped(beside->driver, block.memory), "a mapping ends while bytes are copied");
+               && stub_object_of(beside->driver, block.memory).is_mapped, "a mapping ends while bytes are copied");
 }
 
 /* Where another thread unmaps a block while bytes of it are copied, it stays mapped until they are. */
@@ -1649,7 +1377,7 @@ static world begun_with(uint32_t version, const char *name)
     plan.api_version = version;
     world w = {.driver = stub_open(&plan)};
     current = name;
-    w.allocator = created(w.driver, NULL);
+    w.allocator = created(w.driver, NULL, &small_config);
     w.loose_buffer = made_buffer(&w);
     w.loose_image = made_image(&w);
     return w;
@@ -1730,15 +1458,6 @@ static struct {
     VkResult refusal, alone_refusal; /* of objects of at least MIB, and of smaller ones */
 } roomy;
 
-/* Of its heaps the one that is device-local and visible stays as small as the stub's. */
-static VKAPI_ATTR void VKAPI_CALL tell_large_heaps(VkPhysicalDevice physical,
-                                                   VkPhysicalDeviceMemoryProperties *properties)
-{
-    stub_table.get_physical_device_memory_properties(physical, properties);
-    properties->memoryHeaps[STUB_LOCAL_HEAP].size = properties->memoryHeaps[STUB_HOST_HEAP].size =
-        (VkDeviceSize)LARGE_HEAP * MIB;
-}
-
 static VKAPI_ATTR VkResult VKAPI_CALL allocate_roomily(VkDevice device, const VkMemoryAllocateInfo *info,
                                                        const VkAllocationCallbacks *callbacks, VkDeviceMemory *memory)
 {
@@ -1749,22 +1468,21 @@ static VKAPI_ATTR VkResult VKAPI_CALL allocate_roomily(VkDevice device, const Vk
     return stub_table.allocate_memory(device, info, callbacks, memory);
 }
 
-static const wtv_functions roomy_functions = {
-    .get_physical_device_memory_properties = tell_large_heaps,
-    .allocate_memory = allocate_roomily,
-};
-
+/* Of its heaps the one that is device-local and visible stays as small as the stub's. */
 static world begun_roomily(const char *name, VkDeviceSize largest)
 {
+    static const wtv_functions functions = {.allocate_memory = allocate_roomily};
+    static VkMemoryHeap heaps[STUB_HEAPS];
     stub_plan plan = stub_usual_plan();
+    memcpy(heaps, stub_heaps, sizeof heaps);
+    heaps[STUB_LOCAL_HEAP].size = heaps[STUB_HOST_HEAP].size = (VkDeviceSize)LARGE_HEAP * MIB;
+    plan.heaps = heaps;
     world w = {.driver = stub_open(&plan)};
-    wtv_create_info info = stub_info(w.driver);
     current = name;
-    info.functions = &roomy_functions;
     roomy.asked_len = 0;
     roomy.largest = largest;
     roomy.refusal = roomy.alone_refusal = VK_ERROR_OUT_OF_DEVICE_MEMORY;
-    expect(wtv_create(&info, &w.allocator) == VK_SUCCESS, "no allocator is created");
+    w.allocator = created(w.driver, &functions, NULL);
     return w;
 }
 
@@ -2048,13 +1766,11 @@ static void check_budget(VkDeviceSize budget, VkDeviceSize beside, VkDeviceSize 
     stub_plan plan = stub_usual_plan();
     const VkMemoryRequirements needs = {100000, 1, 1u << STUB_LOCAL};
     const wtv_request own = {.dedicated = WT_REQUIRED};
-    wtv_allocator *a = NULL;
     wtv_allocation held, more;
     wt_heap_counts counts;
     plan.flags = WTV_CREATE_MEMORY_BUDGET;
     stub *s = stub_open(&plan);
-    wtv_create_info info = stub_info(s);
-    expect(wtv_create(&info, &a) == VK_SUCCESS, "no allocator is created");
+    wtv_allocator *a = created(s, NULL, NULL);
     expect(wtv_allocate(a, &needs, &own, &held, NULL) == VK_SUCCESS, "no block is allocated");
     stub_set_budget(s, STUB_LOCAL_HEAP, budget, beside);
     expect(wtv_update_budget(a) == VK_SUCCESS, "a budget is not followed");
@@ -2101,13 +1817,11 @@ static void run_results(void)
 static void run_no_budget(void)
 {
     stub_plan plan = stub_usual_plan();
-    wtv_allocator *a = NULL;
     wt_heap_counts counts;
     current = "no budget";
     plan.flags = WTV_CREATE_MEMORY_BUDGET;
     stub *s = stub_open(&plan);
-    wtv_create_info info = stub_info(s);
-    expect(wtv_create(&info, &a) == VK_SUCCESS, "no allocator is created");
+    wtv_allocator *a = created(s, NULL, NULL);
     expect(wtv_set_heap_limit(a, STUB_LOCAL_HEAP, 12345) == VK_SUCCESS, "a limit is not set");
     stub_set_budget(s, STUB_LOCAL_HEAP, 0, 0);
     expect(wtv_update_budget(a) == VK_ERROR_EXTENSION_NOT_PRESENT, "an empty budget is followed");
@@ -2135,12 +1849,9 @@ static VkDeviceSize first_chunk(const wt_config *config, uint64_t sharing)
     const VkMemoryRequirements needs = {SMALL, 1, 1u << STUB_LOCAL};
     stub_plan plan = stub_usual_plan();
     stub *s = stub_open(&plan);
-    wtv_create_info info = stub_info(s);
-    wtv_allocator *a = NULL;
+    wtv_allocator *a = created(s, NULL, config);
     wtv_allocation allocation;
     wt_type_statistics sums;
-    info.config = config;
-    expect(wtv_create(&info, &a) == VK_SUCCESS, "no allocator is created");
     expect(wtv_allocate(a, &needs, NULL, &allocation, NULL) == VK_SUCCESS, "no block is allocated");
     VkDeviceSize size = stub_held_now(s).bytes[STUB_LOCAL_HEAP];
     expect(wtv_statistics(a, STUB_LOCAL, &sums) == VK_SUCCESS, "no statistics");

@@ -14,33 +14,28 @@ typedef struct device {
 
 /* ---- Calls as they should be. ---- */
 
-static VkMemoryAllocateInfo object_info(uint32_t type, VkDeviceSize size)
+static VkDeviceMemory object_typed(const device *d, VkStructureType typed, uint32_t type, VkDeviceSize size,
+                                   const void *next)
 {
-    return (VkMemoryAllocateInfo){
-        .sType = VK_STRUCTURE_TYPE_MEMORY_ALLOCATE_INFO,
-        .allocationSize = size,
-        .memoryTypeIndex = type,
-    };
-}
-
-static VkDeviceMemory allocated(const device *d, const VkMemoryAllocateInfo *info)
-{
+    const VkMemoryAllocateInfo info = {typed, next, size, type};
     VkDeviceMemory memory = VK_NULL_HANDLE;
-    stub_table.allocate_memory(d->handle, info, d->callbacks, &memory);
+    stub_table.allocate_memory(d->handle, &info, d->callbacks, &memory);
     return memory;
-}
-
-static VkDeviceMemory object_of(const device *d, uint32_t type)
-{
-    const VkMemoryAllocateInfo info = object_info(type, 4 * SIZE);
-    return allocated(d, &info);
 }
 
 static VkDeviceMemory object_chained(const device *d, uint32_t type, VkDeviceSize size, const void *next)
 {
-    VkMemoryAllocateInfo info = object_info(type, size);
-    info.pNext = next;
-    return allocated(d, &info);
+    return object_typed(d, VK_STRUCTURE_TYPE_MEMORY_ALLOCATE_INFO, type, size, next);
+}
+
+static VkDeviceMemory object_of(const device *d, uint32_t type)
+{
+    return object_chained(d, type, 4 * SIZE, NULL);
+}
+
+static void freed(const device *d, VkDeviceMemory memory)
+{
+    stub_table.free_memory(d->handle, memory, d->callbacks);
 }
 
 static void mapped(const device *d, VkDeviceMemory memory, VkDeviceSize offset, VkDeviceSize size)
@@ -62,25 +57,31 @@ static VkBuffer buffer_of(const device *d, const VkBufferCreateInfo *info)
     return buffer;
 }
 
-static VkBuffer buffer_made(const device *d)
+static VkBuffer buffer_sized(const device *d, VkDeviceSize size)
 {
-    const VkBufferCreateInfo info = stub_buffer_info(1000);
+    const VkBufferCreateInfo info = stub_buffer_info(size);
     return buffer_of(d, &info);
 }
 
-static VkImage image_of(const device *d, const VkImageCreateInfo *info)
+static VkBuffer buffer_made(const device *d)
 {
+    return buffer_sized(d, 1000);
+}
+
+static VkImage image_of(const device *d, uint32_t width, VkImageCreateFlags flags, bool is_optimal)
+{
+    VkImageCreateInfo info = stub_image_info(width, 10, is_optimal);
     VkImage image = VK_NULL_HANDLE;
-    stub_table.create_image(d->handle, info, d->callbacks, &image);
+    info.flags = flags;
+    stub_table.create_image(d->handle, &info, d->callbacks, &image);
     return image;
 }
 
-/* An image of this tiling that may lie in a shared object, or that may not. */
-static VkImage image_made(const device *d, bool is_optimal, bool requires_own)
+/* An image that may lie in a shared object, or that may not. */
+static VkImage image_made(const device *d, bool requires_own)
 {
     for (uint32_t width = 1;; width++) {
-        const VkImageCreateInfo info = stub_image_info(width, 10, is_optimal);
-        VkImage image = image_of(d, &info);
+        VkImage image = image_of(d, width, 0, true);
         bool found;
         VkMemoryRequirements needs = stub_needs_of_image(d->driver, image, &found);
         if (found == requires_own && needs.size <= SIZE)
@@ -96,16 +97,20 @@ static void bound(const device *d, VkBuffer buffer, VkDeviceMemory memory, VkDev
 
 /* ---- Rules broken. ---- */
 
-static void use_a_handle_of_another_kind(const device *d)
-{
-    VkPhysicalDeviceMemoryProperties memory;
-    stub_table.get_physical_device_memory_properties((VkPhysicalDevice)(void *)d->handle, &memory);
-}
+#define RULE(name, ...) \
+    static void name(const device *d) \
+    { \
+        __VA_ARGS__; \
+    }
+
+RULE(use_a_handle_of_another_kind,
+     stub_table.get_physical_device_memory_properties((VkPhysicalDevice)(void *)d->handle,
+                                                      &(VkPhysicalDeviceMemoryProperties){0}))
 
 static void map_what_was_freed(const device *d)
 {
     VkDeviceMemory memory = object_of(d, STUB_COHERENT);
-    stub_table.free_memory(d->handle, memory, d->callbacks);
+    freed(d, memory);
     object_of(d, STUB_COHERENT); /* which takes its place */
     mapped(d, memory, 0, SIZE);
 }
@@ -113,20 +118,13 @@ static void map_what_was_freed(const device *d)
 static void free_twice(const device *d)
 {
     VkDeviceMemory memory = object_of(d, STUB_COHERENT);
-    stub_table.free_memory(d->handle, memory, d->callbacks);
-    stub_table.free_memory(d->handle, memory, d->callbacks);
+    freed(d, memory);
+    freed(d, memory);
 }
 
-static void destroy_as_a_buffer(const device *d)
-{
-    VkImage image = image_made(d, true, false);
-    stub_table.destroy_buffer(d->handle, (VkBuffer)(uint64_t)image, d->callbacks);
-}
-
-static void bind_an_unknown_object(const device *d)
-{
-    bound(d, buffer_made(d), (VkDeviceMemory)(uint64_t)7, 0);
-}
+RULE(destroy_as_a_buffer,
+     stub_table.destroy_buffer(d->handle, (VkBuffer)(uint64_t)image_made(d, false), d->callbacks))
+RULE(bind_an_unknown_object, bound(d, buffer_made(d), (VkDeviceMemory)(uint64_t)7, 0))
 
 static void use_properties2(const device *d)
 {
@@ -176,56 +174,34 @@ static void leave_requirements2_untyped(const device *d)
 {
     const VkImageMemoryRequirementsInfo2 info = {
         .sType = VK_STRUCTURE_TYPE_IMAGE_MEMORY_REQUIREMENTS_INFO_2,
-        .image = image_made(d, true, false),
+        .image = image_made(d, false),
     };
-    VkMemoryRequirements2 needs = {0};
-    stub_table.get_image_memory_requirements2(d->handle, &info, &needs);
+    stub_table.get_image_memory_requirements2(d->handle, &info, &(VkMemoryRequirements2){0});
 }
 
-static void leave_an_object_untyped(const device *d)
-{
-    VkMemoryAllocateInfo info = object_info(STUB_LOCAL, SIZE);
-    info.sType = VK_STRUCTURE_TYPE_APPLICATION_INFO;
-    allocated(d, &info);
-}
+static const VkMemoryPriorityAllocateInfoEXT priority = {VK_STRUCTURE_TYPE_MEMORY_PRIORITY_ALLOCATE_INFO_EXT, NULL, 0};
+static const VkMemoryPriorityAllocateInfoEXT second_priority = {VK_STRUCTURE_TYPE_MEMORY_PRIORITY_ALLOCATE_INFO_EXT,
+                                                                &priority, 0};
+static const VkMappedMemoryRange no_structure_of_objects = {.sType = VK_STRUCTURE_TYPE_MAPPED_MEMORY_RANGE};
+static const VkMemoryAllocateFlagsInfo wrong_mask = {VK_STRUCTURE_TYPE_MEMORY_ALLOCATE_FLAGS_INFO, NULL,
+                                                     VK_MEMORY_ALLOCATE_DEVICE_MASK_BIT, 0};
+static const VkMemoryAllocateFlagsInfo one_device = {VK_STRUCTURE_TYPE_MEMORY_ALLOCATE_FLAGS_INFO, NULL,
+                                                     VK_MEMORY_ALLOCATE_DEVICE_ADDRESS_BIT, 1};
+static const VkMemoryAllocateFlagsInfo address = {VK_STRUCTURE_TYPE_MEMORY_ALLOCATE_FLAGS_INFO, NULL,
+                                                  VK_MEMORY_ALLOCATE_DEVICE_ADDRESS_BIT, 0};
 
-static void chain_to_an_object(const device *d)
-{
-    const VkMappedMemoryRange range = {.sType = VK_STRUCTURE_TYPE_MAPPED_MEMORY_RANGE};
-    object_chained(d, STUB_LOCAL, SIZE, &range);
-}
-
-static void chain_to_an_object_twice(const device *d)
-{
-    const VkMemoryPriorityAllocateInfoEXT last = {.sType = VK_STRUCTURE_TYPE_MEMORY_PRIORITY_ALLOCATE_INFO_EXT};
-    const VkMemoryPriorityAllocateInfoEXT first = {.sType = last.sType, .pNext = &last};
-    object_chained(d, STUB_LOCAL, SIZE, &first);
-}
-
-static void ask_for_a_wrong_mask(const device *d)
-{
-    const VkMemoryAllocateFlagsInfo flags = {
-        .sType = VK_STRUCTURE_TYPE_MEMORY_ALLOCATE_FLAGS_INFO,
-        .flags = VK_MEMORY_ALLOCATE_DEVICE_MASK_BIT,
-    };
-    object_chained(d, STUB_LOCAL, SIZE, &flags);
-}
-
-static const VkMemoryAllocateFlagsInfo address = {
-    .sType = VK_STRUCTURE_TYPE_MEMORY_ALLOCATE_FLAGS_INFO,
-    .flags = VK_MEMORY_ALLOCATE_DEVICE_ADDRESS_BIT,
-};
-
-static void ask_for_addresses(const device *d)
-{
-    object_chained(d, STUB_LOCAL, SIZE, &address);
-}
+RULE(leave_an_object_untyped, object_typed(d, VK_STRUCTURE_TYPE_APPLICATION_INFO, STUB_LOCAL, SIZE, NULL))
+RULE(chain_to_an_object, object_chained(d, STUB_LOCAL, SIZE, &no_structure_of_objects))
+RULE(chain_to_an_object_twice, object_chained(d, STUB_LOCAL, SIZE, &second_priority))
+RULE(ask_for_a_wrong_mask, object_chained(d, STUB_LOCAL, SIZE, &wrong_mask))
+RULE(ask_for_one_device, object_chained(d, STUB_LOCAL, SIZE, &one_device))
+RULE(ask_for_addresses, object_chained(d, STUB_LOCAL, SIZE, &address))
+RULE(ask_for_no_addresses, object_of(d, STUB_COHERENT))
 
 static void give_no_callbacks(const device *d)
 {
-    const VkMemoryAllocateInfo info = object_info(STUB_LOCAL, SIZE);
-    VkDeviceMemory memory;
-    stub_table.allocate_memory(d->handle, &info, NULL, &memory);
+    const device without = {d->driver, d->handle, d->physical, NULL};
+    object_of(&without, STUB_LOCAL);
 }
 
 static void give_other_callbacks(const device *d)
@@ -235,31 +211,11 @@ static void give_other_callbacks(const device *d)
     stub_table.destroy_image(d->handle, VK_NULL_HANDLE, &others);
 }
 
-static void ask_for_a_type_that_is_not_there(const device *d)
-{
-    object_of(d, STUB_TYPES);
-}
-
-static void ask_for_a_type_that_never_serves(const device *d)
-{
-    object_of(d, STUB_LAZY);
-}
-
-static void ask_for_nothing(const device *d)
-{
-    object_chained(d, STUB_LOCAL, 0, NULL);
-}
-
-static void ask_for_too_much(const device *d)
-{
-    object_chained(d, STUB_LOCAL, (4 << 20) + 1, NULL);
-}
-
-static void pass_a_heap(const device *d)
-{
-    object_chained(d, STUB_LOCAL, 4 << 20, NULL);
-    object_chained(d, STUB_LOCAL, (2 << 20) + 1, NULL);
-}
+RULE(ask_for_a_type_that_is_not_there, object_of(d, STUB_TYPES))
+RULE(ask_for_a_type_that_never_serves, object_of(d, STUB_LAZY))
+RULE(ask_for_nothing, object_chained(d, STUB_LOCAL, 0, NULL))
+RULE(ask_for_too_much, object_chained(d, STUB_LOCAL, (4 << 20) + 1, NULL))
+RULE(pass_a_heap, object_chained(d, STUB_LOCAL, 4 << 20, NULL), object_chained(d, STUB_LOCAL, (2 << 20) + 1, NULL))
 
 static void pass_a_limit(const device *d)
 {
@@ -276,67 +232,36 @@ static void pass_a_budget(const device *d)
     object_of(d, STUB_LOCAL);
 }
 
-static void hold_too_many(const device *d)
+RULE(hold_too_many, for (int i = 0; i <= MOST_OBJECTS; i++) object_of(d, STUB_LOCAL))
+
+/* An object for these alone, of the size that the buffer needs and more. */
+static VkDeviceMemory own(const device *d, uint32_t type, VkBuffer buffer, VkImage image, VkDeviceSize more)
 {
-    for (int i = 0; i <= MOST_OBJECTS; i++)
-        object_of(d, STUB_LOCAL);
+    const VkMemoryDedicatedAllocateInfo owner = {VK_STRUCTURE_TYPE_MEMORY_DEDICATED_ALLOCATE_INFO, NULL, image, buffer};
+    return object_chained(d, type, stub_needs_of_buffer(d->driver, buffer).size + more, &owner);
 }
 
-static void own(const device *d, VkBuffer buffer, VkImage image, VkDeviceSize size)
-{
-    const VkMemoryDedicatedAllocateInfo owner = {
-        .sType = VK_STRUCTURE_TYPE_MEMORY_DEDICATED_ALLOCATE_INFO,
-        .buffer = buffer,
-        .image = image,
-    };
-    object_chained(d, STUB_LOCAL, size, &owner);
-}
-
-static void own_for_a_buffer(const device *d)
-{
-    VkBuffer buffer = buffer_made(d);
-    own(d, buffer, VK_NULL_HANDLE, stub_needs_of_buffer(d->driver, buffer).size);
-}
-
-static void own_for_two(const device *d)
-{
-    VkBuffer buffer = buffer_made(d);
-    own(d, buffer, image_made(d, true, false), stub_needs_of_buffer(d->driver, buffer).size);
-}
-
-static void own_of_another_size(const device *d)
-{
-    own(d, buffer_made(d), VK_NULL_HANDLE, 2 * SIZE);
-}
+RULE(own_for_a_buffer, own(d, STUB_LOCAL, buffer_made(d), VK_NULL_HANDLE, 0))
+RULE(own_for_two, own(d, STUB_LOCAL, buffer_made(d), image_made(d, false), 0))
+RULE(own_of_another_size, own(d, STUB_LOCAL, buffer_made(d), VK_NULL_HANDLE, SIZE))
 
 static void own_for_what_is_bound(const device *d)
 {
     VkBuffer buffer = buffer_made(d);
     bound(d, buffer, object_of(d, STUB_COHERENT), 0);
-    own(d, buffer, VK_NULL_HANDLE, stub_needs_of_buffer(d->driver, buffer).size);
+    own(d, STUB_LOCAL, buffer, VK_NULL_HANDLE, 0);
 }
 
-static void bind_to_what_another_owns(const device *d)
-{
-    VkBuffer buffer = buffer_made(d);
-    VkDeviceSize size = stub_needs_of_buffer(d->driver, buffer).size;
-    const VkMemoryDedicatedAllocateInfo owner = {
-        .sType = VK_STRUCTURE_TYPE_MEMORY_DEDICATED_ALLOCATE_INFO,
-        .buffer = buffer,
-    };
-    bound(d, buffer_made(d), object_chained(d, STUB_COHERENT, size, &owner), 0);
-}
-
-static void bind_what_has_to_be_alone(const device *d)
-{
-    stub_table.bind_image_memory(d->handle, image_made(d, true, true), object_of(d, STUB_LOCAL), 0);
-}
+RULE(bind_to_what_another_owns,
+     bound(d, buffer_made(d), own(d, STUB_COHERENT, buffer_made(d), VK_NULL_HANDLE, 0), 0))
+RULE(bind_what_has_to_be_alone,
+     stub_table.bind_image_memory(d->handle, image_made(d, true), object_of(d, STUB_LOCAL), 0))
 
 static void free_what_is_bound(const device *d)
 {
     VkDeviceMemory memory = object_of(d, STUB_COHERENT);
     bound(d, buffer_made(d), memory, 0);
-    stub_table.free_memory(d->handle, memory, d->callbacks);
+    freed(d, memory);
 }
 
 static void bind_twice(const device *d)
@@ -347,39 +272,20 @@ static void bind_twice(const device *d)
     bound(d, buffer, memory, SIZE);
 }
 
-static void bind_one_byte_off(const device *d)
-{
-    bound(d, buffer_made(d), object_of(d, STUB_COHERENT), 1);
-}
-
-static void bind_past_the_end(const device *d)
-{
-    bound(d, buffer_made(d), object_chained(d, STUB_COHERENT, 900, NULL), 0);
-}
-
-static void bind_behind_the_end(const device *d)
-{
-    bound(d, buffer_made(d), object_of(d, STUB_COHERENT), 4 * SIZE);
-}
+RULE(bind_one_byte_off, bound(d, buffer_made(d), object_of(d, STUB_COHERENT), 1))
+RULE(bind_past_the_end, bound(d, buffer_made(d), object_chained(d, STUB_COHERENT, 900, NULL), 0))
+RULE(bind_behind_the_end, bound(d, buffer_made(d), object_of(d, STUB_COHERENT), 4 * SIZE))
 
 static void bind_to_a_wrong_type(const device *d)
 {
     for (uint32_t size = 1;; size++) {
-        const VkBufferCreateInfo info = stub_buffer_info(size);
-        VkBuffer buffer = buffer_of(d, &info);
+        VkBuffer buffer = buffer_sized(d, size);
         if ((stub_needs_of_buffer(d->driver, buffer).memoryTypeBits >> STUB_LOCAL_VISIBLE & 1) == 0) {
             bound(d, buffer, object_of(d, STUB_LOCAL_VISIBLE), 0);
             return;
         }
         stub_table.destroy_buffer(d->handle, buffer, d->callbacks);
     }
-}
-
-static void bind_without_addresses(const device *d)
-{
-    VkBufferCreateInfo info = stub_buffer_info(1000);
-    info.usage |= VK_BUFFER_USAGE_SHADER_DEVICE_ADDRESS_BIT;
-    bound(d, buffer_of(d, &info), object_of(d, STUB_COHERENT), 0);
 }
 
 static void create_with_addresses(const device *d)
@@ -404,17 +310,11 @@ static void bind_to_the_same_page(const device *d)
     VkMemoryRequirements needs = stub_needs_of_buffer(d->driver, buffer);
     VkDeviceSize offset = (2 * PAGE - needs.size) / needs.alignment * needs.alignment;
     bool requires_own;
-    VkImage image = image_made(d, true, false);
+    VkImage image = image_made(d, false);
     VkMemoryRequirements image_needs = stub_needs_of_image(d->driver, image, &requires_own);
     must(image_needs.alignment <= PAGE && PAGE + image_needs.size <= offset, "an image does not fit before the buffer");
     bound(d, buffer, memory, offset);
     stub_table.bind_image_memory(d->handle, image, memory, PAGE);
-}
-
-static void create_a_wrong_buffer(const device *d)
-{
-    const VkBufferCreateInfo info = stub_buffer_info(0);
-    buffer_of(d, &info);
 }
 
 static void leave_a_buffer_untyped(const device *d)
@@ -424,23 +324,10 @@ static void leave_a_buffer_untyped(const device *d)
     buffer_of(d, &info);
 }
 
-static void create_a_wrong_image(const device *d)
-{
-    VkImageCreateInfo info = stub_image_info(1, 1, true);
-    info.flags = VK_IMAGE_CREATE_DISJOINT_BIT;
-    image_of(d, &info);
-}
-
-static void create_an_empty_image(const device *d)
-{
-    const VkImageCreateInfo info = stub_image_info(0, 1, true);
-    image_of(d, &info);
-}
-
-static void map_what_is_not_seen(const device *d)
-{
-    mapped(d, object_of(d, STUB_LOCAL), 0, SIZE);
-}
+RULE(create_a_wrong_buffer, buffer_sized(d, 0))
+RULE(create_a_wrong_image, image_of(d, 1, VK_IMAGE_CREATE_DISJOINT_BIT, true))
+RULE(create_an_empty_image, image_of(d, 0, 0, true))
+RULE(map_what_is_not_seen, mapped(d, object_of(d, STUB_LOCAL), 0, SIZE))
 
 static void map_twice(const device *d)
 {
@@ -449,26 +336,9 @@ static void map_twice(const device *d)
     mapped(d, memory, SIZE, SIZE);
 }
 
-static void map_past_the_end(const device *d)
-{
-    mapped(d, object_of(d, STUB_COHERENT), SIZE, 4 * SIZE);
-}
-
-static void map_with_flags(const device *d)
-{
-    void *bytes;
-    stub_table.map_memory(d->handle, object_of(d, STUB_COHERENT), 0, SIZE, 1, &bytes);
-}
-
-static void unmap_what_is_not_mapped(const device *d)
-{
-    stub_table.unmap_memory(d->handle, object_of(d, STUB_COHERENT));
-}
-
-static void flush_what_is_not_mapped(const device *d)
-{
-    flushed(d, object_of(d, STUB_CACHED), 0, ATOM);
-}
+RULE(map_past_the_end, mapped(d, object_of(d, STUB_COHERENT), SIZE, 4 * SIZE))
+RULE(map_with_flags, stub_table.map_memory(d->handle, object_of(d, STUB_COHERENT), 0, SIZE, 1, &(void *){NULL}))
+RULE(unmap_what_is_not_mapped, stub_table.unmap_memory(d->handle, object_of(d, STUB_COHERENT)))
 
 static VkDeviceMemory mapped_object(const device *d, uint32_t type)
 {
@@ -477,35 +347,13 @@ static VkDeviceMemory mapped_object(const device *d, uint32_t type)
     return memory;
 }
 
-static void flush_from_within_an_atom(const device *d)
-{
-    flushed(d, mapped_object(d, STUB_CACHED), ATOM + 1, ATOM - 1);
-}
-
-static void flush_up_to_within_an_atom(const device *d)
-{
-    flushed(d, mapped_object(d, STUB_CACHED), ATOM, ATOM - 1);
-}
-
-static void flush_before_what_is_mapped(const device *d)
-{
-    flushed(d, mapped_object(d, STUB_CACHED), 0, ATOM);
-}
-
-static void flush_behind_what_is_mapped(const device *d)
-{
-    flushed(d, mapped_object(d, STUB_CACHED), ATOM, 3 * ATOM);
-}
-
-static void flush_what_is_coherent(const device *d)
-{
-    flushed(d, mapped_object(d, STUB_COHERENT), ATOM, ATOM);
-}
-
-static void flush_no_range(const device *d)
-{
-    stub_table.flush_mapped_memory_ranges(d->handle, 0, NULL);
-}
+RULE(flush_what_is_not_mapped, flushed(d, object_of(d, STUB_CACHED), 0, ATOM))
+RULE(flush_from_within_an_atom, flushed(d, mapped_object(d, STUB_CACHED), ATOM + 1, ATOM - 1))
+RULE(flush_up_to_within_an_atom, flushed(d, mapped_object(d, STUB_CACHED), ATOM, ATOM - 1))
+RULE(flush_before_what_is_mapped, flushed(d, mapped_object(d, STUB_CACHED), 0, ATOM))
+RULE(flush_behind_what_is_mapped, flushed(d, mapped_object(d, STUB_CACHED), ATOM, 3 * ATOM))
+RULE(flush_what_is_coherent, flushed(d, mapped_object(d, STUB_COHERENT), ATOM, ATOM))
+RULE(flush_no_range, stub_table.flush_mapped_memory_ranges(d->handle, 0, NULL))
 
 static void flush_an_untyped_range(const device *d)
 {
@@ -513,21 +361,18 @@ static void flush_an_untyped_range(const device *d)
     stub_table.flush_mapped_memory_ranges(d->handle, 1, &range);
 }
 
-static void use_what_is_not_bound(const device *d)
-{
-    stub_buffer_bytes(d->driver, buffer_made(d));
-}
-
-static void use_more_than_an_object(const device *d)
-{
-    stub_memory_bytes(d->driver, object_of(d, STUB_LOCAL), SIZE, 4 * SIZE);
-}
+RULE(use_what_is_not_bound, stub_buffer_bytes(d->driver, buffer_made(d)))
+RULE(use_more_than_an_object, stub_memory_bytes(d->driver, object_of(d, STUB_LOCAL), SIZE, 4 * SIZE))
+/* These are left at the end, which is no failure before. */
+RULE(leave_an_object, object_of(d, STUB_LOCAL))
+RULE(leave_a_buffer, buffer_made(d))
+RULE(leave_an_image, image_of(d, 10, 0, true))
 
 /* ---- Rows. ---- */
 
 /* What is left at the end is a failure too, and comes behind the first one. */
 typedef struct rule {
-    const char *wanted;
+    const char *wanted; /* or null, where nothing but that is found */
     void (*break_it)(const device *);
     uint32_t flags, api_version;
     bool has_callbacks;
@@ -553,6 +398,7 @@ static const rule rules[] = {
     {"a wrong chain", chain_to_an_object, NEW},
     {"a wrong chain", chain_to_an_object_twice, NEW},
     {"wrong flags", ask_for_a_wrong_mask, NEW, ADDRESSES},
+    {"wrong flags", ask_for_one_device, NEW, ADDRESSES},
     {"device addresses are not enabled", ask_for_addresses, NEW},
     {"other callbacks than the program's", give_no_callbacks, NEW, .has_callbacks = true},
     {"other callbacks than the program's", give_other_callbacks, NEW, .has_callbacks = true},
@@ -576,7 +422,7 @@ static const rule rules[] = {
     {"a resource passes the end", bind_past_the_end, NEW},
     {"a resource passes the end", bind_behind_the_end, NEW},
     {"a memory type that does not serve", bind_to_a_wrong_type, NEW},
-    {"an object without addresses", bind_without_addresses, NEW, ADDRESSES},
+    {"an object without addresses", ask_for_no_addresses, NEW, ADDRESSES},
     {"device addresses are not enabled", create_with_addresses, NEW},
     {"two resources share a byte", bind_over_another, NEW},
     {"a linear and an optimal resource share a page", bind_to_the_same_page, NEW},
@@ -599,22 +445,10 @@ static const rule rules[] = {
     {"a wrong sType", flush_an_untyped_range, NEW},
     {"a resource that is not bound", use_what_is_not_bound, NEW},
     {"a bad range", use_more_than_an_object, NEW},
+    {NULL, leave_an_object, NEW},
+    {NULL, leave_a_buffer, NEW},
+    {NULL, leave_an_image, NEW},
 };
-
-static VKAPI_ATTR void *VKAPI_CALL allocate_by_program(void *user, size_t size, size_t alignment,
-                                                       VkSystemAllocationScope scope)
-{
-    (void)user, (void)alignment, (void)scope;
-    return malloc(size);
-}
-
-static VKAPI_ATTR void VKAPI_CALL free_by_program(void *user, void *memory)
-{
-    (void)user;
-    free(memory);
-}
-
-static const VkAllocationCallbacks callbacks = {.pfnAllocation = allocate_by_program, .pfnFree = free_by_program};
 
 static void run_rule(const rule *r)
 {
@@ -625,48 +459,25 @@ static void run_rule(const rule *r)
     plan.page = PAGE;
     plan.max_objects = MOST_OBJECTS;
     plan.is_quiet = true;
-    plan.callbacks = r->has_callbacks ? &callbacks : NULL;
+    plan.callbacks = r->has_callbacks ? &stub_callbacks : NULL;
     stub *driver = stub_open(&plan);
     wtv_create_info info = stub_info(driver);
     const device d = {driver, info.device, info.physical_device, plan.callbacks};
     r->break_it(&d);
     const char *found = stub_first_failure(driver);
-    if (found == NULL || strcmp(found, r->wanted) != 0) {
-        fprintf(stderr, "FAILED: the stub finds '%s', and not '%s'\n", found != NULL ? found : "nothing", r->wanted);
+    if (found != r->wanted && (found == NULL || r->wanted == NULL || strcmp(found, r->wanted) != 0)) {
+        fprintf(stderr, "FAILED: the stub finds '%s', and not '%s'\n", found != NULL ? found : "nothing",
+                r->wanted != NULL ? r->wanted : "nothing");
         exit(1);
     }
-    must(stub_close(driver) > 0, "a failure is not counted");
-}
-
-/* What is left at the end: an object, a buffer, or an image. */
-static void run_leaks(void)
-{
-    static const char *const wanted[] = {"memory objects are not freed", "buffers are not destroyed",
-                                         "images are not destroyed"};
-    for (int i = 0; i < 3; i++) {
-        stub_plan plan = stub_usual_plan();
-        plan.is_quiet = true;
-        stub *driver = stub_open(&plan);
-        wtv_create_info info = stub_info(driver);
-        const device d = {driver, info.device, info.physical_device, NULL};
-        const VkBufferCreateInfo buffer = stub_buffer_info(10);
-        const VkImageCreateInfo image = stub_image_info(10, 10, true);
-        if (i == 0)
-            object_of(&d, STUB_LOCAL);
-        else if (i == 1)
-            buffer_of(&d, &buffer);
-        else
-            image_of(&d, &image);
-        must(stub_failures(driver) == 0, wanted[i]);
-        must(stub_close(driver) == 1, wanted[i]);
-    }
+    uint64_t failures = stub_close(driver);
+    must(r->wanted == NULL ? failures == 1 : failures > 0, "a failure is not counted");
 }
 
 int main(void)
 {
     for (size_t i = 0; i < LENGTH(rules); i++)
         run_rule(&rules[i]);
-    run_leaks();
-    printf("strict: the stub finds each of %zu broken rules\n", LENGTH(rules) + 3);
+    printf("strict: the stub finds each of %zu broken rules\n", LENGTH(rules));
     return 0;
 }

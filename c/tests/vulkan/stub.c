@@ -23,13 +23,15 @@ const VkMemoryType stub_types[STUB_TYPES] = {
     [STUB_LAZY] = {LOCAL | VK_MEMORY_PROPERTY_LAZILY_ALLOCATED_BIT, STUB_LOCAL_HEAP},
     [STUB_PROTECTED] = {LOCAL | VK_MEMORY_PROPERTY_PROTECTED_BIT, STUB_LOCAL_HEAP},
 };
+const size_t stub_sizes[] = {sizeof(stub_plan), sizeof(wtv_create_info), sizeof(stub_held), sizeof(stub_object)};
+
 const VkMemoryHeap stub_heaps[STUB_HEAPS] = {
     [STUB_LOCAL_HEAP] = {6 << 20, VK_MEMORY_HEAP_DEVICE_LOCAL_BIT},
     [STUB_HOST_HEAP] = {8 << 20, 0},
     [STUB_VISIBLE_HEAP] = {2 << 20, VK_MEMORY_HEAP_DEVICE_LOCAL_BIT},
 };
 
-static const char *const names[STUB_FUNCTIONS] = {
+const char *const stub_names[STUB_FUNCTIONS] = {
     "vkGetPhysicalDeviceProperties",
     "vkGetPhysicalDeviceMemoryProperties",
     "vkGetPhysicalDeviceProperties2",
@@ -79,7 +81,7 @@ typedef enum kind { OBJECT = 1, BUFFER, IMAGE } kind;
 
 typedef struct resource {
     kind kind;
-    bool is_optimal, has_address, requires_own, prefers_own;
+    bool is_optimal, requires_own, prefers_own;
     uint64_t handle;
     VkDeviceSize size; /* the bytes that the device uses */
     VkMemoryRequirements needs;
@@ -123,12 +125,11 @@ struct stub {
     VkDeviceSize limits[STUB_HEAPS], budgets[STUB_HEAPS], beside[STUB_HEAPS];
     bool is_budget_read;
     uint64_t budgets_below;
-    bool is_hidden[STUB_FUNCTIONS];
 
     /* Written before threads run. */
-    stub_function refused;
+    stub_function hidden, refused; /* STUB_ANY: none is hidden; STUB_FUNCTIONS: none is refused */
     VkResult result;
-    bool is_each, is_device_lost_soon;
+    bool is_each;
 
     /* Atomic. */
     uint64_t skip, draws, failures;
@@ -137,7 +138,6 @@ struct stub {
 };
 
 static __thread uint64_t calls_of_thread[STUB_FUNCTIONS];
-static __thread volatile unsigned work_depth; /* volatile: to the compiler, a calloc does not read it */
 
 static uint64_t counted(uint64_t *counter, uint64_t more)
 {
@@ -177,17 +177,10 @@ static uint64_t drawn(stub *s, uint64_t bound)
     return (mixed(s->plan.seed ^ mixed(counted(&s->draws, 1))) >> 16) % bound;
 }
 
-bool stub_is_at_work(void)
-{
-    return work_depth > 0;
-}
-
 /* Zeroed memory of the driver's own, which never lacks. */
 static void *taken(size_t size)
 {
-    work_depth++;
     void *memory = calloc(1, size);
-    work_depth--;
     must(memory != NULL, "the stub lacks memory");
     return memory;
 }
@@ -197,10 +190,8 @@ static void *record_taken(size_t size, const VkAllocationCallbacks *callbacks)
 {
     if (callbacks == NULL)
         return taken(size);
-    work_depth++;
     void *record =
         callbacks->pfnAllocation(callbacks->pUserData, size, sizeof(uint64_t), VK_SYSTEM_ALLOCATION_SCOPE_OBJECT);
-    work_depth--;
     must(record != NULL, "a callback lacks memory");
     return memset(record, 0, size);
 }
@@ -220,7 +211,7 @@ static void check_callbacks(stub *s, const VkAllocationCallbacks *given, stub_fu
     if (given != NULL && wanted != NULL)
         is_same = given->pUserData == wanted->pUserData && given->pfnAllocation == wanted->pfnAllocation
                   && given->pfnReallocation == wanted->pfnReallocation && given->pfnFree == wanted->pfnFree;
-    holds(s, is_same, names[called], "other callbacks than the program's");
+    holds(s, is_same, stub_names[called], "other callbacks than the program's");
 }
 
 static table *table_of(stub *s, kind of)
@@ -286,9 +277,11 @@ static void *record_removed(stub *s, kind of, uint64_t handle, const char *name)
 static stub *begun(const dispatched *handle, size_t place, stub_function called)
 {
     stub *s = handle->of;
-    holds(s, (const char *)handle == (const char *)s + place, names[called], "a handle of another kind");
+    holds(s, (const char *)handle == (const char *)s + place, stub_names[called], "a handle of another kind");
     counted(&s->calls[called], 1);
     calls_of_thread[called]++;
+    if (s->plan.called != NULL)
+        s->plan.called(s->plan.user, stub_names[called]);
     return s;
 }
 
@@ -302,29 +295,25 @@ static stub *begun_of_physical(VkPhysicalDevice physical, stub_function called)
     return begun((const dispatched *)physical, offsetof(stub, physical), called);
 }
 
-static size_t errors_count(stub_function called)
+/* The place of an error of a function's, or of the VK_SUCCESS behind them. */
+static size_t place_of_error(stub_function called, VkResult error)
 {
-    size_t count = 0;
-    while (errors[called][count] != VK_SUCCESS)
-        count++;
-    return count;
+    size_t place = 0;
+    while (errors[called][place] != error && errors[called][place] != VK_SUCCESS)
+        place++;
+    return place;
 }
 
 static VkResult refused_with(stub *s, stub_function called, VkResult result)
 {
-    size_t error = 0;
-    while (errors[called][error] != result && errors[called][error] != VK_SUCCESS)
-        error++;
-    must(errors[called][error] == result, "a function is to be refused with an error that it does not have");
-    counted(&s->refusals[called][error], 1);
+    counted(&s->refusals[called][place_of_error(called, result)], 1);
     return result;
 }
 
 /* What a call that can fail has to return at once, or VK_SUCCESS. */
 static VkResult refusal(stub *s, stub_function called)
 {
-    uint32_t percent = __atomic_load_n(&s->plan.percent, __ATOMIC_RELAXED);
-    if (called == s->refused || s->is_device_lost_soon) {
+    if (called == s->refused || s->refused == STUB_ANY) {
         bool is_now = read_count(&s->skip) == 0;
         if (!is_now)
             counted(&s->skip, (uint64_t)-1);
@@ -333,29 +322,19 @@ static VkResult refusal(stub *s, stub_function called)
         if (is_now)
             return refused_with(s, called, s->result);
     }
-    if (percent > 0 && drawn(s, 100) < percent)
-        return refused_with(s, called, errors[called][drawn(s, errors_count(called))]);
+    if (s->plan.percent > 0 && drawn(s, 100) < s->plan.percent)
+        return refused_with(s, called, errors[called][drawn(s, place_of_error(called, VK_SUCCESS))]);
     return VK_SUCCESS;
 }
 
 void stub_refuse(stub *s, stub_function refused, VkResult result, uint64_t skip, bool is_each)
 {
+    must(refused >= STUB_FUNCTIONS || errors[refused][place_of_error(refused, result)] == result,
+         "a function is to be refused with an error that it does not have");
     s->refused = refused;
     s->result = result;
     s->skip = skip;
     s->is_each = is_each;
-    s->is_device_lost_soon = false;
-}
-
-void stub_lose_device(stub *s, uint64_t skip)
-{
-    stub_refuse(s, STUB_FUNCTIONS, VK_ERROR_DEVICE_LOST, skip, true);
-    s->is_device_lost_soon = true;
-}
-
-void stub_set_percent(stub *s, uint32_t percent)
-{
-    __atomic_store_n(&s->plan.percent, percent, __ATOMIC_RELAXED);
 }
 
 const VkResult *stub_errors_of(stub_function called)
@@ -441,11 +420,14 @@ static void fill_properties(const stub *s, VkPhysicalDeviceProperties *propertie
     properties->limits.bufferImageGranularity = s->plan.page;
 }
 
-static void fill_memory(VkPhysicalDeviceMemoryProperties *properties)
+static void fill_memory(const stub *s, VkPhysicalDeviceMemoryProperties *properties)
 {
-    *properties = (VkPhysicalDeviceMemoryProperties){.memoryTypeCount = STUB_TYPES, .memoryHeapCount = STUB_HEAPS};
-    memcpy(properties->memoryTypes, stub_types, sizeof stub_types);
-    memcpy(properties->memoryHeaps, stub_heaps, sizeof stub_heaps);
+    *properties = (VkPhysicalDeviceMemoryProperties){
+        .memoryTypeCount = s->plan.types_count,
+        .memoryHeapCount = s->plan.heaps_count,
+    };
+    memcpy(properties->memoryTypes, s->plan.types, s->plan.types_count * sizeof *s->plan.types);
+    memcpy(properties->memoryHeaps, s->plan.heaps, s->plan.heaps_count * sizeof *s->plan.heaps);
 }
 
 static VKAPI_ATTR void VKAPI_CALL get_properties(VkPhysicalDevice physical, VkPhysicalDeviceProperties *properties)
@@ -456,15 +438,14 @@ static VKAPI_ATTR void VKAPI_CALL get_properties(VkPhysicalDevice physical, VkPh
 static VKAPI_ATTR void VKAPI_CALL get_memory_properties(VkPhysicalDevice physical,
                                                         VkPhysicalDeviceMemoryProperties *properties)
 {
-    begun_of_physical(physical, STUB_MEMORY_PROPERTIES);
-    fill_memory(properties);
+    fill_memory(begun_of_physical(physical, STUB_MEMORY_PROPERTIES), properties);
 }
 
 static VKAPI_ATTR void VKAPI_CALL get_properties2(VkPhysicalDevice physical, VkPhysicalDeviceProperties2 *properties)
 {
     static const VkStructureType types[] = {VK_STRUCTURE_TYPE_PHYSICAL_DEVICE_MAINTENANCE_3_PROPERTIES};
     stub *s = begun_of_physical(physical, STUB_PROPERTIES2);
-    const char *name = names[STUB_PROPERTIES2];
+    const char *name = stub_names[STUB_PROPERTIES2];
     holds(s, is_enabled(s, WTV_CREATE_PROPERTIES2), name, "a function that is not enabled");
     holds(s, properties->sType == VK_STRUCTURE_TYPE_PHYSICAL_DEVICE_PROPERTIES_2, name, "a wrong sType");
     holds(s, is_chain_of(properties->pNext, types, LENGTH(types)), name, "a wrong chain");
@@ -478,16 +459,16 @@ static VKAPI_ATTR void VKAPI_CALL get_properties2(VkPhysicalDevice physical, VkP
 static void draw_budget(stub *s, uint32_t heap)
 {
     uint64_t half = drawn(s, 4);
-    VkDeviceSize most = half == 2 ? s->used[heap] + 1 : stub_heaps[heap].size;
-    s->beside[heap] = half < 2 ? 0 : drawn(s, stub_heaps[heap].size / 8);
-    s->budgets[heap] = half < 2 ? stub_heaps[heap].size : 1 + s->beside[heap] + drawn(s, most);
+    VkDeviceSize size = s->plan.heaps[heap].size, most = half == 2 ? s->used[heap] + 1 : size;
+    s->beside[heap] = half < 2 ? 0 : drawn(s, size / 8);
+    s->budgets[heap] = half < 2 ? size : 1 + s->beside[heap] + drawn(s, most);
 }
 
 static void fill_budget(stub *s, VkPhysicalDeviceMemoryBudgetPropertiesEXT *budget)
 {
     enter(s);
     s->is_budget_read = true;
-    for (uint32_t i = 0; i < STUB_HEAPS; i++) {
+    for (uint32_t i = 0; i < s->plan.heaps_count; i++) {
         if (s->plan.draws_budgets)
             draw_budget(s, i);
         budget->heapBudget[i] = s->budgets[i];
@@ -502,12 +483,12 @@ static VKAPI_ATTR void VKAPI_CALL get_memory_properties2(VkPhysicalDevice physic
 {
     static const VkStructureType types[] = {VK_STRUCTURE_TYPE_PHYSICAL_DEVICE_MEMORY_BUDGET_PROPERTIES_EXT};
     stub *s = begun_of_physical(physical, STUB_MEMORY_PROPERTIES2);
-    const char *name = names[STUB_MEMORY_PROPERTIES2];
+    const char *name = stub_names[STUB_MEMORY_PROPERTIES2];
     holds(s, is_enabled(s, WTV_CREATE_PROPERTIES2), name, "a function that is not enabled");
     holds(s, properties->sType == VK_STRUCTURE_TYPE_PHYSICAL_DEVICE_MEMORY_PROPERTIES_2, name, "a wrong sType");
     holds(s, is_chain_of(properties->pNext, types, LENGTH(types)), name, "a wrong chain");
     VkPhysicalDeviceMemoryBudgetPropertiesEXT *budget = (void *)(uintptr_t)chained(properties->pNext, types[0]);
-    fill_memory(&properties->memoryProperties);
+    fill_memory(s, &properties->memoryProperties);
     if (budget != NULL) {
         holds(s, is_enabled(s, WTV_CREATE_MEMORY_BUDGET), name, "budgets are not enabled");
         fill_budget(s, budget);
@@ -516,20 +497,26 @@ static VKAPI_ATTR void VKAPI_CALL get_memory_properties2(VkPhysicalDevice physic
 
 /* ---- Memory objects. ---- */
 
-static bool is_coherent(uint32_t type)
+static bool has_property(const stub *s, uint32_t type, VkMemoryPropertyFlags property)
 {
-    return (stub_types[type].propertyFlags & COHERENT) != 0;
+    return (s->plan.types[type].propertyFlags & property) != 0;
 }
 
-static bool is_visible(uint32_t type)
+static bool is_coherent(const stub *s, const object *held)
 {
-    return (stub_types[type].propertyFlags & VISIBLE) != 0;
+    return has_property(s, held->type, COHERENT);
+}
+
+/* The heap of a memory type. */
+static uint32_t heap_of(const stub *s, uint32_t type)
+{
+    return s->plan.types[type].heapIndex;
 }
 
 /* The resource that an object is to be for alone, or 0. */
 static uint64_t owner_of(stub *s, const VkMemoryAllocateInfo *info)
 {
-    const char *name = names[STUB_ALLOCATE];
+    const char *name = stub_names[STUB_ALLOCATE];
     const VkMemoryDedicatedAllocateInfo *own =
         chained(info->pNext, VK_STRUCTURE_TYPE_MEMORY_DEDICATED_ALLOCATE_INFO);
     if (own == NULL || (own->buffer == VK_NULL_HANDLE && own->image == VK_NULL_HANDLE))
@@ -556,11 +543,13 @@ static void check_chain(stub *s, const VkMemoryAllocateInfo *info)
     };
     const VkMemoryAllocateFlagsInfo *address =
         chained(info->pNext, VK_STRUCTURE_TYPE_MEMORY_ALLOCATE_FLAGS_INFO);
-    const char *name = names[STUB_ALLOCATE];
+    const char *name = stub_names[STUB_ALLOCATE];
     holds(s, info->sType == VK_STRUCTURE_TYPE_MEMORY_ALLOCATE_INFO, name, "a wrong sType");
     holds(s, is_chain_of(info->pNext, types, LENGTH(types)), name, "a wrong chain");
+    holds(s, address != NULL || !is_enabled(s, WTV_CREATE_DEVICE_ADDRESS), name, "an object without addresses");
     if (address != NULL) {
-        holds(s, address->flags == VK_MEMORY_ALLOCATE_DEVICE_ADDRESS_BIT, name, "wrong flags");
+        holds(s, address->flags == VK_MEMORY_ALLOCATE_DEVICE_ADDRESS_BIT && address->deviceMask == 0, name,
+              "wrong flags");
         holds(s, is_enabled(s, WTV_CREATE_DEVICE_ADDRESS), name, "device addresses are not enabled");
     }
 }
@@ -568,12 +557,13 @@ static void check_chain(stub *s, const VkMemoryAllocateInfo *info)
 /* Whether the allocator may ask for one object more, of this size. Under the lock. */
 static void check_room(stub *s, uint32_t type, VkDeviceSize size)
 {
-    const char *name = names[STUB_ALLOCATE];
-    uint32_t heap = stub_types[type].heapIndex;
+    const char *name = stub_names[STUB_ALLOCATE];
+    uint32_t heap = heap_of(s, type);
     VkDeviceSize used = s->used[heap] + size;
-    holds(s, type < STUB_SERVING, name, "a memory type that must never be asked for");
+    holds(s, !has_property(s, type, ~(VkMemoryPropertyFlags)(LOCAL | VISIBLE | COHERENT | CACHED)), name,
+          "a memory type that must never be asked for");
     holds(s, size > 0 && size <= s->plan.largest, name, "a size that the device does not allow");
-    holds(s, used <= stub_heaps[heap].size, name, "an object passes its heap");
+    holds(s, used <= s->plan.heaps[heap].size, name, "an object passes its heap");
     holds(s, used <= s->limits[heap], name, "an object passes its heap's limit");
     holds(s, !s->is_budget_read || used + s->beside[heap] <= s->budgets[heap], name, "an object passes its budget");
     holds(s, s->objects.live < s->plan.max_objects, name, "an object too many");
@@ -593,18 +583,20 @@ static VKAPI_ATTR VkResult VKAPI_CALL allocate_memory(VkDevice device, const VkM
                                                       const VkAllocationCallbacks *callbacks, VkDeviceMemory *memory)
 {
     stub *s = begun_of_device(device, STUB_ALLOCATE);
-    const char *name = names[STUB_ALLOCATE];
+    const char *name = stub_names[STUB_ALLOCATE];
     uint32_t type = info->memoryTypeIndex;
     check_callbacks(s, callbacks, STUB_ALLOCATE);
     check_chain(s, info);
     uint64_t owner = owner_of(s, info);
-    if (!holds(s, type < STUB_TYPES, name, "no such memory type"))
+    if (!holds(s, type < s->plan.types_count, name, "no such memory type"))
         return VK_ERROR_UNKNOWN;
     VkResult refused = refusal(s, STUB_ALLOCATE);
+    if (refused == VK_SUCCESS && info->allocationSize > s->plan.granted)
+        refused = refused_with(s, STUB_ALLOCATE, VK_ERROR_OUT_OF_DEVICE_MEMORY);
     enter(s);
     check_room(s, type, info->allocationSize);
     if (refused == VK_SUCCESS)
-        s->used[stub_types[type].heapIndex] += info->allocationSize;
+        s->used[heap_of(s, type)] += info->allocationSize;
     leave(s);
     if (refused != VK_SUCCESS)
         return refused;
@@ -623,7 +615,7 @@ static VKAPI_ATTR void VKAPI_CALL free_memory(VkDevice device, VkDeviceMemory me
                                               const VkAllocationCallbacks *callbacks)
 {
     stub *s = begun_of_device(device, STUB_FREE);
-    const char *name = names[STUB_FREE];
+    const char *name = stub_names[STUB_FREE];
     check_callbacks(s, callbacks, STUB_FREE);
     if (memory == VK_NULL_HANDLE)
         return;
@@ -635,7 +627,7 @@ static VKAPI_ATTR void VKAPI_CALL free_memory(VkDevice device, VkDeviceMemory me
     for (resource *bound = freed->bound; bound != NULL; bound = bound->next)
         bound->memory = NULL;
     VkDeviceSize *used = freed->is_programs ? s->used_by_program : s->used;
-    used[stub_types[freed->type].heapIndex] -= freed->size;
+    used[heap_of(s, freed->type)] -= freed->size;
     leave(s);
     freed->is_mapped = false;
     free(freed->bytes);
@@ -647,9 +639,9 @@ static VKAPI_ATTR VkResult VKAPI_CALL map_memory(VkDevice device, VkDeviceMemory
                                                  VkDeviceSize size, VkMemoryMapFlags flags, void **bytes)
 {
     stub *s = begun_of_device(device, STUB_MAP);
-    const char *name = names[STUB_MAP];
+    const char *name = stub_names[STUB_MAP];
     object *mapped = record_of(s, OBJECT, (uint64_t)memory, name);
-    if (mapped == NULL || !holds(s, is_visible(mapped->type), name, "memory that the host does not see"))
+    if (mapped == NULL || !holds(s, has_property(s, mapped->type, VISIBLE), name, "memory that the host does not see"))
         return VK_ERROR_MEMORY_MAP_FAILED;
     holds(s, flags == 0, name, "wrong flags");
     holds(s, !mapped->is_mapped, name, "an object that is mapped");
@@ -658,22 +650,22 @@ static VKAPI_ATTR VkResult VKAPI_CALL map_memory(VkDevice device, VkDeviceMemory
     VkResult refused = refusal(s, STUB_MAP);
     if (refused != VK_SUCCESS)
         return refused;
-    if (!is_coherent(mapped->type) && mapped->cache == NULL)
+    if (!is_coherent(s, mapped) && mapped->cache == NULL)
         mapped->cache = memset(taken(mapped->size), NEVER_WRITTEN, mapped->size);
     mapped->is_mapped = true;
     mapped->first = offset;
     mapped->length = size;
-    *bytes = (is_coherent(mapped->type) ? mapped->bytes : mapped->cache) + offset;
+    *bytes = (is_coherent(s, mapped) ? mapped->bytes : mapped->cache) + offset;
     return VK_SUCCESS;
 }
 
 static VKAPI_ATTR void VKAPI_CALL unmap_memory(VkDevice device, VkDeviceMemory memory)
 {
     stub *s = begun_of_device(device, STUB_UNMAP);
-    object *mapped = record_of(s, OBJECT, (uint64_t)memory, names[STUB_UNMAP]);
+    object *mapped = record_of(s, OBJECT, (uint64_t)memory, stub_names[STUB_UNMAP]);
     if (mapped == NULL)
         return;
-    holds(s, mapped->is_mapped, names[STUB_UNMAP], "an object that is not mapped");
+    holds(s, mapped->is_mapped, stub_names[STUB_UNMAP], "an object that is not mapped");
     mapped->is_mapped = false;
 }
 
@@ -690,7 +682,7 @@ static object *object_of_range(stub *s, const VkMappedMemoryRange *range, const 
     bool is_within = range->size > 0 && range->offset >= mapped->first && end > range->offset
                      && end <= mapped->first + mapped->length;
     if (!holds(s, is_within, name, "a range that is not mapped")
-        || !holds(s, !is_coherent(mapped->type), name, "a range of coherent memory"))
+        || !holds(s, !is_coherent(s, mapped), name, "a range of coherent memory"))
         return NULL;
     return mapped;
 }
@@ -699,11 +691,13 @@ static object *object_of_range(stub *s, const VkMappedMemoryRange *range, const 
 static VkResult pass_ranges(VkDevice device, uint32_t count, const VkMappedMemoryRange *ranges, stub_function called)
 {
     stub *s = begun_of_device(device, called);
+    if (s->plan.passed != NULL)
+        s->plan.passed(s->plan.user, count, ranges);
     VkResult refused = refusal(s, called);
     uint32_t passed = refused == VK_SUCCESS ? count : (uint32_t)drawn(s, (uint64_t)count + 1);
-    holds(s, count > 0, names[called], "no range");
+    holds(s, count > 0, stub_names[called], "no range");
     for (uint32_t i = 0; i < count; i++) {
-        object *mapped = object_of_range(s, &ranges[i], names[called]);
+        object *mapped = object_of_range(s, &ranges[i], stub_names[called]);
         if (mapped == NULL || i >= passed)
             continue;
         unsigned char *device_side = mapped->bytes + ranges[i].offset, *host_side = mapped->cache + ranges[i].offset;
@@ -752,10 +746,17 @@ static void draw_own(resource *r)
 
 static uint64_t resource_made(stub *s, const resource *filled, const VkAllocationCallbacks *callbacks)
 {
+    const stub_plan *plan = &s->plan;
     resource *made = record_taken(sizeof *made, callbacks);
     *made = *filled;
-    made->needs = needs_of(made);
-    draw_own(made);
+    if (plan->alignment == 0) {
+        made->needs = needs_of(made);
+        draw_own(made);
+    } else {
+        made->needs = (VkMemoryRequirements){made->size, plan->alignment, plan->permitted};
+        made->requires_own = plan->requires_own;
+        made->prefers_own = plan->prefers_own;
+    }
     uint64_t handle = add_record(s, made->kind, made);
     made->handle = handle;
     return handle;
@@ -767,7 +768,7 @@ static void destroy_resource(stub *s, kind of, uint64_t handle, const VkAllocati
     check_callbacks(s, callbacks, called);
     if (handle == 0)
         return;
-    resource *destroyed = record_removed(s, of, handle, names[called]);
+    resource *destroyed = record_removed(s, of, handle, stub_names[called]);
     if (destroyed == NULL)
         return;
     enter(s);
@@ -785,7 +786,7 @@ static VKAPI_ATTR VkResult VKAPI_CALL create_buffer(VkDevice device, const VkBuf
                                                     const VkAllocationCallbacks *callbacks, VkBuffer *buffer)
 {
     stub *s = begun_of_device(device, STUB_CREATE_BUFFER);
-    const char *name = names[STUB_CREATE_BUFFER];
+    const char *name = stub_names[STUB_CREATE_BUFFER];
     bool has_address = (info->usage & VK_BUFFER_USAGE_SHADER_DEVICE_ADDRESS_BIT) != 0;
     check_callbacks(s, callbacks, STUB_CREATE_BUFFER);
     holds(s, info->sType == VK_STRUCTURE_TYPE_BUFFER_CREATE_INFO && info->pNext == NULL, name, "a wrong sType");
@@ -794,7 +795,7 @@ static VKAPI_ATTR VkResult VKAPI_CALL create_buffer(VkDevice device, const VkBuf
     VkResult refused = refusal(s, STUB_CREATE_BUFFER);
     if (refused != VK_SUCCESS)
         return refused;
-    const resource filled = {.kind = BUFFER, .size = info->size, .has_address = has_address};
+    const resource filled = {.kind = BUFFER, .size = info->size};
     *buffer = (VkBuffer)resource_made(s, &filled, callbacks);
     return VK_SUCCESS;
 }
@@ -803,7 +804,7 @@ static VKAPI_ATTR VkResult VKAPI_CALL create_image(VkDevice device, const VkImag
                                                    const VkAllocationCallbacks *callbacks, VkImage *image)
 {
     stub *s = begun_of_device(device, STUB_CREATE_IMAGE);
-    const char *name = names[STUB_CREATE_IMAGE];
+    const char *name = stub_names[STUB_CREATE_IMAGE];
     check_callbacks(s, callbacks, STUB_CREATE_IMAGE);
     holds(s, info->sType == VK_STRUCTURE_TYPE_IMAGE_CREATE_INFO && info->pNext == NULL, name, "a wrong sType");
     holds(s, info->imageType == VK_IMAGE_TYPE_2D && info->flags == 0 && info->usage != 0, name, "a wrong field");
@@ -839,18 +840,19 @@ static void fill_needs(stub *s, kind of, uint64_t handle, VkMemoryRequirements *
 
 static VKAPI_ATTR void VKAPI_CALL get_buffer_needs(VkDevice device, VkBuffer buffer, VkMemoryRequirements *needs)
 {
-    fill_needs(begun_of_device(device, STUB_BUFFER_NEEDS), BUFFER, (uint64_t)buffer, needs, names[STUB_BUFFER_NEEDS]);
+    stub *s = begun_of_device(device, STUB_BUFFER_NEEDS);
+    fill_needs(s, BUFFER, (uint64_t)buffer, needs, stub_names[STUB_BUFFER_NEEDS]);
 }
 
 static VKAPI_ATTR void VKAPI_CALL get_image_needs(VkDevice device, VkImage image, VkMemoryRequirements *needs)
 {
-    fill_needs(begun_of_device(device, STUB_IMAGE_NEEDS), IMAGE, (uint64_t)image, needs, names[STUB_IMAGE_NEEDS]);
+    fill_needs(begun_of_device(device, STUB_IMAGE_NEEDS), IMAGE, (uint64_t)image, needs, stub_names[STUB_IMAGE_NEEDS]);
 }
 
 static void fill_needs2(stub *s, kind of, uint64_t handle, VkMemoryRequirements2 *needs, stub_function called)
 {
     static const VkStructureType types[] = {VK_STRUCTURE_TYPE_MEMORY_DEDICATED_REQUIREMENTS};
-    const char *name = names[called];
+    const char *name = stub_names[called];
     const resource *r = record_of(s, of, handle, name);
     holds(s, is_enabled(s, WTV_CREATE_DEDICATED_ALLOCATION), name, "a function that is not enabled");
     holds(s, needs->sType == VK_STRUCTURE_TYPE_MEMORY_REQUIREMENTS_2, name, "a wrong sType");
@@ -868,7 +870,7 @@ static VKAPI_ATTR void VKAPI_CALL get_buffer_needs2(VkDevice device, const VkBuf
 {
     stub *s = begun_of_device(device, STUB_BUFFER_NEEDS2);
     holds(s, info->sType == VK_STRUCTURE_TYPE_BUFFER_MEMORY_REQUIREMENTS_INFO_2 && info->pNext == NULL,
-          names[STUB_BUFFER_NEEDS2], "a wrong sType");
+          stub_names[STUB_BUFFER_NEEDS2], "a wrong sType");
     fill_needs2(s, BUFFER, (uint64_t)info->buffer, needs, STUB_BUFFER_NEEDS2);
 }
 
@@ -877,7 +879,7 @@ static VKAPI_ATTR void VKAPI_CALL get_image_needs2(VkDevice device, const VkImag
 {
     stub *s = begun_of_device(device, STUB_IMAGE_NEEDS2);
     holds(s, info->sType == VK_STRUCTURE_TYPE_IMAGE_MEMORY_REQUIREMENTS_INFO_2 && info->pNext == NULL,
-          names[STUB_IMAGE_NEEDS2], "a wrong sType");
+          stub_names[STUB_IMAGE_NEEDS2], "a wrong sType");
     fill_needs2(s, IMAGE, (uint64_t)info->image, needs, STUB_IMAGE_NEEDS2);
 }
 
@@ -907,14 +909,13 @@ static bool is_place_for(stub *s, const resource *r, const object *memory, VkDev
     holds(s, memory->owner == 0 || (memory->owner == r->handle && offset == 0), name, "an object for another resource");
     holds(s, !r->requires_own || !is_enabled_own || memory->owner == r->handle, name,
           "a resource has to have an object of its own");
-    holds(s, !r->has_address || memory->has_address, name, "an object without addresses");
     return holds(s, offset < memory->size && r->needs.size <= memory->size - offset, name, "a resource passes the end");
 }
 
 static VkResult bind(stub *s, kind of, uint64_t handle, VkDeviceMemory memory, VkDeviceSize offset)
 {
     stub_function called = of == BUFFER ? STUB_BIND_BUFFER : STUB_BIND_IMAGE;
-    const char *name = names[called];
+    const char *name = stub_names[called];
     resource *r = record_of(s, of, handle, name);
     object *to = record_of(s, OBJECT, (uint64_t)memory, name);
     if (r == NULL || to == NULL || !holds(s, r->memory == NULL, name, "a resource is bound twice"))
@@ -972,28 +973,12 @@ const wtv_functions stub_table = {
     .bind_image_memory = bind_image,
 };
 
-static const PFN_vkVoidFunction functions[STUB_FUNCTIONS] = {
-    (PFN_vkVoidFunction)get_properties,
-    (PFN_vkVoidFunction)get_memory_properties,
-    (PFN_vkVoidFunction)get_properties2,
-    (PFN_vkVoidFunction)get_memory_properties2,
-    (PFN_vkVoidFunction)allocate_memory,
-    (PFN_vkVoidFunction)free_memory,
-    (PFN_vkVoidFunction)map_memory,
-    (PFN_vkVoidFunction)unmap_memory,
-    (PFN_vkVoidFunction)flush_ranges,
-    (PFN_vkVoidFunction)invalidate_ranges,
-    (PFN_vkVoidFunction)create_buffer,
-    (PFN_vkVoidFunction)destroy_buffer,
-    (PFN_vkVoidFunction)create_image,
-    (PFN_vkVoidFunction)destroy_image,
-    (PFN_vkVoidFunction)get_buffer_needs,
-    (PFN_vkVoidFunction)get_image_needs,
-    (PFN_vkVoidFunction)get_buffer_needs2,
-    (PFN_vkVoidFunction)get_image_needs2,
-    (PFN_vkVoidFunction)bind_buffer,
-    (PFN_vkVoidFunction)bind_image,
-};
+static PFN_vkVoidFunction function_at(stub_function called)
+{
+    PFN_vkVoidFunction found;
+    memcpy(&found, (const char *)&stub_table + (size_t)called * sizeof found, sizeof found);
+    return found;
+}
 
 /* The flag of the extension that a function came with, or 0. It is in the core from 1.1 on. */
 static uint32_t extension_of(stub_function called)
@@ -1007,8 +992,8 @@ static uint32_t extension_of(stub_function called)
 static bool is_name(const stub *s, stub_function called, const char *name)
 {
     uint32_t extension = extension_of(called);
-    size_t length = strlen(names[called]);
-    if (strncmp(names[called], name, length) != 0 || s->is_hidden[called])
+    size_t length = strlen(stub_names[called]);
+    if (strncmp(stub_names[called], name, length) != 0 || s->hidden == called)
         return false;
     if (strcmp(name + length, "KHR") == 0)
         return (s->plan.flags & extension) != 0;
@@ -1019,7 +1004,7 @@ static PFN_vkVoidFunction function_of(const stub *s, const char *name, int first
 {
     for (int i = first; i < STUB_FUNCTIONS; i++)
         if (is_name(s, (stub_function)i, name))
-            return functions[i];
+            return function_at((stub_function)i);
     return NULL;
 }
 
@@ -1038,14 +1023,14 @@ PFN_vkVoidFunction VKAPI_CALL stub_get_instance_proc_addr(VkInstance instance, c
         return NULL;
     stub *s = ((const dispatched *)instance)->of;
     holds(s, (const dispatched *)instance == &s->instance, "vkGetInstanceProcAddr", "a handle of another kind");
-    if (strcmp(name, "vkGetDeviceProcAddr") == 0)
+    if (strcmp(name, "vkGetDeviceProcAddr") == 0 && s->hidden != STUB_FUNCTIONS)
         return (PFN_vkVoidFunction)get_device_proc_addr;
     return function_of(s, name, STUB_PROPERTIES);
 }
 
 void stub_hide(stub *s, stub_function hidden)
 {
-    s->is_hidden[hidden] = true;
+    s->hidden = hidden;
 }
 
 /* ---- For the tests. ---- */
@@ -1059,6 +1044,11 @@ stub_plan stub_usual_plan(void)
         .atom = 256,
         .page = 4096,
         .largest = 4 << 20,
+        .granted = UINT64_MAX,
+        .types = stub_types,
+        .heaps = stub_heaps,
+        .types_count = STUB_TYPES,
+        .heaps_count = STUB_HEAPS,
     };
 }
 
@@ -1068,10 +1058,17 @@ stub *stub_open(const stub_plan *plan)
     s->plan = *plan;
     s->instance.of = s->physical.of = s->device.of = s;
     s->refused = STUB_FUNCTIONS;
+    s->hidden = STUB_ANY;
+    must(plan->types_count <= STUB_TYPES && plan->heaps_count <= STUB_HEAPS, "the stub lacks room");
     must(pthread_mutex_init(&s->lock, NULL) == 0, "the stub has no lock");
-    for (uint32_t i = 0; i < STUB_HEAPS; i++)
-        s->budgets[i] = s->limits[i] = stub_heaps[i].size;
+    for (uint32_t i = 0; i < plan->heaps_count; i++)
+        s->budgets[i] = s->limits[i] = plan->heaps[i].size;
     return s;
+}
+
+stub_plan *stub_plan_of(stub *s)
+{
+    return &s->plan;
 }
 
 /* Frees what the program left. */
@@ -1164,7 +1161,7 @@ VkDeviceMemory stub_make_object(stub *s, uint32_t memory_type, VkDeviceSize size
     enter(s);
     bool has_room = s->objects.live < s->plan.max_objects;
     if (has_room)
-        s->used_by_program[stub_types[memory_type].heapIndex] += size;
+        s->used_by_program[heap_of(s, memory_type)] += size;
     leave(s);
     if (!has_room)
         return VK_NULL_HANDLE;
@@ -1214,17 +1211,45 @@ VkMemoryRequirements stub_needs_of_image(stub *s, VkImage image, bool *requires_
     return r != NULL ? r->needs : (VkMemoryRequirements){0};
 }
 
-bool stub_is_mapped(stub *s, VkDeviceMemory memory)
+stub_object stub_object_of(stub *s, VkDeviceMemory memory)
 {
     const object *held = record_of(s, OBJECT, (uint64_t)memory, "a test");
-    return held != NULL && held->is_mapped;
+    if (held == NULL)
+        return (stub_object){0};
+    return (stub_object){held->size, held->owner, held->priority, held->is_mapped, held->has_address};
 }
 
-float stub_priority(stub *s, VkDeviceMemory memory)
+uint64_t stub_pieces_taken, stub_pieces_given;
+
+static VKAPI_ATTR void *VKAPI_CALL take_piece(void *user, size_t size, size_t alignment, VkSystemAllocationScope scope)
 {
-    const object *held = record_of(s, OBJECT, (uint64_t)memory, "a test");
-    return held != NULL ? held->priority : -1;
+    must(user == &stub_pieces_taken && alignment <= sizeof(uint64_t), "a callback gets something else");
+    (void)scope;
+    counted(&stub_pieces_taken, 1);
+    return malloc(size);
 }
+
+static VKAPI_ATTR void *VKAPI_CALL grow_piece(void *user, void *old, size_t size, size_t alignment,
+                                              VkSystemAllocationScope scope)
+{
+    must(false, "nothing grows by callbacks");
+    (void)user, (void)old, (void)size, (void)alignment, (void)scope;
+    return NULL;
+}
+
+static VKAPI_ATTR void VKAPI_CALL give_piece(void *user, void *piece)
+{
+    must(user == &stub_pieces_taken, "a callback gets something else");
+    counted(&stub_pieces_given, 1);
+    free(piece);
+}
+
+const VkAllocationCallbacks stub_callbacks = {
+    .pUserData = &stub_pieces_taken,
+    .pfnAllocation = take_piece,
+    .pfnReallocation = grow_piece,
+    .pfnFree = give_piece,
+};
 
 VkBufferCreateInfo stub_buffer_info(VkDeviceSize size)
 {

@@ -1,6 +1,9 @@
 /* A stub of a Vulkan driver for tests, whose memory objects are bytes of malloc's. It checks what Vulkan demands of a
  * program, and what the allocator promises beside that. It prints and counts each failure, and goes on.
  *
+ * It is a shared object: the tests in C and C++ link it, and those of the Rust crate load it, which have the structs
+ * below once more (rust/src/vulkan/tests/driver.rs).
+ *
  * It refuses calls by chance or as planned. What the host writes to memory that is not coherent reaches the device by a
  * flush alone, and what the device writes there reaches the host by an invalidate alone.
  *
@@ -87,7 +90,8 @@ typedef enum stub_function {
     STUB_IMAGE_NEEDS2,
     STUB_BIND_BUFFER,
     STUB_BIND_IMAGE,
-    STUB_FUNCTIONS
+    STUB_FUNCTIONS,
+    STUB_ANY /* each that can fail */
 } stub_function;
 
 /* A driver, and the device that was created over it. */
@@ -100,15 +104,28 @@ typedef struct stub_plan {
     uint32_t api_version; /* 0: 1.0 */
     uint32_t max_objects; /* maxMemoryAllocationCount */
     VkDeviceSize atom, page, largest; /* nonCoherentAtomSize, bufferImageGranularity, maxMemoryAllocationSize */
-    bool draws_budgets;               /* a new budget each time that it is read */
+    VkDeviceSize granted;             /* larger objects are refused for want of device memory */
+    const VkMemoryType *types;
+    const VkMemoryHeap *heaps;
+    uint32_t types_count, heaps_count; /* at most STUB_TYPES and STUB_HEAPS */
+    VkDeviceSize alignment; /* of each resource, which needs as many bytes as it has. 0: what it needs is drawn */
+    uint32_t permitted;     /* with an alignment: the memory types of each resource, */
+    VkBool32 prefers_own, requires_own; /* and whether it wants an object of its own */
     const VkAllocationCallbacks *callbacks; /* what each call that takes them has to be given, or null */
-    bool is_quiet;                          /* failures are counted, and not printed */
+    void (*called)(void *user, const char *name); /* hears of each call; or null */
+    void (*passed)(void *user, uint32_t count, const VkMappedMemoryRange *ranges); /* of each flush and invalidate */
+    void *user;         /* what those two get */
+    bool draws_budgets; /* a new budget each time that it is read */
+    bool is_quiet;      /* failures are counted, and not printed */
 } stub_plan;
 
 /* A device with the usual limits, which refuses nothing. */
 stub_plan stub_usual_plan(void);
 
 stub *stub_open(const stub_plan *plan);
+
+/* What was planned, which may be changed while no call is under way: but for callbacks and heaps. */
+stub_plan *stub_plan_of(stub *s);
 
 /* How many failures there were, with those of what is not freed. The driver is gone then. */
 uint64_t stub_close(stub *s);
@@ -120,31 +137,26 @@ wtv_create_info stub_info(stub *s);
 extern const wtv_functions stub_table;
 VKAPI_ATTR PFN_vkVoidFunction VKAPI_CALL stub_get_instance_proc_addr(VkInstance instance, const char *name);
 
-/* Loading does not find this function from now on. */
+/* Loading does not find this function from now on, and finds all others; STUB_FUNCTIONS: vkGetDeviceProcAddr. */
 void stub_hide(stub *s, stub_function hidden);
 
 /* ---- Refusals. ---- */
 
 /* After skip more calls of the function the next one is refused with this result, and each one after it where is_each.
-   One function at a time; STUB_FUNCTIONS ends it. */
+   One function at a time, or STUB_ANY; STUB_FUNCTIONS ends it. */
 void stub_refuse(stub *s, stub_function refused, VkResult result, uint64_t skip, bool is_each);
-
-/* After skip more calls that can fail, each one returns VK_ERROR_DEVICE_LOST. */
-void stub_lose_device(stub *s, uint64_t skip);
 
 /* What a function may return beside VK_SUCCESS: ends in VK_SUCCESS. A function that cannot fail has none. */
 const VkResult *stub_errors_of(stub_function called);
 
-void stub_set_percent(stub *s, uint32_t percent);
 uint64_t stub_calls(const stub *s, stub_function called);
 uint64_t stub_calls_of_thread(stub_function called); /* of all drivers */
+
+extern const char *const stub_names[STUB_FUNCTIONS];
 
 /* How often a function was refused, or refused with the error of that number in stub_errors_of. */
 uint64_t stub_refusals(const stub *s, stub_function called);
 uint64_t stub_refusals_with(const stub *s, stub_function called, size_t error);
-
-/* Whether the thread is in a function of the stub: then a malloc is the driver's. */
-bool stub_is_at_work(void);
 
 uint64_t stub_failures(const stub *s);
 
@@ -183,15 +195,28 @@ unsigned char *stub_image_bytes(stub *s, VkImage image);
 VkMemoryRequirements stub_needs_of_buffer(stub *s, VkBuffer buffer);
 VkMemoryRequirements stub_needs_of_image(stub *s, VkImage image, bool *requires_own);
 
-bool stub_is_mapped(stub *s, VkDeviceMemory memory);
+typedef struct stub_object {
+    VkDeviceSize size;
+    uint64_t owner; /* the handle of the one resource that it is for, or 0 */
+    float priority; /* that it was made with, or -1 */
+    bool is_mapped, has_address;
+} stub_object;
 
-/* The priority that a memory object was made with, or -1. */
-float stub_priority(stub *s, VkDeviceMemory memory);
+stub_object stub_object_of(stub *s, VkDeviceMemory memory);
 
-/* ---- Infos with their usual fields. ---- */
+/* The sizes of the structs that are handed over, for those who have them once more: of stub_plan, wtv_create_info,
+   stub_held and stub_object. */
+extern const size_t stub_sizes[4];
+
+/* ---- What a program hands over. ---- */
+
+/* Callbacks that count the pieces of memory that were taken by them, and those that were given back. */
+extern const VkAllocationCallbacks stub_callbacks;
+extern uint64_t stub_pieces_taken, stub_pieces_given;
+
+/* Infos with their usual fields. */
 
 VkBufferCreateInfo stub_buffer_info(VkDeviceSize size);
-
 /* An image of width * height texels of 4 bytes, and tiled or linear. */
 VkImageCreateInfo stub_image_info(uint32_t width, uint32_t height, bool is_optimal);
 

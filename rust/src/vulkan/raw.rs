@@ -329,4 +329,4 @@ pub(crate) const CREATE_SPARSE: u32 = 7;
 pub(crate) const CREATE_DISJOINT: u32 = 0x200;
 
 #[cfg(test)]
-mod headers;
+pub(super) mod headers;

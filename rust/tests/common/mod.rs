@@ -367,6 +367,21 @@ pub fn allocator(count: u32) -> GpuAllocator<Memory> {
     GpuAllocator::new(Config::i_am_potato(), offer(count))
 }
 
+/// Takes blocks back and cleans up, after which nothing is held. Answers how many objects remain.
+pub fn end(
+    mut allocator: GpuAllocator<Memory>,
+    device: &Device,
+    blocks: impl IntoIterator<Item = MemoryBlock<Memory>>,
+) -> u32 {
+    // SAFETY: the blocks are this allocator's, and there is one device.
+    unsafe {
+        blocks.into_iter().for_each(|block| allocator.dealloc(device, block));
+        allocator.cleanup(device);
+    }
+    assert_eq!(device.held(), 0);
+    allocator.remaining_allocations()
+}
+
 pub fn request(size: u64, usage: UsageFlags) -> Request {
     Request { size, align_mask: 0, usage, memory_types: !0 }
 }

@@ -69,9 +69,14 @@ fn compiles(text: &str) -> std::io::Result<Result<(), String>> {
     Ok(if ran.status.success() { Ok(()) } else { Err(String::from_utf8_lossy(&ran.stderr).into_owned()) })
 }
 
+/// Whether there are a C compiler and the headers of Vulkan.
+pub(crate) fn are_there() -> bool {
+    matches!(compiles("#include <vulkan/vulkan.h>\n"), Ok(Ok(())))
+}
+
 #[test]
 fn all_is_as_the_headers_have_it() {
-    if !matches!(compiles("#include <vulkan/vulkan.h>\n"), Ok(Ok(()))) {
+    if !are_there() {
         let left_out = "left out: that structs are those of vulkan.h, since there is no cc or no such header";
         return writeln!(std::io::stderr(), "{left_out}").expect("standard error can be written");
     }

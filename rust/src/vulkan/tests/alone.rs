@@ -6,20 +6,16 @@ use std::ptr::null;
 
 const MIB: u64 = 1 << 20;
 
-/// A stub whose shared objects have 8 MiB at least.
-fn large() -> Box<Stub> {
-    let stub = Stub::new();
-    stub.state().heap_size = 8 << 30;
-    stub
-}
+/// The heaps of a device whose shared objects have 8 MiB at least.
+const LARGE: u64 = 8 << 30;
 
 /// How often the driver was asked for an object.
-fn asked(stub: &Stub) -> usize {
-    stub.state().calls.iter().filter(|call| **call == "vkAllocateMemory").count()
+fn asked(stub: &Stub) -> u64 {
+    stub.calls_of("vkAllocateMemory")
 }
 
 /// Each kind of request is served by an object of its own size, and counts as one.
-fn served_alone(stub: Box<Stub>, mut allocator: Allocator) {
+fn served_alone(stub: Stub, mut allocator: Allocator) {
     let device = allocator.device().clone();
     for usage in [LOCAL, UPLOAD, DOWNLOAD, UPLOAD | UsageFlags::TRANSIENT] {
         for wish in [None, Some(Dedicated::Preferred)] {
@@ -27,7 +23,7 @@ fn served_alone(stub: Box<Stub>, mut allocator: Allocator) {
             let remaining = allocator.remaining_allocations();
             let made = buffer(&mut allocator, 4096, request);
             let other = image(&mut allocator, 32, request);
-            let size = |block: &MemoryBlock<Memory>| stub.state().objects[&block.memory().0].size;
+            let size = |block: &MemoryBlock<Memory>| object(&stub, block).size;
             assert_eq!((size(&made.block), size(&other.block)), (4096, 4096));
             assert_eq!(made.block.made_for(), Some(Resource::Buffer(made.handle)));
             assert_eq!(other.block.made_for(), Some(Resource::Image(other.handle)));
@@ -50,7 +46,7 @@ fn served_alone(stub: Box<Stub>, mut allocator: Allocator) {
 #[test]
 fn a_low_limit() {
     for sharing in [Sharing::Fit, Sharing::Buddy] {
-        let stub = large();
+        let stub = stub!(LARGE, [1, 0]);
         let mut allocator = allocator_with(&stub, sharing);
         [0, 1].into_iter().for_each(|heap| allocator.set_heap_limit(heap, MIB));
         served_alone(stub, allocator);
@@ -60,8 +56,8 @@ fn a_low_limit() {
 #[test]
 fn a_driver_that_refuses_large_objects() {
     for sharing in [Sharing::Fit, Sharing::Buddy] {
-        let stub = large();
-        stub.state().too_large = MIB + 1;
+        let stub = stub!(LARGE, [1, 0]);
+        stub.plan().granted = MIB;
         let allocator = allocator_with(&stub, sharing);
         served_alone(stub, allocator);
     }
@@ -70,18 +66,18 @@ fn a_driver_that_refuses_large_objects() {
 #[test]
 fn heaps_with_little_left() {
     for sharing in [Sharing::Fit, Sharing::Buddy] {
-        let stub = large();
+        let stub = stub!(LARGE, [1, 0]);
         let mut allocator = allocator_with(&stub, sharing);
-        let held = stub.state().heap_size - 3 * MIB;
+        let held = LARGE - 3 * MIB;
         let device = allocator.device().clone();
         let none = AllocationFlags::empty();
-        // SAFETY: the heaps have that much, and the objects are of those types.
+        // SAFETY: the objects are of those types. They are only said to have that much, and nobody uses them.
         let imports = [0, 1].map(|memory_type| unsafe {
-            let memory = device.allocate(held, memory_type, none, None, null()).unwrap();
+            let memory = device.allocate(64, memory_type, none, None, null()).unwrap();
             allocator.import(memory, memory_type, 0, held).unwrap()
         });
         let made = buffer(&mut allocator, 4096, LOCAL);
-        assert_eq!(stub.state().objects[&made.block.memory().0].size, 4096);
+        assert_eq!(object(&stub, &made.block).size, 4096);
         // SAFETY: they are this allocator's, and no device uses them.
         imports.into_iter().for_each(|block| unsafe { allocator.free(block) });
         end(stub, allocator, vec![made], vec![]);
@@ -91,7 +87,7 @@ fn heaps_with_little_left() {
 /// Each memory type is tried shared before any is tried alone.
 #[test]
 fn shared_first() {
-    let stub = large();
+    let stub = stub!(LARGE, [1, 0]);
     let mut allocator = allocator(&stub);
     allocator.set_heap_limit(0, MIB);
     let made = buffer(&mut allocator, 4096, LOCAL);
@@ -118,10 +114,10 @@ fn no_object_is_asked_for_twice() {
         (LOCAL.into(), 4096, MIB, 4),
         (LOCAL.into(), 4096, 100, 2),
         // Over the largest size of a request.
-        (LOCAL.into(), stub::LARGEST + 1, u64::MAX, 0),
+        (LOCAL.into(), driver::LARGEST + 1, u64::MAX, 0),
     ] {
-        let stub = large();
-        stub.state().too_large = 1;
+        let stub = stub!(LARGE, [1, 0]);
+        stub.plan().granted = 0;
         let mut allocator = allocator(&stub);
         allocator.set_heap_limit(1, limit);
         // SAFETY: the stub allows it.
@@ -136,12 +132,12 @@ fn no_object_is_asked_for_twice() {
 /// A shared object that cannot be mapped goes back, and is no reason to refuse.
 #[test]
 fn a_mapping_that_is_refused() {
-    let stub = large();
+    let stub = stub!(LARGE, [1, 0]);
     let mut allocator = allocator(&stub);
-    stub.refuse(3, VkResult::ERROR_OUT_OF_DEVICE_MEMORY);
+    stub.refuse_one(3, VkResult::ERROR_OUT_OF_DEVICE_MEMORY);
     let made = buffer(&mut allocator, 4096, MemoryRequest { memory_types: 2, ..UPLOAD.into() });
     assert_eq!((made.block.made_for(), stub.held()), (Some(Resource::Buffer(made.handle)), (1, 1, 0)));
-    assert_eq!(stub.state().calls.iter().filter(|call| **call == "vkMapMemory").count(), 1);
+    assert_eq!(stub.calls_of("vkMapMemory"), 1);
     end(stub, allocator, vec![made], vec![]);
 }
 
@@ -149,19 +145,24 @@ fn a_mapping_that_is_refused() {
 #[test]
 fn the_first_result() {
     let permitted = MemoryRequest { memory_types: 1, ..LOCAL.into() };
-    for (limit, too_large, number, first) in [
+    for (limit, granted, number, first) in [
         // The buffer is made, the shared object refused by the driver, and then the object of its own.
-        (u64::MAX, MIB, 3, Error::Driver { call: "vkAllocateMemory", result: VkResult::ERROR_OUT_OF_DEVICE_MEMORY }),
-        (MIB, 0, 2, Error::Allocation(AllocationError::OutOfDeviceMemory)),
+        (
+            u64::MAX,
+            MIB - 1,
+            3,
+            Error::Driver { call: "vkAllocateMemory", result: VkResult::ERROR_OUT_OF_DEVICE_MEMORY },
+        ),
+        (MIB, u64::MAX, 2, Error::Allocation(AllocationError::OutOfDeviceMemory)),
     ] {
-        let stub = large();
-        stub.state().too_large = too_large;
+        let stub = stub!(LARGE, [1, 0]);
+        stub.plan().granted = granted;
         let mut allocator = allocator(&stub);
         allocator.set_heap_limit(0, limit);
-        stub.refuse(number, VkResult::ERROR_DEVICE_LOST);
+        stub.refuse_one(number, VkResult::ERROR_DEVICE_LOST);
         // SAFETY: the stub allows it.
         let refused = unsafe { allocator.create_buffer(&buffer_info(4096), permitted) }.map(drop);
-        assert_eq!((refused, stub.state().asked), (Err(first), number));
+        assert_eq!((refused, stub.asked()), (Err(first), number));
         let made = buffer(&mut allocator, 4096, permitted);
         end(stub, allocator, vec![made], vec![]);
     }
@@ -171,15 +172,15 @@ fn the_first_result() {
 #[test]
 fn other_results_end_a_request() {
     for result in [VkResult::ERROR_OUT_OF_HOST_MEMORY, VkResult::ERROR_DEVICE_LOST] {
-        let stub = large();
+        let stub = stub!(LARGE, [1, 0]);
         let mut allocator = allocator(&stub);
-        stub.refuse(2, result);
+        stub.refuse_one(2, result);
         // SAFETY: the stub allows it.
         let refused = unsafe { allocator.create_buffer(&buffer_info(4096), LOCAL) }.map(drop);
         assert_eq!((refused.map_err(Error::result), asked(&stub)), (Err(result), 1));
         end(stub, allocator, vec![], vec![]);
     }
-    let stub = large();
+    let stub = stub!(LARGE, [1, 0]);
     let mut allocator = Allocator::new(stub.device_of(&DeviceInfo { other_objects: 100, ..stub.info() })).unwrap();
     // SAFETY: the stub allows it.
     let refused = unsafe { allocator.create_buffer(&buffer_info(4096), LOCAL) }.map(drop);
@@ -190,7 +191,7 @@ fn other_results_end_a_request() {
 /// The allocator without the Vulkan side does not ask again, as `gpu-alloc` does not. Its documents say how to.
 #[test]
 fn a_plain_allocator_does_not_ask_again() {
-    let stub = large();
+    let stub = stub!(LARGE, [1, 0]);
     let device = stub.device();
     let mut allocator = GpuAllocator::new(device.default_config(), device.device_properties());
     allocator.set_heap_limit(0, MIB);

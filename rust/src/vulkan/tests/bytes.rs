@@ -2,12 +2,12 @@
 
 use super::*;
 use crate::{AllocationError, MapError};
+use driver::ATOM;
 use std::panic::{catch_unwind, AssertUnwindSafe};
-use stub::ATOM;
 
 #[test]
 fn written_and_read_back() {
-    let stub = Stub::new();
+    let stub = stub!();
     let mut allocator = allocator(&stub);
     let mut buffers = vec![];
     for (usage, wish) in
@@ -39,14 +39,9 @@ fn written_and_read_back() {
     end(stub, allocator, buffers, vec![]);
 }
 
-/// The ranges that went to the driver since the last look.
-fn ranges(stub: &Stub) -> Vec<Vec<(u64, u64)>> {
-    std::mem::take(&mut stub.state().ranges)
-}
-
 #[test]
 fn flushed_where_it_has_to_be() {
-    let stub = Stub::new();
+    let stub = stub!();
     let mut allocator = allocator(&stub);
     let mut coherent = buffer(&mut allocator, 1000, UPLOAD);
     let mut cached = buffer(&mut allocator, 1000, dedicated(DOWNLOAD, Dedicated::Required));
@@ -54,11 +49,11 @@ fn flushed_where_it_has_to_be() {
     // SAFETY: no device uses the blocks. What is flushed is mapped.
     unsafe {
         allocator.write(&mut coherent.block, 0, &[1; 1000]).unwrap();
-        assert_eq!(ranges(&stub), [[]; 0]);
+        assert_eq!(stub.ranges(), [[]; 0]);
         allocator.write(&mut cached.block, 100, &[1; 100]).unwrap();
-        assert_eq!(ranges(&stub), [[(ATOM, 3 * ATOM)]]);
+        assert_eq!(stub.ranges(), [[(ATOM, 3 * ATOM)]]);
         allocator.read(&mut cached.block, 990, &mut [0; 10]).unwrap();
-        assert_eq!(ranges(&stub), [[(15 * ATOM, 1000 - 15 * ATOM)]]);
+        assert_eq!(stub.ranges(), [[(15 * ATOM, 1000 - 15 * ATOM)]]);
         for block in [&coherent.block, &cached.block] {
             assert_eq!(allocator.flush(&[(block, 0..1)]), Err(Error::NotMapped));
             assert_eq!(allocator.invalidate(&[(block, all(block))]), Err(Error::NotMapped));
@@ -67,21 +62,21 @@ fn flushed_where_it_has_to_be() {
         allocator.map(&mut cached.block).unwrap();
         let both = [(&coherent.block, all(&coherent.block)), (&cached.block, 1..65), (&cached.block, 0..0)];
         allocator.flush(&both).unwrap();
-        assert_eq!(ranges(&stub), [[(0, 2 * ATOM)]]);
+        assert_eq!(stub.ranges(), [[(0, 2 * ATOM)]]);
         allocator.invalidate(&both).unwrap();
-        assert_eq!(ranges(&stub), [[(0, 2 * ATOM)]]);
+        assert_eq!(stub.ranges(), [[(0, 2 * ATOM)]]);
         allocator.flush(&both[..1]).unwrap();
         allocator.flush(&[]).unwrap();
-        assert_eq!(ranges(&stub), [[]; 0]);
+        assert_eq!(stub.ranges(), [[]; 0]);
         // At most 16 ranges go to one call.
         allocator.flush(&vec![(&cached.block, 0..1); 35]).unwrap();
-        assert_eq!(ranges(&stub).iter().map(Vec::len).collect::<Vec<_>>(), [16, 16, 3]);
+        assert_eq!(stub.ranges().iter().map(Vec::len).collect::<Vec<_>>(), [16, 16, 3]);
         let past = cached.block.size() + 1;
         for range in [0..past, past..past] {
             let misused = AssertUnwindSafe(|| allocator.flush(&[(&cached.block, 0..1), (&cached.block, range)]));
             assert!(catch_unwind(misused).is_err());
         }
-        assert_eq!(ranges(&stub), [[]; 0]);
+        assert_eq!(stub.ranges(), [[]; 0]);
     }
     end(stub, allocator, vec![coherent, cached], vec![]);
 }
@@ -94,7 +89,7 @@ fn no_call_is_made_twice() {
     const UNMAP: &str = "vkUnmapMemory";
     const FLUSH: &str = "vkFlushMappedMemoryRanges";
     const INVALIDATE: &str = "vkInvalidateMappedMemoryRanges";
-    let stub = Stub::new();
+    let stub = stub!();
     let mut allocator = allocator(&stub);
     let own = |usage| dedicated(usage, Dedicated::Required);
     let mut buffers = vec![];
@@ -106,20 +101,19 @@ fn no_call_is_made_twice() {
     ] {
         let mut made = buffer(&mut allocator, 1000, request);
         let device = allocator.device().clone();
-        let calls = || std::mem::take(&mut stub.state().calls);
-        calls();
+        stub.heard();
         // SAFETY: no device uses the block.
         unsafe {
             made.block.write_bytes(&device, 1, &[1; 500]).unwrap();
-            assert_eq!(calls(), written);
+            assert_eq!(stub.heard(), written);
             made.block.read_bytes(&device, 1, &mut [0; 500]).unwrap();
-            assert_eq!(calls(), read);
+            assert_eq!(stub.heard(), read);
             allocator.write(&mut made.block, 1, &[1; 500]).unwrap();
-            assert_eq!(calls(), written);
+            assert_eq!(stub.heard(), written);
             allocator.read(&mut made.block, 1, &mut [0; 500]).unwrap();
-            assert_eq!(calls(), read);
+            assert_eq!(stub.heard(), read);
             allocator.write(&mut made.block, 1000, &[]).unwrap();
-            assert_eq!(calls(), [""; 0]);
+            assert_eq!(stub.heard(), [""; 0]);
         }
         buffers.push(made);
     }
@@ -128,7 +122,7 @@ fn no_call_is_made_twice() {
 
 #[test]
 fn imports() {
-    let stub = Stub::new();
+    let stub = stub!();
     let device = stub.device_of(&DeviceInfo { other_objects: 98, ..stub.info() });
     let mut allocator = Allocator::new(device.clone()).unwrap();
     let nothing = std::ptr::null();
@@ -138,7 +132,7 @@ fn imports() {
         let mut first = allocator.import(make(), 2, 64, 936).unwrap();
         assert_eq!((first.offset(), first.size(), first.memory_type()), (64, 936, 2));
         allocator.write(&mut first, 900, &[5; 36]).unwrap();
-        assert_eq!(ranges(&stub), [[(64 + 896, 40)]]);
+        assert_eq!(stub.ranges(), [[(64 + 896, 40)]]);
         let second = allocator.import(make(), 2, 0, 1000).unwrap();
         let third = make();
         let refused = allocator.import(third, 2, 0, 1000).err();
@@ -159,7 +153,7 @@ fn imports() {
 /// A block that several resources are bound to.
 #[test]
 fn two_resources_in_one_block() {
-    let stub = Stub::new();
+    let stub = stub!();
     let mut allocator = allocator(&stub);
     let device = allocator.device().clone();
     // SAFETY: the block serves both buffers, which are the stub's.
@@ -169,7 +163,7 @@ fn two_resources_in_one_block() {
         let block = allocator.allocate(&requirements, UPLOAD).unwrap();
         device.bind_buffer(one, &block, 0).unwrap();
         device.bind_buffer(other, &block, 512).unwrap();
-        assert_eq!(stub.state().buffers[&other.0].at, Some((block.memory().0, block.offset() + 512)));
+        assert!(is_bound(&stub, stub.buffer_bytes(other), &block, 512));
         [one, other].iter().for_each(|buffer| device.destroy(calls::Resource::Buffer(*buffer)));
         allocator.free(block);
     }
@@ -179,7 +173,7 @@ fn two_resources_in_one_block() {
 /// A report has each object and each live block.
 #[test]
 fn a_report() {
-    let stub = Stub::new();
+    let stub = stub!();
     let mut allocator = allocator(&stub);
     let empty = allocator.report().unwrap();
     let made = buffer(&mut allocator, 12_345, dedicated(LOCAL, Dedicated::Required));

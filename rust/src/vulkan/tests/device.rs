@@ -2,11 +2,11 @@
 
 use super::*;
 use crate::{Config, GpuAllocator, MemoryPropertyFlags};
-use stub::{ATOM, HEAP, LARGEST, PAGE};
+use driver::{ATOM, HEAP, LARGEST, PAGE};
 
 #[test]
 fn what_a_device_offers() {
-    let stub = Stub::new();
+    let stub = stub!();
     let device = stub.device_of(&DeviceInfo { other_objects: 30, enabled: Enabled::DEVICE_ADDRESS, ..stub.info() });
     let offered = device.device_properties();
     let props: Vec<_> = offered.memory_types.iter().map(|of| (of.heap, of.props.bits())).collect();
@@ -25,7 +25,7 @@ fn what_a_device_offers() {
 /// What is not enabled is not used, and the extensions' functions are loaded under their names.
 #[test]
 fn what_was_enabled() {
-    let stub = Stub::new();
+    let stub = stub!();
     let plain = DeviceInfo { api_version: 0, ..stub.info() };
     let both = Enabled::PROPERTIES2 | Enabled::DEDICATED_ALLOCATION;
     for (info, largest, asks_wishes) in [
@@ -37,13 +37,13 @@ fn what_was_enabled() {
         // A higher version than the device may have: nothing above 1.1 is loaded.
         (DeviceInfo { api_version: 1 << 22 | 4 << 12, ..plain }, LARGEST, true),
     ] {
-        stub.state().own = (0, 1);
+        stub.plan().requires_own = 1;
         let device = stub.device_of(&info);
         assert_eq!(device.device_properties().max_memory_allocation_size, largest, "{info:?}");
         let mut allocator = Allocator::new(device).unwrap();
         let made = buffer(&mut allocator, 100, LOCAL);
-        let owner = asks_wishes.then_some((made.handle, raw::Image(0)));
-        assert_eq!(chained(&stub, &made.block).owner, owner, "{info:?}");
+        let owner = if asks_wishes { made.handle.0 } else { 0 };
+        assert_eq!(object(&stub, &made.block).owner, owner, "{info:?}");
         // SAFETY: it is this allocator's.
         unsafe { allocator.destroy_buffer(made) };
     }
@@ -52,15 +52,12 @@ fn what_was_enabled() {
 
 #[test]
 fn each_function_that_is_missing_is_named() {
-    let stub = Stub::new();
-    let names = functions::names();
-    assert_eq!(names.len(), 20);
-    let core = names.iter().map(|name| (*name, API_VERSION_1_1));
-    let plain = names.iter().filter(|name| !name.ends_with('2')).map(|name| (*name, 0));
+    let stub = stub!();
+    let core = stub.names().into_iter().map(|name| (name, API_VERSION_1_1));
+    let plain = stub.names().into_iter().filter(|name| !name.ends_with('2')).map(|name| (name, 0));
     for (name, api_version) in core.chain(plain).chain([("vkGetDeviceProcAddr", 0)]) {
-        stub.state().missing = Some(name);
-        // SAFETY: the functions are the stub's.
-        let refused = unsafe { Device::load(&DeviceInfo { api_version, ..stub.info() }) };
+        stub.hide_named(name);
+        let refused = stub.load(&DeviceInfo { api_version, ..stub.info() });
         assert_eq!(refused.err(), Some(Error::Missing(name)));
     }
     for name in [
@@ -69,21 +66,18 @@ fn each_function_that_is_missing_is_named() {
         "vkGetBufferMemoryRequirements2KHR",
         "vkGetImageMemoryRequirements2KHR",
     ] {
-        stub.state().missing = Some(name);
+        stub.hide_named(&name[..name.len() - 3]);
         let info = DeviceInfo { api_version: 0, ..stub.info() };
-        // SAFETY: the functions are the stub's.
-        unsafe {
-            assert!(Device::load(&info).is_ok());
-            let enabled = Enabled::PROPERTIES2 | Enabled::DEDICATED_ALLOCATION;
-            assert_eq!(Device::load(&DeviceInfo { enabled, ..info }).err(), Some(Error::Missing(name)));
-        }
+        assert!(stub.load(&info).is_ok());
+        let enabled = Enabled::PROPERTIES2 | Enabled::DEDICATED_ALLOCATION;
+        assert_eq!(stub.load(&DeviceInfo { enabled, ..info }).err(), Some(Error::Missing(name)));
     }
     stub.end();
 }
 
 #[test]
 fn handles_and_extensions_that_are_missing() {
-    let stub = Stub::new();
+    let stub = stub!();
     let good = stub.info();
     for (info, error) in [
         (DeviceInfo::default(), Error::Missing("instance")),
@@ -97,14 +91,13 @@ fn handles_and_extensions_that_are_missing() {
         // SAFETY: it is refused before anything is called.
         assert_eq!(unsafe { Device::load(&info) }.err(), Some(error));
     }
-    assert_eq!(stub.state().calls, [""; 0]);
+    assert_eq!(stub.heard(), [""; 0]);
     stub.end();
 }
 
 /// As `wtv_default_config` has it.
 #[test]
 fn sizes_by_the_heap() {
-    let stub = Stub::new();
     for (size, unit) in [
         (0, 64 << 10),
         (1 << 20, 64 << 10),
@@ -115,7 +108,7 @@ fn sizes_by_the_heap() {
         (8 << 30, 8 << 20),
         (1 << 40, 8 << 20),
     ] {
-        stub.state().heap_size = size;
+        let stub = stub!(size, [1, 0]);
         let config = stub.device().default_config();
         let own = [config.preferred_dedicated_threshold, config.dedicated_threshold];
         assert_eq!((own, config.transient_dedicated_threshold), ([unit / 8, 4 * unit], 16 * unit), "{size}");
@@ -123,51 +116,51 @@ fn sizes_by_the_heap() {
         assert_eq!((chunks, config.initial_buddy_dedicated_size), ([unit, 16 * unit], unit), "{size}");
         assert_eq!(config.minimal_buddy_size, 1024);
         assert_eq!(config == Config::i_am_prototyping(), size >= 8 << 30);
+        stub.end();
     }
     // The host's heap counts where no other is there.
-    stub.state().heap_flags = [0, 0];
+    let stub = stub!(1 << 40, [0, 0]);
     assert_eq!(stub.device().default_config(), Config::i_am_prototyping());
     stub.end();
 }
 
 #[test]
 fn budgets_set_limits() {
-    let stub = Stub::new();
+    let stub = stub!();
     let info = DeviceInfo { enabled: Enabled::MEMORY_BUDGET, ..stub.info() };
     let mut allocator = Allocator::new(stub.device_of(&info)).unwrap();
     let own = |size| (buffer_info(size), dedicated(LOCAL, Dedicated::Required));
     let (info, request) = own(1 << 20);
     // SAFETY: the stub allows it.
     let first = unsafe { allocator.create_buffer(&info, request) }.unwrap();
-    let mut set = |usage, budget| {
-        (stub.state().budgets.heap_usage[0], stub.state().budgets.heap_budget[0]) = (usage, budget);
+    // What is held has 1 MiB.
+    let tell = |usage: u64, budget| stub.set_budget(0, budget, usage.wrapping_sub(stub.held_now().bytes[0]));
+    let set = |allocator: &mut Allocator, usage, budget| {
+        tell(usage, budget);
         allocator.update_budget().unwrap();
         allocator.heap_limit(0)
     };
     // Others hold 1 MiB; then nothing, as the driver counts less than is held; then more than the budget.
-    assert_eq!(set(2 << 20, 16 << 20), 15 << 20);
-    assert_eq!(set(0, 16 << 20), 16 << 20);
-    assert_eq!(set(9 << 20, 4 << 20), 0);
-    assert_eq!(set(1 << 20, u64::MAX), HEAP);
+    assert_eq!(set(&mut allocator, 2 << 20, 16 << 20), 15 << 20);
+    assert_eq!(set(&mut allocator, 0, 16 << 20), 16 << 20);
+    assert_eq!(set(&mut allocator, 9 << 20, 4 << 20), 0);
+    assert_eq!(set(&mut allocator, 1 << 20, u64::MAX), HEAP);
     // A driver without the extension leaves all as it was.
-    (stub.state().budgets.heap_usage[0], stub.state().budgets.heap_budget[0]) = (0, 0);
+    stub.set_budget(1, 0, 0);
+    tell(0, 0);
     assert_eq!(allocator.update_budget(), Err(Error::NoBudget));
     assert_eq!(allocator.heap_limit(0), HEAP);
-    let mut set = |usage, budget| {
-        (stub.state().budgets.heap_usage[0], stub.state().budgets.heap_budget[0]) = (usage, budget);
-        allocator.update_budget().unwrap();
-        allocator.heap_limit(0)
-    };
     // Below what is held: new objects are refused, without a call, and nothing is freed.
-    assert_eq!(set(1 << 20, 1 << 10), 1 << 10);
-    let calls = stub.state().calls.iter().filter(|call| **call == "vkAllocateMemory").count();
+    assert_eq!(set(&mut allocator, 1 << 20, 1 << 10), 1 << 10);
+    let calls = stub.calls_of("vkAllocateMemory");
     let request = MemoryRequest { memory_types: 1, ..request };
     // SAFETY: the stub allows it.
     let refused = unsafe { allocator.create_buffer(&buffer_info(1), request) }.err();
     assert_eq!(refused, Some(Error::Allocation(crate::AllocationError::OutOfDeviceMemory)));
-    assert_eq!(stub.state().calls.iter().filter(|call| **call == "vkAllocateMemory").count(), calls);
+    assert_eq!(stub.calls_of("vkAllocateMemory"), calls);
     assert_eq!(stub.held(), (1, 1, 0));
     allocator.set_heap_limit(0, u64::MAX);
+    tell(1 << 20, u64::MAX);
     assert_eq!(allocator.heap_limit(0), HEAP);
     let second = buffer(&mut allocator, 1, request);
     end(stub, allocator, vec![first, second], vec![]);
@@ -175,7 +168,7 @@ fn budgets_set_limits() {
 
 #[test]
 fn no_budgets_without_the_extension() {
-    let stub = Stub::new();
+    let stub = stub!();
     let mut allocator = allocator(&stub);
     assert_eq!(allocator.update_budget(), Err(Error::NoBudget));
     assert_eq!(Error::NoBudget.result(), VkResult::ERROR_EXTENSION_NOT_PRESENT);
@@ -185,7 +178,7 @@ fn no_budgets_without_the_extension() {
 /// A program's own allocator over the device: the long way.
 #[test]
 fn a_gpu_allocator_over_the_device() {
-    let stub = Stub::new();
+    let stub = stub!();
     let device = stub.device();
     let (config, granularity) = (Config::i_am_potato(), device.buffer_image_granularity());
     let mut allocator = GpuAllocator::with_granularity(config, device.device_properties(), granularity).unwrap();
@@ -198,7 +191,7 @@ fn a_gpu_allocator_over_the_device() {
         let asked = device.for_buffer(made);
         let mut block = allocator.alloc_with_dedicated(&asked, request, Dedicated::Required).unwrap();
         assert_eq!(asked.failure(), None);
-        assert_eq!(chained(&stub, &block).owner, Some((made, raw::Image(0))));
+        assert_eq!(object(&stub, &block).owner, made.0);
         assert!(block.props().contains(MemoryPropertyFlags::HOST_CACHED));
         device.bind_buffer(made, &block, 0).unwrap();
         block.write_bytes(&device, 3, b"thyme").unwrap();

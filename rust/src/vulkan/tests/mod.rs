@@ -1,16 +1,28 @@
 //! Over a stub in place of a driver.
 
+/// A stub of a driver; where none can be built, the test ends.
+macro_rules! stub {
+    () => {
+        stub!(driver::HEAP, [1, 0])
+    };
+    ($size:expr, $flags:expr) => {
+        match Stub::with_heaps($size, $flags) {
+            Some(stub) => stub,
+            None => return,
+        }
+    };
+}
+
 mod alone;
 mod bytes;
 mod device;
-mod functions;
+mod driver;
 mod refusals;
 mod resources;
-mod stub;
 
 use super::*;
 use crate::{Dedicated, MemoryBlock, Sharing, UsageFlags};
-use stub::Stub;
+use driver::Stub;
 
 const fn is_send_and_sync<T: Send + Sync>() {}
 
@@ -33,7 +45,8 @@ fn buffer_info(size: u64) -> BufferCreateInfo {
 
 /// An image of 4 `side`^2 bytes.
 fn image_info(side: u32) -> ImageCreateInfo {
-    ImageCreateInfo { extent: Extent3D { width: side, height: side, depth: 1 }, ..Default::default() }
+    let extent = Extent3D { width: side, height: side, depth: 1 };
+    ImageCreateInfo { image_type: 1, extent, usage: 3, ..Default::default() }
 }
 
 fn allocator(stub: &Stub) -> Allocator {
@@ -63,13 +76,18 @@ fn image(allocator: &mut Allocator, side: u32, request: impl Into<MemoryRequest>
     unsafe { allocator.create_image(&image_info(side), request) }.expect("the stub refuses nothing")
 }
 
-/// What was chained to a block's object.
-fn chained(stub: &Stub, block: &MemoryBlock<Memory>) -> stub::Chained {
-    stub.state().objects[&block.memory().0].chained.clone()
+/// A block's object.
+fn object(stub: &Stub, block: &MemoryBlock<Memory>) -> driver::Object {
+    stub.object_of(*block.memory())
+}
+
+/// Whether a resource, whose first byte this is, was bound where the block is, and so many bytes behind.
+fn is_bound(stub: &Stub, first: *const u8, block: &MemoryBlock<Memory>, behind: u64) -> bool {
+    first == stub.memory_bytes(*block.memory(), block.offset() + behind, 1)
 }
 
 /// Destroys what is there, and the allocator.
-fn end(stub: Box<Stub>, mut allocator: Allocator, buffers: Vec<Buffer>, images: Vec<Image>) {
+fn end(stub: Stub, mut allocator: Allocator, buffers: Vec<Buffer>, images: Vec<Image>) {
     // SAFETY: they are this allocator's, and no device uses them.
     unsafe {
         buffers.into_iter().for_each(|buffer| allocator.destroy_buffer(buffer));

@@ -35,13 +35,13 @@ fn steps(allocator: &mut Allocator, kept: &mut (Vec<Buffer>, Vec<Image>)) -> Res
 #[test]
 fn each_call_is_refused() {
     let calls = {
-        let stub = Stub::new();
+        let stub = stub!();
         let mut allocator = allocator(&stub);
         let mut kept = (vec![], vec![]);
         steps(&mut allocator, &mut kept).expect("nothing is refused");
-        let calls = stub.state().calls.clone();
+        let calls = stub.heard();
         end(stub, allocator, kept.0, kept.1);
-        calls.into_iter().filter(|call| !call.starts_with("vkGet") && *call != "vkUnmapMemory").collect::<Vec<_>>()
+        calls.into_iter().filter(|call| driver::may_be_refused(call)).collect::<Vec<_>>()
     };
     let mut seen: Vec<_> = calls.clone();
     seen.sort_unstable();
@@ -61,7 +61,7 @@ fn each_call_is_refused() {
     );
     for (result, sharing) in RESULTS.iter().flat_map(|&result| [(result, Sharing::Buddy), (result, Sharing::Fit)]) {
         for (number, call) in (1..).zip(&calls) {
-            let stub = Stub::new();
+            let stub = stub!();
             let mut allocator = allocator_with(&stub, sharing);
             let mut kept = (vec![], vec![]);
             // The calls after it too: where a shared object is refused, one of the block's own is asked for.
@@ -71,10 +71,10 @@ fn each_call_is_refused() {
             assert_eq!(error.result(), result);
             // What was granted before is all that there is, but that a free fit chunk may stay.
             let (objects, buffers, images) = stub.held();
-            assert_eq!((buffers, images), (kept.0.len(), kept.1.len()), "{number} {call} {result}");
-            assert_eq!(allocator.remaining_allocations() as usize, 100 - objects);
+            assert_eq!((buffers as usize, images as usize), (kept.0.len(), kept.1.len()), "{number} {call} {result}");
+            assert_eq!(u64::from(allocator.remaining_allocations()), 100 - objects);
             let free = objects - (buffers + images);
-            assert!(free <= usize::from(sharing == Sharing::Fit), "{number} {call} {result}: {free} objects too many");
+            assert!(free <= u64::from(sharing == Sharing::Fit), "{number} {call} {result}: {free} objects too many");
             end(stub, allocator, kept.0, kept.1);
         }
     }
@@ -85,9 +85,9 @@ fn each_call_is_refused() {
 fn the_next_memory_type() {
     for result in RESULTS {
         let goes_on = [VkResult::ERROR_OUT_OF_DEVICE_MEMORY, VkResult::ERROR_TOO_MANY_OBJECTS].contains(&result);
-        let stub = Stub::new();
+        let stub = stub!();
         let mut allocator = allocator(&stub);
-        stub.refuse(2, result);
+        stub.refuse_one(2, result);
         // SAFETY: the stub allows it.
         let granted = unsafe { allocator.create_buffer(&buffer_info(100), dedicated(LOCAL, Dedicated::Required)) };
         let made = match granted {
@@ -107,11 +107,11 @@ fn the_next_memory_type() {
 /// Where another reason than the driver's ends a request, an earlier result of the driver is not returned.
 #[test]
 fn reasons_that_are_not_the_drivers() {
-    let stub = Stub::new();
+    let stub = stub!();
     let mut allocator = allocator(&stub);
     let request = MemoryRequest { memory_types: 1, ..LOCAL.into() };
     // SAFETY: the stub allows it.
-    let refused = unsafe { allocator.create_buffer(&buffer_info(stub::LARGEST + 1), request) }.err();
+    let refused = unsafe { allocator.create_buffer(&buffer_info(driver::LARGEST + 1), request) }.err();
     assert_eq!(refused, Some(Error::Allocation(AllocationError::OutOfDeviceMemory)));
     assert_eq!(refused.map(Error::result), Some(VkResult::ERROR_OUT_OF_DEVICE_MEMORY));
     // SAFETY: the stub allows it.
@@ -123,7 +123,7 @@ fn reasons_that_are_not_the_drivers() {
 
 #[test]
 fn as_many_objects_as_the_device_allows() {
-    let stub = Stub::new();
+    let stub = stub!();
     let device = stub.device_of(&DeviceInfo { other_objects: 99, ..stub.info() });
     let mut allocator = Allocator::with_config(device, Config::i_am_potato()).unwrap();
     let first = buffer(&mut allocator, 100, dedicated(LOCAL, Dedicated::Required));
@@ -136,7 +136,7 @@ fn as_many_objects_as_the_device_allows() {
 /// A panic in the middle destroys what was created.
 #[test]
 fn a_usage_without_a_name() {
-    let stub = Stub::new();
+    let stub = stub!();
     let mut allocator = allocator(&stub);
     let usage = UsageFlags::from_bits_retain(0x40);
     // SAFETY: it is refused.
@@ -150,7 +150,7 @@ fn a_usage_without_a_name() {
 /// The program's buffer and image stay where they get no memory.
 #[test]
 fn the_programs_own_resources_stay() {
-    let stub = Stub::new();
+    let stub = stub!();
     // No buddy chunk stays without a block, so that each time one is asked for.
     let mut allocator = allocator_with(&stub, Sharing::Buddy);
     let device = allocator.device().clone();
@@ -159,10 +159,10 @@ fn the_programs_own_resources_stay() {
         unsafe {
             let buffer = device.create_buffer(&buffer_info(100)).unwrap();
             let image = device.create_image(&image_info(10)).unwrap();
-            stub.refuse(number, VkResult::ERROR_DEVICE_LOST);
+            stub.refuse_one(number, VkResult::ERROR_DEVICE_LOST);
             let refused = allocator.allocate_for_buffer(buffer, LOCAL).err();
             assert_eq!(refused.map(Error::result), Some(VkResult::ERROR_DEVICE_LOST));
-            stub.refuse(number, VkResult::ERROR_DEVICE_LOST);
+            stub.refuse_one(number, VkResult::ERROR_DEVICE_LOST);
             let refused = allocator.allocate_for_image(image, Tiling::OPTIMAL, LOCAL).err();
             assert_eq!(refused.map(Error::result), Some(VkResult::ERROR_DEVICE_LOST));
             assert_eq!(stub.held(), (0, 1, 1));
@@ -170,7 +170,7 @@ fn the_programs_own_resources_stay() {
                 allocator.allocate_for_buffer(buffer, LOCAL).unwrap(),
                 allocator.allocate_for_image(image, Tiling::OPTIMAL, LOCAL).unwrap(),
             ];
-            assert!(stub.state().buffers[&buffer.0].at.is_some() && stub.state().images[&image.0].at.is_some());
+            assert_eq!(stub.held_now().bound, 2);
             device.destroy(calls::Resource::Buffer(buffer));
             device.destroy(calls::Resource::Image(image));
             blocks.into_iter().for_each(|block| allocator.free(block));
@@ -182,10 +182,9 @@ fn the_programs_own_resources_stay() {
 /// The program's callbacks go to each call that takes them, also where it made the resource or the object itself.
 #[test]
 fn callbacks_are_passed_on() {
-    let mut value = 0;
-    let user_data = std::ptr::from_mut(&mut value);
-    for callbacks in [None, Some(AllocationCallbacks { p_user_data: user_data.cast(), ..Default::default() })] {
-        let stub = Stub::new();
+    for has_callbacks in [false, true] {
+        let stub = stub!();
+        let callbacks = has_callbacks.then(|| stub.callbacks());
         let mut allocator = Allocator::new(stub.device_of(&DeviceInfo { callbacks, ..stub.info() })).unwrap();
         let made = buffer(&mut allocator, 100, LOCAL);
         let other = image(&mut allocator, 10, dedicated(LOCAL, Dedicated::Required));
@@ -202,8 +201,8 @@ fn callbacks_are_passed_on() {
             allocator.destroy_image(other);
         }
         drop(allocator);
-        // Two buffers, an image, and three objects: made and gone.
-        assert_eq!(stub.state().callbacks, [callbacks.map_or(0, |_| user_data as usize); 12]);
+        // Two buffers, an image, and three objects.
+        assert_eq!(stub.pieces(), if has_callbacks { [6, 6] } else { [0, 0] });
         stub.end();
     }
 }

@@ -4,9 +4,8 @@ use super::*;
 use crate::{set_drop_handler, AllocationError, Config, Dropped, GpuAllocator, Request};
 use std::cell::RefCell;
 use std::ptr::{from_ref, null};
-use stub::Chained;
 
-/// How a struct of a chain begins, and an `sType` that nobody has.
+/// How a struct of a chain begins: a `VkMemoryPriorityAllocateInfoEXT` of 0.
 const PRIORITY: raw::MemoryAllocateFlagsInfo =
     raw::MemoryAllocateFlagsInfo { s_type: 1_000_238_001, p_next: null(), flags: 0, device_mask: 0 };
 
@@ -19,7 +18,7 @@ fn chained_where_an_object_is_for_one_block() {
         (Enabled::empty(), false),
         (Enabled::DEVICE_ADDRESS, false),
     ] {
-        let stub = Stub::new();
+        let stub = stub!();
         let api_version = if wishes_known { API_VERSION_1_1 } else { 0 };
         let device = stub.device_of(&DeviceInfo { enabled, api_version, ..stub.info() });
         let mut allocator = Allocator::with_config(device, Config::i_am_potato()).unwrap();
@@ -33,16 +32,17 @@ fn chained_where_an_object_is_for_one_block() {
         ] {
             let next = if next { from_ref(&PRIORITY).cast() } else { null() };
             let request = MemoryRequest { dedicated: wish, next, ..LOCAL.into() };
-            let expected = |owner| Chained {
-                owner: Some(owner).filter(|_| own && wishes_known),
-                address: enabled.contains(Enabled::DEVICE_ADDRESS),
-                others: if own && !next.is_null() { vec![PRIORITY.s_type] } else { vec![] },
+            let check = |block: &MemoryBlock<Memory>, owner| {
+                let made = object(&stub, block);
+                assert_eq!(made.owner, if own && wishes_known { owner } else { 0 }, "{request:?}");
+                assert_eq!(made.has_address, enabled.contains(Enabled::DEVICE_ADDRESS), "{request:?}");
+                assert_eq!(made.priority, if own && !next.is_null() { 0.0 } else { -1.0 }, "{request:?}");
             };
             let made = buffer(&mut allocator, 4000, request);
-            assert_eq!(chained(&stub, &made.block), expected((made.handle, raw::Image(0))), "{request:?}");
+            check(&made.block, made.handle.0);
             buffers.push(made);
             let made = image(&mut allocator, 40, request);
-            assert_eq!(chained(&stub, &made.block), expected((raw::Buffer(0), made.handle)), "{request:?}");
+            check(&made.block, made.handle.0);
             images.push(made);
             // A block of no resource has no owner.
             // SAFETY: the stub allows it, and `next` is a chain or null.
@@ -50,10 +50,7 @@ fn chained_where_an_object_is_for_one_block() {
                 let requirements =
                     Requirements { size: 5000, alignment: 1, memory_types: 7, dedicated: None, optimal: false };
                 let block = allocator.allocate(&requirements, request).unwrap();
-                assert_eq!(
-                    chained(&stub, &block),
-                    Chained { owner: None, ..expected((raw::Buffer(0), raw::Image(0))) }
-                );
+                check(&block, 0);
                 allocator.free(block);
             }
         }
@@ -73,19 +70,19 @@ fn the_driver_wants_an_object_of_its_own() {
         ((1, 1), Some(Dedicated::Preferred), 100, true),
         ((0, 0), Some(Dedicated::Preferred), 40_000, true),
     ] {
-        let stub = Stub::new();
-        stub.state().own = own;
+        let stub = stub!();
+        (stub.plan().prefers_own, stub.plan().requires_own) = own;
         let mut allocator = allocator(&stub);
         let made = buffer(&mut allocator, size, MemoryRequest { dedicated: wish, ..LOCAL.into() });
-        assert_eq!(chained(&stub, &made.block).owner.is_some(), is_own, "{own:?} {wish:?} {size}");
-        assert_eq!(stub.state().objects[&made.block.memory().0].size == size, is_own);
+        let of = object(&stub, &made.block);
+        assert_eq!((of.owner != 0, of.size == size), (is_own, is_own), "{own:?} {wish:?} {size}");
         end(stub, allocator, vec![made], vec![]);
     }
 }
 
 #[test]
 fn bound_to_the_block() {
-    let stub = Stub::new();
+    let stub = stub!();
     let mut allocator = allocator(&stub);
     let (mut buffers, mut images) = (vec![], vec![]);
     for turn in 0..20 {
@@ -93,16 +90,16 @@ fn bound_to_the_block() {
         images.push(image(&mut allocator, 10 + turn as u32, LOCAL));
     }
     for made in &buffers {
-        assert_eq!(stub.state().buffers[&made.handle.0].at, Some((made.block.memory().0, made.block.offset())));
+        assert!(is_bound(&stub, stub.buffer_bytes(made.handle), &made.block, 0));
     }
     for made in &images {
-        assert_eq!(stub.state().images[&made.handle.0].at, Some((made.block.memory().0, made.block.offset())));
+        assert!(is_bound(&stub, stub.image_bytes(made.handle), &made.block, 0));
     }
     let shared = buffers.iter().filter(|one| images.iter().any(|other| one.block.memory() == other.block.memory()));
     assert!(shared.count() > 1, "no buffer is beside an image");
     // Images and buffers of one object are a page apart.
     for (one, other) in buffers.iter().flat_map(|one| images.iter().map(move |other| (&one.block, &other.block))) {
-        let pages = [one, other].map(|of| of.offset() / stub::PAGE);
+        let pages = [one, other].map(|of| of.offset() / driver::PAGE);
         assert!(one.memory() != other.memory() || pages[0] != pages[1], "{one:?} {other:?}");
     }
     end(stub, allocator, buffers, images);
@@ -111,7 +108,7 @@ fn bound_to_the_block() {
 /// An object that was made for one resource takes no other one, and that one at its start alone.
 #[test]
 fn a_dedicated_object_keeps_its_resource() {
-    let stub = Stub::new();
+    let stub = stub!();
     let mut allocator = allocator(&stub);
     let device = allocator.device().clone();
     let own = dedicated(UPLOAD, Dedicated::Required);
@@ -125,7 +122,7 @@ fn a_dedicated_object_keeps_its_resource() {
         let request = Request { size: 400, align_mask: 255, usage: UPLOAD, memory_types: 7 };
         let of_other = core.alloc_with_dedicated(&device.for_buffer(other), request, Dedicated::Required).unwrap();
         let of_second = core.alloc_optimal(&device.for_image(second), request, Some(Dedicated::Required)).unwrap();
-        let asked = stub.state().asked;
+        let asked = stub.asked();
         for (block, buffer, image) in [
             (&of_one, Some(one), None),
             (&of_first, None, Some(first)),
@@ -144,7 +141,7 @@ fn a_dedicated_object_keeps_its_resource() {
                 }
             }
         }
-        assert_eq!(stub.state().asked, asked);
+        assert_eq!(stub.asked(), asked);
         device.bind_buffer(other, &of_other, 0).unwrap();
         device.bind_image(second, &of_second, 0).unwrap();
         [one, other].into_iter().for_each(|buffer| device.destroy(calls::Resource::Buffer(buffer)));
@@ -160,7 +157,7 @@ fn a_dedicated_object_keeps_its_resource() {
 #[test]
 fn an_object_for_no_resource_takes_several() {
     for api_version in [0, API_VERSION_1_1] {
-        let stub = Stub::new();
+        let stub = stub!();
         let device = stub.device_of(&DeviceInfo { api_version, ..stub.info() });
         let mut allocator = Allocator::new(device.clone()).unwrap();
         let own = dedicated(UPLOAD, Dedicated::Required);
@@ -194,7 +191,7 @@ fn a_linear_image_is_no_optimal_block() {
 
 /// The blocks of 100 bytes then have this size.
 fn a_linear_image_lies_beside(sharing: Sharing, size: u64) {
-    let stub = Stub::new();
+    let stub = stub!();
     let mut allocator = allocator_with(&stub, sharing);
     let first = buffer(&mut allocator, 100, LOCAL);
     let info = ImageCreateInfo { tiling: Tiling::LINEAR, ..image_info(5) };
@@ -202,12 +199,12 @@ fn a_linear_image_lies_beside(sharing: Sharing, size: u64) {
     let linear = unsafe { allocator.create_image(&info, LOCAL) }.unwrap();
     let optimal = image(&mut allocator, 5, LOCAL);
     assert_eq!((first.block.size(), linear.block.size()), (size, size));
-    assert_eq!(optimal.block.offset() % stub::PAGE, 0);
+    assert_eq!(optimal.block.offset() % driver::PAGE, 0);
     // SAFETY: as above.
     unsafe {
         let made = allocator.device().create_image(&info).unwrap();
         let block = allocator.allocate_for_image(made, Tiling::LINEAR, LOCAL).unwrap();
-        assert_eq!(stub.state().images[&made.0].at, Some((block.memory().0, block.offset())));
+        assert!(is_bound(&stub, stub.image_bytes(made), &block, 0));
         allocator.device().destroy(calls::Resource::Image(made));
         allocator.free(block);
     }
@@ -216,9 +213,9 @@ fn a_linear_image_lies_beside(sharing: Sharing, size: u64) {
 
 #[test]
 fn sparse_and_disjoint_are_refused_by_name() {
-    let stub = Stub::new();
+    let stub = stub!();
     let mut allocator = allocator(&stub);
-    let asked = stub.state().asked;
+    let asked = stub.asked();
     // SAFETY: all is refused.
     unsafe {
         for flags in [1, 2, 4, 7] {
@@ -233,20 +230,20 @@ fn sparse_and_disjoint_are_refused_by_name() {
     for error in [Error::SparseBuffer, Error::SparseImage, Error::DisjointImage] {
         assert_eq!(error.result(), VkResult::ERROR_FEATURE_NOT_PRESENT);
     }
-    assert_eq!(stub.state().asked, asked);
+    assert_eq!(stub.asked(), asked);
     end(stub, allocator, vec![], vec![]);
 }
 
 /// Types with a property that has no name here serve nothing.
 #[test]
 fn unknown_types_are_left_out() {
-    let stub = Stub::new();
-    stub.state().memory_types = 0b1000;
+    let stub = stub!();
+    stub.plan().permitted = 0b1000;
     let mut allocator = allocator(&stub);
     // SAFETY: the stub allows it.
     let refused = unsafe { allocator.create_buffer(&buffer_info(100), UPLOAD) }.err();
     assert_eq!(refused, Some(Error::Allocation(AllocationError::NoCompatibleMemoryTypes)));
-    stub.state().memory_types = 0b1110;
+    stub.plan().permitted = 0b1110;
     let made = buffer(&mut allocator, 100, UPLOAD);
     assert_eq!(made.block.memory_type(), 1);
     let cached = buffer(&mut allocator, 100, MemoryRequest { memory_types: 0b1100, ..UPLOAD.into() });
@@ -257,10 +254,11 @@ fn unknown_types_are_left_out() {
 /// A buffer whose own usage says so gets an address by itself.
 #[test]
 fn device_addresses() {
-    let stub = Stub::new();
+    let stub = stub!();
     let info = BufferCreateInfo { usage: 0x20000, ..buffer_info(100) };
     let mut without = allocator(&stub);
-    // SAFETY: the stub allows it.
+    stub.plan().is_quiet = true;
+    // SAFETY: the stub allows what Vulkan does not, and counts it.
     unsafe {
         for request in [LOCAL, UsageFlags::DEVICE_ADDRESS] {
             let refused = without.create_buffer(&info, request).err();
@@ -272,19 +270,21 @@ fn device_addresses() {
         );
     }
     drop(without);
-    assert_eq!(stub.held(), (0, 0, 0));
+    // Two buffers with addresses were created, and destroyed.
+    assert_eq!((stub.held(), stub.close()), ((0, 0, 0), 2));
+    let stub = stub!();
     let device = stub.device_of(&DeviceInfo { enabled: Enabled::DEVICE_ADDRESS, ..stub.info() });
     let mut with = Allocator::new(device).unwrap();
     // SAFETY: the stub allows it.
     let made = unsafe { with.create_buffer(&info, UsageFlags::empty()) }.unwrap();
-    assert_eq!((made.block.memory_type(), chained(&stub, &made.block).address), (0, true));
+    assert_eq!((made.block.memory_type(), object(&stub, &made.block).has_address), (0, true));
     end(stub, with, vec![made], vec![]);
 }
 
 /// What is chained by itself may not be in `next`.
 #[test]
 fn chains_that_are_refused() {
-    let stub = Stub::new();
+    let stub = stub!();
     let mut allocator = allocator(&stub);
     let owner = raw::MemoryDedicatedAllocateInfo::default();
     let behind = raw::MemoryAllocateFlagsInfo { p_next: from_ref(&owner).cast(), ..PRIORITY };
@@ -303,7 +303,7 @@ fn chains_that_are_refused() {
 
 #[test]
 fn a_drop_frees_what_no_block_needs() {
-    let stub = Stub::new();
+    let stub = stub!();
     let mut first = allocator(&stub);
     let made = buffer(&mut first, 100, UPLOAD | UsageFlags::TRANSIENT);
     let other = buffer(&mut first, 100, LOCAL);
@@ -331,7 +331,7 @@ thread_local! {
 #[test]
 fn a_drop_reports_what_is_live() {
     set_drop_handler(|dropped| DROPPED.with_borrow_mut(|all| all.push(*dropped)));
-    let stub = Stub::new();
+    let stub = stub!();
     let mut allocator = allocator(&stub);
     let made = buffer(&mut allocator, 100, LOCAL);
     let mut other = image(&mut allocator, 10, dedicated(LOCAL, Dedicated::Required));
@@ -347,17 +347,21 @@ fn a_drop_reports_what_is_live() {
     assert_eq!((one.key, one.user, one.size, one.offset), (made.block.key(), 0, 256, made.block.offset()));
     assert_eq!((two.key, two.user, two.size, two.offset), (other.block.key(), 77, 400, 0));
     assert_eq!((one.memory_type, two.memory_type, one.object != two.object), (0, 0, true));
+    let device = stub.device();
+    // SAFETY: the stub has them, and nobody uses them.
+    unsafe {
+        device.destroy(calls::Resource::Buffer(made.handle));
+        device.destroy(calls::Resource::Image(other.handle));
+        [&made.block, &other.block].into_iter().for_each(|block| device.free(*block.memory()));
+    }
     drop((made, other));
     assert_eq!(DROPPED.take(), [Dropped::Block(one), Dropped::Block(two)]);
-    stub.state().objects.clear();
-    stub.state().buffers.clear();
-    stub.state().images.clear();
     stub.end();
 }
 
 #[test]
 fn cleanup_frees_what_no_block_needs() {
-    let stub = Stub::new();
+    let stub = stub!();
     let mut allocator = allocator(&stub);
     let made = buffer(&mut allocator, 100, UPLOAD | UsageFlags::TRANSIENT);
     assert_eq!(allocator.remaining_allocations(), 99);
@@ -372,7 +376,7 @@ fn cleanup_frees_what_no_block_needs() {
 /// Another allocator's buffer is refused before it is destroyed.
 #[test]
 fn anothers_buffer() {
-    let stub = Stub::new();
+    let stub = stub!();
     let (mut one, mut other) = (allocator(&stub), allocator(&stub));
     let made = buffer(&mut one, 100, LOCAL);
     let (handle, memory) = (made.handle, *made.block.memory());
@@ -392,7 +396,7 @@ fn anothers_buffer() {
 /// An allocator goes to another thread, and a clone of its device serves a third one.
 #[test]
 fn from_thread_to_thread() {
-    let stub = Stub::new();
+    let stub = stub!();
     let mut allocator = allocator(&stub);
     let mut made = buffer(&mut allocator, 100, UPLOAD);
     let device = allocator.device().clone();

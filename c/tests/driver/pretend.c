@@ -60,12 +60,16 @@ static void must(bool holds, const char *what)
     }
 }
 
-/* Brings the loader's function of that name to *function. */
-static void find(void *function, const char *name)
+/* The loader's function of that name. */
+#define REAL(name) ((PFN_##name)real_one(#name))
+
+static PFN_vkVoidFunction real_one(const char *name)
 {
     void *found = dlsym(RTLD_NEXT, name);
+    PFN_vkVoidFunction function;
     must(found != NULL, name);
-    memcpy(function, &found, sizeof found);
+    memcpy(&function, &found, sizeof found);
+    return function;
 }
 
 static object *object_of(VkDeviceMemory handle)
@@ -103,27 +107,21 @@ static void change_limits(VkPhysicalDeviceLimits *reported)
 VKAPI_ATTR void VKAPI_CALL vkGetPhysicalDeviceProperties(VkPhysicalDevice physical,
                                                          VkPhysicalDeviceProperties *reported)
 {
-    PFN_vkGetPhysicalDeviceProperties real;
-    find(&real, "vkGetPhysicalDeviceProperties");
-    real(physical, reported);
+    REAL(vkGetPhysicalDeviceProperties)(physical, reported);
     change_limits(&reported->limits);
 }
 
 VKAPI_ATTR void VKAPI_CALL vkGetPhysicalDeviceProperties2(VkPhysicalDevice physical,
                                                           VkPhysicalDeviceProperties2 *reported)
 {
-    PFN_vkGetPhysicalDeviceProperties2 real;
-    find(&real, "vkGetPhysicalDeviceProperties2");
-    real(physical, reported);
+    REAL(vkGetPhysicalDeviceProperties2)(physical, reported);
     change_limits(&reported->properties.limits);
 }
 
 VKAPI_ATTR void VKAPI_CALL vkGetPhysicalDeviceMemoryProperties(VkPhysicalDevice physical,
                                                                VkPhysicalDeviceMemoryProperties *reported)
 {
-    PFN_vkGetPhysicalDeviceMemoryProperties real;
-    find(&real, "vkGetPhysicalDeviceMemoryProperties");
-    real(physical, reported);
+    REAL(vkGetPhysicalDeviceMemoryProperties)(physical, reported);
     must((reported->memoryTypes[0].propertyFlags & SEEN) != 0, "the host does not see the first type");
     reported->memoryTypeCount = TYPES_COUNT;
     reported->memoryHeapCount = HEAPS_COUNT;
@@ -135,10 +133,8 @@ VKAPI_ATTR void VKAPI_CALL vkGetPhysicalDeviceMemoryProperties(VkPhysicalDevice 
 VKAPI_ATTR VkResult VKAPI_CALL vkEnumerateDeviceExtensionProperties(VkPhysicalDevice physical, const char *layer,
                                                                     uint32_t *count, VkExtensionProperties *reported)
 {
-    PFN_vkEnumerateDeviceExtensionProperties real;
     uint32_t kept = 0;
-    find(&real, "vkEnumerateDeviceExtensionProperties");
-    VkResult result = real(physical, layer, count, reported);
+    VkResult result = REAL(vkEnumerateDeviceExtensionProperties)(physical, layer, count, reported);
     if (result != VK_SUCCESS || reported == NULL)
         return result;
     for (uint32_t i = 0; i < *count; i++)
@@ -158,9 +154,7 @@ VKAPI_ATTR void VKAPI_CALL vkGetBufferMemoryRequirements2(VkDevice device,
                                                           const VkBufferMemoryRequirementsInfo2 *buffer,
                                                           VkMemoryRequirements2 *reported)
 {
-    PFN_vkGetBufferMemoryRequirements2 real;
-    find(&real, "vkGetBufferMemoryRequirements2");
-    real(device, buffer, reported);
+    REAL(vkGetBufferMemoryRequirements2)(device, buffer, reported);
     widen(&reported->memoryRequirements);
 }
 
@@ -173,9 +167,7 @@ static bool has_to_be_alone(VkImage image)
 VKAPI_ATTR void VKAPI_CALL vkGetImageMemoryRequirements2(VkDevice device, const VkImageMemoryRequirementsInfo2 *image,
                                                          VkMemoryRequirements2 *reported)
 {
-    PFN_vkGetImageMemoryRequirements2 real;
-    find(&real, "vkGetImageMemoryRequirements2");
-    real(device, image, reported);
+    REAL(vkGetImageMemoryRequirements2)(device, image, reported);
     widen(&reported->memoryRequirements);
     VkMemoryDedicatedRequirements *own =
         (void *)chained(reported->pNext, VK_STRUCTURE_TYPE_MEMORY_DEDICATED_REQUIREMENTS);
@@ -191,13 +183,11 @@ VKAPI_ATTR void VKAPI_CALL vkGetImageMemoryRequirements2(VkDevice device, const 
 VKAPI_ATTR VkResult VKAPI_CALL vkBindImageMemory(VkDevice device, VkImage image, VkDeviceMemory handle,
                                                  VkDeviceSize offset)
 {
-    PFN_vkBindImageMemory real;
     pthread_mutex_lock(&lock);
     must(!has_to_be_alone(image) || object_of(handle)->image == image,
          "an image is not in the object that it has to have");
     pthread_mutex_unlock(&lock);
-    find(&real, "vkBindImageMemory");
-    return real(device, image, handle, offset);
+    return REAL(vkBindImageMemory)(device, image, handle, offset);
 }
 
 static VkDeviceSize used_of_heap(uint32_t heap)
@@ -237,14 +227,12 @@ static object *begun(const VkMemoryAllocateInfo *info)
 VKAPI_ATTR VkResult VKAPI_CALL vkAllocateMemory(VkDevice device, const VkMemoryAllocateInfo *info,
                                                 const VkAllocationCallbacks *callbacks, VkDeviceMemory *made)
 {
-    PFN_vkAllocateMemory real;
     VkMemoryAllocateInfo first = *info;
     object *place = begun(info);
     if (place == NULL)
         return VK_ERROR_OUT_OF_DEVICE_MEMORY;
-    find(&real, "vkAllocateMemory");
     first.memoryTypeIndex = 0;
-    VkResult result = real(device, &first, callbacks, made);
+    VkResult result = REAL(vkAllocateMemory)(device, &first, callbacks, made);
     pthread_mutex_lock(&lock);
     if (result == VK_SUCCESS)
         place->handle = *made;
@@ -257,14 +245,12 @@ VKAPI_ATTR VkResult VKAPI_CALL vkAllocateMemory(VkDevice device, const VkMemoryA
 /* Its handle may come back as soon as it is freed, and so it is forgotten before. */
 VKAPI_ATTR void VKAPI_CALL vkFreeMemory(VkDevice device, VkDeviceMemory handle, const VkAllocationCallbacks *callbacks)
 {
-    PFN_vkFreeMemory real;
     pthread_mutex_lock(&lock);
     object *freed = object_of(handle);
     free(freed->cache);
     *freed = (object){0};
     pthread_mutex_unlock(&lock);
-    find(&real, "vkFreeMemory");
-    real(device, handle, callbacks);
+    REAL(vkFreeMemory)(device, handle, callbacks);
 }
 
 /* ---- The host's side. ---- */
@@ -285,15 +271,13 @@ static void *seen_by_host(object *mapped, void *bytes, VkDeviceSize first, VkDev
 VKAPI_ATTR VkResult VKAPI_CALL vkMapMemory(VkDevice device, VkDeviceMemory handle, VkDeviceSize offset,
                                            VkDeviceSize size, VkMemoryMapFlags flags, void **host)
 {
-    PFN_vkMapMemory real;
     void *bytes = NULL;
-    find(&real, "vkMapMemory");
     pthread_mutex_lock(&lock);
     object *mapped = object_of(handle);
     must((TYPES[mapped->type].propertyFlags & SEEN) != 0, "memory that the host does not see is mapped");
     must(mapped->bytes == NULL, "an object is mapped twice");
     must(offset < mapped->size && size <= mapped->size - offset, "a mapping passes the end of its object");
-    VkResult result = real(device, handle, offset, size, flags, &bytes);
+    VkResult result = REAL(vkMapMemory)(device, handle, offset, size, flags, &bytes);
     if (result == VK_SUCCESS)
         *host = seen_by_host(mapped, bytes, offset, size);
     pthread_mutex_unlock(&lock);
@@ -302,12 +286,10 @@ VKAPI_ATTR VkResult VKAPI_CALL vkMapMemory(VkDevice device, VkDeviceMemory handl
 
 VKAPI_ATTR void VKAPI_CALL vkUnmapMemory(VkDevice device, VkDeviceMemory handle)
 {
-    PFN_vkUnmapMemory real;
-    find(&real, "vkUnmapMemory");
     pthread_mutex_lock(&lock);
     object *mapped = object_of(handle);
     must(mapped->bytes != NULL, "an object is unmapped that is not mapped");
-    real(device, handle);
+    REAL(vkUnmapMemory)(device, handle);
     free(mapped->cache);
     mapped->cache = NULL;
     mapped->bytes = NULL;
@@ -342,17 +324,13 @@ static void copy(uint32_t count, const VkMappedMemoryRange *ranges, bool flushes
 VKAPI_ATTR VkResult VKAPI_CALL vkFlushMappedMemoryRanges(VkDevice device, uint32_t count,
                                                          const VkMappedMemoryRange *ranges)
 {
-    PFN_vkFlushMappedMemoryRanges real;
     copy(count, ranges, true);
-    find(&real, "vkFlushMappedMemoryRanges");
-    return real(device, count, ranges);
+    return REAL(vkFlushMappedMemoryRanges)(device, count, ranges);
 }
 
 VKAPI_ATTR VkResult VKAPI_CALL vkInvalidateMappedMemoryRanges(VkDevice device, uint32_t count,
                                                               const VkMappedMemoryRange *ranges)
 {
-    PFN_vkInvalidateMappedMemoryRanges real;
     copy(count, ranges, false);
-    find(&real, "vkInvalidateMappedMemoryRanges");
-    return real(device, count, ranges);
+    return REAL(vkInvalidateMappedMemoryRanges)(device, count, ranges);
 }

@@ -338,85 +338,54 @@ static VKAPI_ATTR void VKAPI_CALL unmap_memory(VkDevice device, VkDeviceMemory h
     go_out();
 }
 
-static VKAPI_ATTR VkResult VKAPI_CALL flush_ranges(VkDevice device, uint32_t count, const VkMappedMemoryRange *ranges)
-{
-    come_in();
-    VkResult result = refusing_draw(FLUSH_RANGES);
-    if (result == VK_SUCCESS && !set.drops_flushes)
-        result = vkFlushMappedMemoryRanges(device, count, ranges);
-    add_to(&counts.flushed, result == VK_SUCCESS ? count : 0);
-    go_out();
-    return refusing_noted(FLUSH_RANGES, result);
-}
+/* What passes ranges to the driver, but where they are dropped. */
+#define PASSES(name, UPPER, function, counter, is_dropped) \
+    static VKAPI_ATTR VkResult VKAPI_CALL name(VkDevice device, uint32_t count, const VkMappedMemoryRange *ranges) \
+    { \
+        come_in(); \
+        VkResult result = refusing_draw(UPPER); \
+        if (result == VK_SUCCESS && !(is_dropped)) \
+            result = function(device, count, ranges); \
+        add_to(&counts.counter, result == VK_SUCCESS ? count : 0); \
+        go_out(); \
+        return refusing_noted(UPPER, result); \
+    }
 
-static VKAPI_ATTR VkResult VKAPI_CALL invalidate_ranges(VkDevice device, uint32_t count,
-                                                        const VkMappedMemoryRange *ranges)
-{
-    come_in();
-    VkResult result = refusing_draw(INVALIDATE_RANGES);
-    if (result == VK_SUCCESS)
-        result = vkInvalidateMappedMemoryRanges(device, count, ranges);
-    add_to(&counts.invalidated, result == VK_SUCCESS ? count : 0);
-    go_out();
-    return refusing_noted(INVALIDATE_RANGES, result);
-}
+PASSES(flush_ranges, FLUSH_RANGES, vkFlushMappedMemoryRanges, flushed, set.drops_flushes)
+PASSES(invalidate_ranges, INVALIDATE_RANGES, vkInvalidateMappedMemoryRanges, invalidated, false)
 
 /* ---- Buffers and images. ---- */
 
-static VKAPI_ATTR VkResult VKAPI_CALL create_buffer(VkDevice device, const VkBufferCreateInfo *info,
-                                                    const VkAllocationCallbacks *callbacks, VkBuffer *buffer)
-{
-    must(callbacks_are_of_program(callbacks), "vkCreateBuffer has other callbacks");
-    VkResult result = refusing_draw(CREATE_BUFFER);
-    if (result == VK_SUCCESS)
-        result = vkCreateBuffer(device, info, callbacks, buffer);
-    add_to(&counts.buffers, result == VK_SUCCESS);
-    return refusing_noted(CREATE_BUFFER, result);
-}
+/* How a sort of resource is created, destroyed and bound. */
+#define RESOURCE(Type, lower, UPPER) \
+    static VKAPI_ATTR VkResult VKAPI_CALL create_##lower(VkDevice device, const Vk##Type##CreateInfo *info, \
+                                                         const VkAllocationCallbacks *callbacks, Vk##Type *made) \
+    { \
+        must(callbacks_are_of_program(callbacks), "vkCreate" #Type " has other callbacks"); \
+        VkResult result = refusing_draw(CREATE_##UPPER); \
+        if (result == VK_SUCCESS) \
+            result = vkCreate##Type(device, info, callbacks, made); \
+        add_to(&counts.lower##s, result == VK_SUCCESS); \
+        return refusing_noted(CREATE_##UPPER, result); \
+    } \
+    static VKAPI_ATTR void VKAPI_CALL destroy_##lower(VkDevice device, Vk##Type destroyed, \
+                                                      const VkAllocationCallbacks *callbacks) \
+    { \
+        must(callbacks_are_of_program(callbacks), "vkDestroy" #Type " has other callbacks"); \
+        add_to(&counts.lower##s, UINT64_MAX); \
+        vkDestroy##Type(device, destroyed, callbacks); \
+    } \
+    static VKAPI_ATTR VkResult VKAPI_CALL bind_##lower(VkDevice device, Vk##Type bound, VkDeviceMemory handle, \
+                                                       VkDeviceSize offset) \
+    { \
+        VkResult result = refusing_draw(BIND_##UPPER); \
+        if (result == VK_SUCCESS) \
+            result = vkBind##Type##Memory(device, bound, handle, offset + (set.is_shifted ? 1 : 0)); \
+        return refusing_noted(BIND_##UPPER, result); \
+    }
 
-static VKAPI_ATTR void VKAPI_CALL destroy_buffer(VkDevice device, VkBuffer buffer,
-                                                 const VkAllocationCallbacks *callbacks)
-{
-    must(callbacks_are_of_program(callbacks), "vkDestroyBuffer has other callbacks");
-    add_to(&counts.buffers, UINT64_MAX);
-    vkDestroyBuffer(device, buffer, callbacks);
-}
-
-static VKAPI_ATTR VkResult VKAPI_CALL create_image(VkDevice device, const VkImageCreateInfo *info,
-                                                   const VkAllocationCallbacks *callbacks, VkImage *image)
-{
-    must(callbacks_are_of_program(callbacks), "vkCreateImage has other callbacks");
-    VkResult result = refusing_draw(CREATE_IMAGE);
-    if (result == VK_SUCCESS)
-        result = vkCreateImage(device, info, callbacks, image);
-    add_to(&counts.images, result == VK_SUCCESS);
-    return refusing_noted(CREATE_IMAGE, result);
-}
-
-static VKAPI_ATTR void VKAPI_CALL destroy_image(VkDevice device, VkImage image, const VkAllocationCallbacks *callbacks)
-{
-    must(callbacks_are_of_program(callbacks), "vkDestroyImage has other callbacks");
-    add_to(&counts.images, UINT64_MAX);
-    vkDestroyImage(device, image, callbacks);
-}
-
-static VKAPI_ATTR VkResult VKAPI_CALL bind_buffer(VkDevice device, VkBuffer buffer, VkDeviceMemory handle,
-                                                  VkDeviceSize offset)
-{
-    VkResult result = refusing_draw(BIND_BUFFER);
-    if (result == VK_SUCCESS)
-        result = vkBindBufferMemory(device, buffer, handle, offset + (set.is_shifted ? 1 : 0));
-    return refusing_noted(BIND_BUFFER, result);
-}
-
-static VKAPI_ATTR VkResult VKAPI_CALL bind_image(VkDevice device, VkImage image, VkDeviceMemory handle,
-                                                 VkDeviceSize offset)
-{
-    VkResult result = refusing_draw(BIND_IMAGE);
-    if (result == VK_SUCCESS)
-        result = vkBindImageMemory(device, image, handle, offset + (set.is_shifted ? 1 : 0));
-    return refusing_noted(BIND_IMAGE, result);
-}
+RESOURCE(Buffer, buffer, BUFFER)
+RESOURCE(Image, image, IMAGE)
 
 /* ---- Opened. ---- */
 
