@@ -33,7 +33,7 @@ $(VULKAN_PROGRAMS)/plus_hpp: $(VULKAN_PROGRAMS)/plus_hpp.o
 $(VULKAN_PROGRAMS)/plus_end: $(VULKAN_PROGRAMS)/plus_end.o
 $(VULKAN_PROGRAMS)/plus_end_release: $(VULKAN_PROGRAMS)/plus_end_release.o
 $(addprefix $(VULKAN_PROGRAMS)/,plus plus_hpp plus_end plus_end_release): $(STUB) $(VULKAN_SIDE) $(BUILD)/libwallthyme.a
-	$(CXX11) -pthread $(filter %.o %.a,$^) $(BY_STUB) -o $@
+	$(CXX11) -pthread $(filter %.o,$^) $(filter %.a,$^) $(BY_STUB) -o $@
 
 # Without exceptions a result that is discarded is warned of: the first two of three here.
 DISCARDS = (echo '\#include "wallthyme.hpp"'; echo 'int f(wallthyme::Allocator &a) {'; echo 'a.cleanup();'; \
