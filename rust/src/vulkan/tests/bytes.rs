@@ -45,6 +45,7 @@ fn flushed_where_it_has_to_be() {
     let mut allocator = allocator(&stub);
     let mut coherent = buffer(&mut allocator, 1000, UPLOAD);
     let mut cached = buffer(&mut allocator, 1000, dedicated(DOWNLOAD, Dedicated::Required));
+    let mut beside = [(); 2].map(|()| buffer(&mut allocator, 1000, DOWNLOAD));
     let all = |block: &MemoryBlock<Memory>| 0..block.size();
     // SAFETY: no device uses the blocks. What is flushed is mapped.
     unsafe {
@@ -68,6 +69,11 @@ fn flushed_where_it_has_to_be() {
         allocator.flush(&both[..1]).unwrap();
         allocator.flush(&[]).unwrap();
         assert_eq!(stub.ranges(), [[]; 0]);
+        // Each range is of its own object: here one behind the end of the other's.
+        allocator.map(&mut beside[1].block).unwrap();
+        let behind = beside[1].block.offset();
+        allocator.flush(&[(&cached.block, 0..1), (&beside[1].block, 0..1)]).unwrap();
+        assert!(behind >= cached.block.size() && stub.ranges() == [[(0, ATOM), (behind, ATOM)]]);
         // At most 16 ranges go to one call.
         allocator.flush(&vec![(&cached.block, 0..1); 35]).unwrap();
         assert_eq!(stub.ranges().iter().map(Vec::len).collect::<Vec<_>>(), [16, 16, 3]);
@@ -78,7 +84,8 @@ fn flushed_where_it_has_to_be() {
         }
         assert_eq!(stub.ranges(), [[]; 0]);
     }
-    end(stub, allocator, vec![coherent, cached], vec![]);
+    let [one, other] = beside;
+    end(stub, allocator, vec![coherent, cached, one, other], vec![]);
 }
 
 /// A write or a read is one mapping at most, and one flush or invalidate. It needs no allocator: another thread may use
