@@ -183,17 +183,15 @@ static const VkMemoryPriorityAllocateInfoEXT priority = {VK_STRUCTURE_TYPE_MEMOR
 static const VkMemoryPriorityAllocateInfoEXT second_priority = {VK_STRUCTURE_TYPE_MEMORY_PRIORITY_ALLOCATE_INFO_EXT,
                                                                 &priority, 0};
 static const VkMappedMemoryRange no_structure_of_objects = {.sType = VK_STRUCTURE_TYPE_MAPPED_MEMORY_RANGE};
-static const VkMemoryAllocateFlagsInfo wrong_mask = {VK_STRUCTURE_TYPE_MEMORY_ALLOCATE_FLAGS_INFO, NULL,
-                                                     VK_MEMORY_ALLOCATE_DEVICE_MASK_BIT, 0};
-static const VkMemoryAllocateFlagsInfo one_device = {VK_STRUCTURE_TYPE_MEMORY_ALLOCATE_FLAGS_INFO, NULL,
-                                                     VK_MEMORY_ALLOCATE_DEVICE_ADDRESS_BIT, 1};
-static const VkMemoryAllocateFlagsInfo address = {VK_STRUCTURE_TYPE_MEMORY_ALLOCATE_FLAGS_INFO, NULL,
-                                                  VK_MEMORY_ALLOCATE_DEVICE_ADDRESS_BIT, 0};
+#define FLAGS(kind, mask) \
+    {VK_STRUCTURE_TYPE_MEMORY_ALLOCATE_FLAGS_INFO, NULL, VK_MEMORY_ALLOCATE_DEVICE_##kind##_BIT, mask}
+static const VkMemoryAllocateFlagsInfo wrong_flags = FLAGS(MASK, 0), one_device = FLAGS(ADDRESS, 1);
+static const VkMemoryAllocateFlagsInfo address = FLAGS(ADDRESS, 0);
 
 RULE(leave_an_object_untyped, object_typed(d, VK_STRUCTURE_TYPE_APPLICATION_INFO, STUB_LOCAL, SIZE, NULL))
 RULE(chain_to_an_object, object_chained(d, STUB_LOCAL, SIZE, &no_structure_of_objects))
 RULE(chain_to_an_object_twice, object_chained(d, STUB_LOCAL, SIZE, &second_priority))
-RULE(ask_for_a_wrong_mask, object_chained(d, STUB_LOCAL, SIZE, &wrong_mask))
+RULE(ask_for_wrong_flags, object_chained(d, STUB_LOCAL, SIZE, &wrong_flags))
 RULE(ask_for_one_device, object_chained(d, STUB_LOCAL, SIZE, &one_device))
 RULE(ask_for_addresses, object_chained(d, STUB_LOCAL, SIZE, &address))
 RULE(ask_for_no_addresses, object_of(d, STUB_COHERENT))
@@ -216,22 +214,10 @@ RULE(ask_for_a_type_that_never_serves, object_of(d, STUB_LAZY))
 RULE(ask_for_nothing, object_chained(d, STUB_LOCAL, 0, NULL))
 RULE(ask_for_too_much, object_chained(d, STUB_LOCAL, (4 << 20) + 1, NULL))
 RULE(pass_a_heap, object_chained(d, STUB_LOCAL, 4 << 20, NULL), object_chained(d, STUB_LOCAL, (2 << 20) + 1, NULL))
-
-static void pass_a_limit(const device *d)
-{
-    object_of(d, STUB_LOCAL);
-    stub_set_limit(d->driver, STUB_LOCAL_HEAP, 6 * SIZE);
-    object_of(d, STUB_LOCAL);
-}
-
-static void pass_a_budget(const device *d)
-{
-    object_of(d, STUB_LOCAL);
-    stub_set_budget(d->driver, STUB_LOCAL_HEAP, 8 * SIZE, 1);
-    read_budgets(d);
-    object_of(d, STUB_LOCAL);
-}
-
+RULE(pass_a_limit, object_of(d, STUB_LOCAL), stub_set_limit(d->driver, STUB_LOCAL_HEAP, 6 * SIZE),
+     object_of(d, STUB_LOCAL))
+RULE(pass_a_budget, object_of(d, STUB_LOCAL), stub_set_budget(d->driver, STUB_LOCAL_HEAP, 8 * SIZE, 1), read_budgets(d),
+     object_of(d, STUB_LOCAL))
 RULE(hold_too_many, for (int i = 0; i <= MOST_OBJECTS; i++) object_of(d, STUB_LOCAL))
 
 /* An object for these alone, of the size that the buffer needs and more. */
@@ -397,7 +383,7 @@ static const rule rules[] = {
     {"a wrong sType", leave_an_object_untyped, NEW},
     {"a wrong chain", chain_to_an_object, NEW},
     {"a wrong chain", chain_to_an_object_twice, NEW},
-    {"wrong flags", ask_for_a_wrong_mask, NEW, ADDRESSES},
+    {"wrong flags", ask_for_wrong_flags, NEW, ADDRESSES},
     {"wrong flags", ask_for_one_device, NEW, ADDRESSES},
     {"device addresses are not enabled", ask_for_addresses, NEW},
     {"other callbacks than the program's", give_no_callbacks, NEW, .has_callbacks = true},
