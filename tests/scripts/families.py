@@ -90,7 +90,8 @@ block type 0 object 1 offset 0 size 128
 block type 0 object 1 offset 128 size 128
 block type 0 object 1 offset 256 size 256
 """
-HELD, FREED = "ok\ncounts remaining 4095 held 1 used 8192\n", "ok\ncounts remaining 4096 held 0 used 0\n"
+OK = "ok\n"
+HELD, FREED = f"{OK}counts remaining 4095 held 1 used 8192\n", f"{OK}counts remaining 4096 held 0 used 0\n"
 
 # Blocks of two chunks of a free list, and what is asked once they are freed.
 FOUR = """\
@@ -137,7 +138,7 @@ def freed_buddies():
 def freed_tails():
     """The order of returns does not show in later answers."""
     for order in itertools.permutations((1, 2, 3, 4)):
-        yield FOUR + "".join(f"free {name}\n" for name in order) + LATER, FOUR_BLOCKS + 4 * "ok\n" + LATER_REPLIES
+        yield FOUR + "".join(f"free {name}\n" for name in order) + LATER, FOUR_BLOCKS + 4 * OK + LATER_REPLIES
 
 
 def ended(allocations):
@@ -187,5 +188,15 @@ def long_numbers():
         yield f"heap {first}{99_998 * '0'}1", replies
 
 
-FAMILIES = lines, freed_buddies, freed_tails, tried_types
+def halves():
+    """In a chunk full of blocks each half of a pair waits for the other."""
+    takes = "".join(f"alloc {name} 128 0 0 1\n" for name in range(64))
+    blocks = "".join(f"block type 0 object 1 offset {128 * name} size 128\n" for name in range(64))
+    first, second = ("".join(f"free {name}\n" for name in range(half, 64, 2)) for half in (0, 1))
+    ranges = "".join(f" 1:{128 * name}-{128 * name + 128}" for name in range(1, 64, 2))
+    yield (f"heap 1048576\ntype 0 1\n{takes}{second}ranges 0\ncounts\n{first}counts\n",
+           f"{blocks}{32 * OK}ranges{ranges}\n{HELD[3:]}{32 * OK}{FREED[3:]}{ended(1)}")
+
+
+FAMILIES = lines, freed_buddies, freed_tails, tried_types, halves
 MANY = counted_fields, last_bytes, long_numbers

@@ -2,7 +2,6 @@
 
 mod bench;
 mod buddy;
-mod budget;
 mod bytes;
 mod config;
 mod drawn;

@@ -52,6 +52,7 @@ fn compare_import(rt: &impl Abort, bench: &Bench) {
         used: 96,
     };
     same(rt, "what is held of an import", &bench.held(), &held);
+    same(rt, "what is left", &bench.budget(), &((1 << 20) - 96));
     for (object, is_held) in [(1, true), (2, false)] {
         let known = bench.holds_and_owns(rt, object);
         same_at(rt, "known is", &object, &known, &(is_held, true));

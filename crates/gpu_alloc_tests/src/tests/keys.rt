@@ -97,6 +97,31 @@ fn take_steps(rt: &impl Abort, bench: &mut Bench, row: Row, steps: &[Step]) {
     }
 }
 
+/// A block that came back is owned no longer, whatever its key. If not, it could come back once more.
+#[test]
+fn a_block_that_came_back_is_not_owned(rt: HostRuntime) -> Result<(), Fail> {
+    let mut first = Bench::new(&rt, rt.alloc(), LOCAL, 1)?;
+    let opened = Bench::new(&rt, rt.alloc(), LOCAL, 1);
+    let Ok(mut second) = opened else {
+        panic!(rt; "no second allocator");
+    };
+    take_steps(&rt, &mut first, BUDDIES, BUDDIES.first);
+    take_steps(&rt, &mut second, BUDDIES, BUDDIES.second);
+    first.dealloc_at(&rt, 3);
+    let owned = (first.owns_all_of(&second), second.owns_all_of(&first));
+    same(&rt, "whether all are owned", &owned, &(false, true));
+    end_both(&rt, first, second);
+    Ok(())
+}
+
+/// Ends two allocators with their blocks. They hold nothing then.
+fn end_both(rt: &impl Abort, mut first: Bench, mut second: Bench) {
+    first.give_all_back(rt);
+    second.give_all_back(rt);
+    first.end(rt, 4096);
+    second.end(rt, 4096);
+}
+
 /// Each allocator owns the other's blocks and takes them back, and holds nothing then. If not, it would free another
 /// block in the place of that which comes back.
 #[test]
@@ -112,10 +137,7 @@ fn blocks_under_other_keys_come_back(rt: HostRuntime) -> Result<(), Fail> {
         let owned = (first.owns_all_of(&second), second.owns_all_of(&first));
         same_at(&rt, "row", &at, &owned, &(true, true));
         first.swap_blocks(&mut second);
-        first.give_all_back(&rt);
-        second.give_all_back(&rt);
-        first.end(&rt, 4096);
-        second.end(&rt, 4096);
+        end_both(&rt, first, second);
     }
     Ok(())
 }

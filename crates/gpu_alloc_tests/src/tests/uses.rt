@@ -5,10 +5,11 @@ ghost use Rattle.gpu_alloc.specs.Request.{IsAskable};
 
 use super::offers::{LOCAL, again, are_usable, offer};
 use super::same::{holds, same};
-use gpu_alloc::{AllocationError, Config, Request, UsageFlags};
+use gpu_alloc::{AllocationError, AllocationFlags, Config, DeviceProperties, Request, UsageFlags};
 use gpu_clients::uses::opening::open_and_close;
 use gpu_clients::uses::textures::TextureCache;
 use gpu_sim::{Question, Sim, SimMemory};
+use std::alloc::Global;
 use std::process::Abort;
 use std::test::Fail;
 
@@ -24,24 +25,42 @@ fn request(size: u64, usage: UsageFlags) -> Request {
     }
 }
 
-/// A block comes from a chunk that is asked for, and after the close the device holds nothing.
+/// Opens an allocator, takes a block of 100 bytes and closes it. Compares the only question for an object.
+fn use_once(
+    rt: &impl Abort,
+    alloc: Global,
+    usage: UsageFlags,
+    buffer_device_address: bool,
+    flags: AllocationFlags,
+) -> Result<(), Fail> {
+    let types = [LOCAL];
+    let props = DeviceProperties {
+        buffer_device_address,
+        ..offer(&types, 1)
+    };
+    are_usable(rt, &props);
+    let mut device: Sim = Sim::new(alloc, again(&props))?;
+    let asked = request(100, usage);
+    let done = open_and_close::<SimMemory, Sim>(alloc, props, &mut device, asked);
+    let counts = (device.asked(Question::Allocate), device.objects());
+    let latest = device.last_allocation();
+    drop(device);
+    same(rt, "whether it is served", &done.is_ok(), &true);
+    same(rt, "allocations and objects", &counts, &(1, 0));
+    same(rt, "the question", &latest, &Some((8192, 0, flags)));
+    Ok(())
+}
+
+/// A block comes from a chunk that is asked for, with the address flag exactly where the device has that feature. After
+/// the close the device holds nothing.
 #[test]
 fn an_allocator_is_opened_used_and_closed(rt: HostRuntime) -> Result<(), Fail> {
-    let types = [LOCAL];
-    let props = offer(&types, 1);
-    are_usable(&rt, &props);
-    let mut device: Sim = Sim::new(rt.alloc(), again(&props))?;
-    let done = open_and_close::<SimMemory, Sim>(
-        rt.alloc(),
-        props,
-        &mut device,
-        request(100, UsageFlags::TRANSIENT),
-    );
-    let counts = (device.asked(Question::Allocate), device.objects());
-    drop(device);
-    same(&rt, "whether it is served", &done.is_ok(), &true);
-    same(&rt, "allocations and objects", &counts, &(1, 0));
-    Ok(())
+    let none = AllocationFlags::empty();
+    let address = AllocationFlags::DEVICE_ADDRESS;
+    use_once(&rt, rt.alloc(), UsageFlags::TRANSIENT, false, none)?;
+    use_once(&rt, rt.alloc(), UsageFlags::TRANSIENT, true, address)?;
+    use_once(&rt, rt.alloc(), UsageFlags::empty(), false, none)?;
+    use_once(&rt, rt.alloc(), UsageFlags::empty(), true, address)
 }
 
 /// A valid request for a texture of `size` bytes.

@@ -91,8 +91,11 @@ const BASE: &str = "heap 1048576\ntype 0 1\n";
 /// A buddy block and a mapped object of its own are held.
 const HELD: &str = "heap 1048576\ntype 0 6\nalloc 1 64 0 2 1\nrequired 2 64 0 2 1\nmap 2 0 64\n";
 
+/// Two heaps, and a ledger of each.
+const TWO_HEAPS: &str = "heap 1048576\nheap 1048576\ntype 0 1\n";
+
 /// Commands, and which refusals they meet. Those that take no memory only lack a place for their reply.
-const WANTS: [(&str, &str, Refusals); 17] = [
+const WANTS: [(&str, &str, Refusals); 18] = [
     (BASE, "required 1 100 0 0 1", [true, true, true]),
     (BASE, "preferred 1 1024 0 0 1", [true, true, true]),
     (BASE, "alloc 1 100 0 0 1", [true, true, true]),
@@ -102,6 +105,7 @@ const WANTS: [(&str, &str, Refusals); 17] = [
     (HELD, "get 2 0 64", [true, true, false]),
     (HELD, "ranges 0", [true, true, false]),
     (HELD, "counts", [true, true, false]),
+    (TWO_HEAPS, "counts", [true, true, false]),
     (HELD, "free 1", [true, false, false]),
     (HELD, "free 2", [true, false, false]),
     (HELD, "map 1 0 64", [true, false, false]),
