@@ -41,14 +41,8 @@ pub(super) enum Memory {
     Coherent,
 }
 
-/// What each of two blocks is asked for with.
-#[derive(Clone, Copy)]
-pub(super) struct Asking {
-    pub(super) memory: Memory,
-    pub(super) usage: UsageFlags,
-    pub(super) size: u64,
-    pub(super) hint: Dedicated,
-}
+/// What each of two blocks is asked for with: the memory, the usage, how many bytes, and the hint.
+pub(super) type Asking = (Memory, UsageFlags, u64, Dedicated);
 
 /// A call of a block, and the answer that it must give.
 #[derive(Clone, Copy)]
@@ -59,7 +53,7 @@ pub(super) enum Call {
     /// This many bytes are read there, and are these.
     Read(u64, &'static [u8]),
 
-    /// Reading this many bytes there is refused, and the buffer is unchanged.
+    /// Reading this many bytes there is refused, and all of the buffer is unchanged.
     Unread(u64, usize, MapError),
 
     /// This many bytes are mapped there. A mapping is given by where it starts in the object, and how many bytes it
@@ -76,11 +70,23 @@ pub(super) enum Call {
 /// What is done with two blocks and their device, and what must come of it.
 #[derive(Clone, Copy)]
 pub(super) enum Step {
+    /// Two fresh blocks take the place of the others, and what follows shows that.
+    Fresh(&'static str, Asking),
+
     /// The first block is called.
     First(Call),
 
     /// The second block is called.
     Second(Call),
+
+    /// The first block is called, and the latest range in a question is then this.
+    FirstAsks(Call, Range),
+
+    /// The second block is called, and the latest range in a question is then this.
+    SecondAsks(Call, Range),
+
+    /// A map, a write and a read of the first block are refused in turn for this cause, and nothing is mapped.
+    NoMap(Cause, MapError),
 
     /// The device refuses its next question of that kind.
     Refuse(Question, Cause),
@@ -90,15 +96,12 @@ pub(super) enum Step {
 
     /// How often the device was asked to allocate, map, flush and invalidate.
     Asked([u64; 4]),
-
-    /// The latest range in a question was that of the object with this name: its offset and its size.
-    Range(u64, u64, u64),
 }
 
-/// What is shown, what two blocks are asked for with, and what is done with them.
-pub(super) type Row = (&'static str, Asking, &'static [Step]);
+/// A range in a question: the name of its object, its offset and its size.
+pub(super) type Range = (u64, u64, u64);
 
-/// What a row shows, and the number of a step in it.
+/// What is shown, and the number of a step.
 pub(super) type At = (&'static str, usize);
 
 /// An allocator over a simulated device, and two blocks of it. Contracts see nothing of them.
@@ -126,7 +129,7 @@ impl Pair {
     fn new(rt: &impl Abort, alloc: Global, asking: Asking) -> Result<Pair, Fail> {
         let memory_type = MemoryType {
             heap: 0,
-            props: props_of(asking.memory),
+            props: props_of(asking.0),
         };
         let Bench {
             allocator,
@@ -162,22 +165,39 @@ impl Pair {
     /// Takes one step, and compares what comes of it.
     fn take_step(&mut self, rt: &impl Abort, at: At, step: Step) {
         match step {
+            Step::Fresh(_, _) => {}
             Step::First(call) => self.call_first(rt, at, call),
             Step::Second(call) => self.call_second(rt, at, call),
+            Step::FirstAsks(call, range) => {
+                self.call_first(rt, at, call);
+                self.compare_range(rt, at, range);
+            }
+            Step::SecondAsks(call, range) => {
+                self.call_second(rt, at, call);
+                self.compare_range(rt, at, range);
+            }
+            Step::NoMap(cause, error) => self.refuse_maps(rt, at, cause, error),
             Step::Refuse(kind, cause) => self.refuse(rt, kind, cause),
             Step::Command(object, offset, bytes) => self.command(rt, object, offset, bytes),
             Step::Asked(counts) => same_at(rt, "questions at step", &at, &self.asked(), &counts),
-            Step::Range(object, offset, size) => {
-                let wanted = Some((object, offset, size));
-                same_at(
-                    rt,
-                    "the range of step",
-                    &at,
-                    &self.device.last_range(),
-                    &wanted,
-                );
-            }
         }
+    }
+
+    fn refuse_maps(&mut self, rt: &impl Abort, at: At, cause: Cause, error: MapError) {
+        for call in [
+            Call::Map(0, 4, Err(error)),
+            Call::Write(0, &[2; 4], Err(error)),
+            Call::Unread(0, 4, error),
+        ] {
+            self.refuse(rt, Question::Map, cause);
+            self.call_first(rt, at, call);
+            self.call_first(rt, at, Call::Mapped(None));
+        }
+    }
+
+    fn compare_range(&self, rt: &impl Abort, at: At, range: Range) {
+        let came = self.device.last_range();
+        same_at(rt, "the range of step", &at, &came, &Some(range));
     }
 
     fn call_first(&mut self, rt: &impl Abort, at: At, call: Call) {
@@ -228,19 +248,21 @@ impl Pair {
     }
 }
 
-/// Takes the steps of each row in their order with two fresh blocks, and returns these.
-pub(super) fn play(rt: &impl Abort, alloc: Global, rows: &[Row]) -> Result<(), Fail> {
-    for row in rows {
-        play_row(rt, alloc, *row)?;
-    }
-    Ok(())
-}
-
-/// The same of one row.
-fn play_row(rt: &impl Abort, alloc: Global, (shows, asking, steps): Row) -> Result<(), Fail> {
+/// Takes the steps in their order, at first with two fresh blocks that show that, and returns the blocks.
+pub(super) fn play(
+    rt: &impl Abort,
+    alloc: Global,
+    (mut shown, asking): (&'static str, Asking),
+    steps: &[Step],
+) -> Result<(), Fail> {
     let mut pair = Pair::new(rt, alloc, asking)?;
     for (number, step) in steps.iter().enumerate() {
-        pair.take_step(rt, (shows, number), *step);
+        if let Step::Fresh(shows, asking) = *step {
+            pair.end(rt);
+            pair = Pair::new(rt, alloc, asking)?;
+            shown = shows;
+        }
+        pair.take_step(rt, (shown, number), *step);
     }
     pair.end(rt);
     Ok(())
@@ -272,18 +294,15 @@ fn take(
     ensures keeps { KeepsBlocks allocator.old device.old.properties (objects_of device.old)
         allocator.new device.new.properties (objects_of device.new) }
 {
+    let (_, usage, size, hint) = asking;
     let request = Request {
-        size: asking.size,
+        size,
         align_mask: 0,
-        usage: asking.usage,
+        usage,
         memory_types: 1,
     };
-    holds(
-        rt,
-        request.is_askable(false),
-        "a request that may not be asked",
-    );
-    match allocator.alloc_with_dedicated(device, request, asking.hint) {
+    holds(rt, request.is_askable(false), "a request not to be asked");
+    match allocator.alloc_with_dedicated(device, request, hint) {
         Ok(block) => block,
         Err(error) => panic!(rt; "{error}"),
     }
@@ -300,11 +319,7 @@ pub(super) fn plan(
     ensures properties { device.new.properties ≡ device.old.properties }
     ensures objects { objects_of device.new ≡ objects_of device.old }
 {
-    holds(
-        rt,
-        can_refuse(kind, cause),
-        "a cause that a question cannot have",
-    );
+    holds(rt, can_refuse(kind, cause), "a cause of other questions");
     device.refuse(kind, nth, cause)
 }
 
@@ -347,11 +362,11 @@ fn call_block(
         }
         Call::Read(offset, bytes) => {
             let given = read(rt, device, block, offset, bytes.len());
-            compare_read(rt, at, given, bytes);
+            compare_read(rt, at, given, Ok(()), bytes);
         }
         Call::Unread(offset, len, error) => {
             let given = read(rt, device, block, offset, len);
-            compare_unread(rt, at, given, error);
+            compare_read(rt, at, given, Err(error), &[UNREAD; MOST]);
         }
         Call::Map(offset, size, answer) => {
             holds(rt, size > 0 && fits(block, offset, size), OUTSIDE);
@@ -403,28 +418,16 @@ fn read(
     (given, buffer)
 }
 
-/// Compares what was read with these bytes.
-fn compare_read(rt: &impl Abort, at: At, read: (Result<(), MapError>, [u8; MOST]), bytes: &[u8]) {
-    let (given, buffer) = read;
-    same_at(rt, "the read of step", &at, &given, &Ok(()));
-    holds(rt, bytes.len() <= MOST, "more bytes than the buffer has");
-    same_at(
-        rt,
-        "what is read at step",
-        &at,
-        &&buffer[..bytes.len()],
-        &bytes,
-    );
-}
-
-/// Compares the cause of a refused read. The buffer is unchanged.
-fn compare_unread(
+/// Compares the answer to a read, and the first bytes of the buffer.
+fn compare_read(
     rt: &impl Abort,
     at: At,
-    read: (Result<(), MapError>, [u8; MOST]),
-    error: MapError,
+    (given, buffer): (Result<(), MapError>, [u8; MOST]),
+    answer: Result<(), MapError>,
+    bytes: &[u8],
 ) {
-    let (given, buffer) = read;
-    same_at(rt, "the refused read of step", &at, &given, &Err(error));
-    same_at(rt, "the buffer at step", &at, &buffer, &[UNREAD; MOST]);
+    same_at(rt, "the read of step", &at, &given, &answer);
+    holds(rt, bytes.len() <= MOST, "more bytes than the buffer has");
+    let read = &buffer[..bytes.len()];
+    same_at(rt, "what is read at step", &at, &read, &bytes);
 }

@@ -88,6 +88,8 @@ impl Device {
     /// Takes one step, and compares what comes of it.
     fn take_step(&mut self, rt: &impl Abort, at: At, step: Step) {
         match step {
+            Step::Fresh(_) => {}
+            Step::Refuse(kind, nth, cause) => self.refuse(rt, (kind, nth, cause)),
             Step::Keep(size, answer, objects) => {
                 holds(rt, size > 0, "an object of no bytes");
                 let given = ask(&mut self.sim, size);
@@ -97,26 +99,15 @@ impl Device {
             Step::Return(size, answer, objects) => {
                 let given = self.ask_and_return(rt, size);
                 let came = (given, self.sim.objects());
-                same_at(
-                    rt,
-                    "the returned object of step",
-                    &at,
-                    &came,
-                    &(answer, objects),
-                );
+                same_at(rt, "the return of step", &at, &came, &(answer, objects));
             }
             Step::Duplicate(size, answer) => {
                 let given = self.ask_and_duplicate(rt, size);
                 same_at(rt, "the duplicate of step", &at, &given, &Some(answer));
             }
             Step::Map(size, answer) => {
-                same_at(
-                    rt,
-                    "the mapping of step",
-                    &at,
-                    &self.map_new(rt, size),
-                    &Ok(answer),
-                );
+                let given = self.map_new(rt, size);
+                same_at(rt, "the mapping of step", &at, &given, &Ok(answer));
             }
             Step::Asked(allocations, maps) => {
                 let wanted = (allocations, maps);
@@ -190,6 +181,12 @@ fn ask<A: Allocator + Copy>(sim: &mut Sim<A>, size: u64) -> Result<u64, OutOfMem
 /// What a device is asked, and what it answers or reports.
 #[derive(Clone, Copy)]
 enum Step {
+    /// A fresh device takes the place of the one before, and what follows shows that.
+    Fresh(&'static str),
+
+    /// It refuses that question of a kind, for that cause.
+    Refuse(Question, u64, Cause),
+
     /// It is asked for an object of this many bytes, which is kept, and answers its name. Then it holds this many
     /// objects.
     Keep(u64, Result<u64, OutOfMemory>, usize),
@@ -216,92 +213,59 @@ fn without_flags(latest: Option<(u64, u32)>) -> Option<(u64, u32, AllocationFlag
     Some((size, memory_type, AllocationFlags::from_bits_retain(0)))
 }
 
-/// What is shown, which question is refused, and what is done.
-type Row = (&'static str, Plan, &'static [Step]);
-
-/// Takes the steps of a row in their order with a fresh device.
-fn play(rt: &impl Abort, alloc: Global, (shows, refused, steps): Row) -> Result<(), Fail> {
-    let mut device = Device::new(rt, alloc, false, refused)?;
-    for (number, step) in steps.iter().enumerate() {
-        device.take_step(rt, (shows, number), *step);
-    }
-    drop(device);
-    Ok(())
-}
-
-const ROWS: [Row; 9] = [
-    (
-        "a refused question uses no name",
-        (Question::Allocate, 1, Cause::Device),
-        &[
-            Step::Keep(8, Err(OutOfMemory::OutOfDeviceMemory), 0),
-            Step::Keep(8, Ok(1), 1),
-            Step::Keep(9, Ok(2), 2),
-        ],
-    ),
-    (
-        "a name is given once",
-        NONE,
-        &[Step::Return(8, Ok(1), 0), Step::Keep(8, Ok(2), 1)],
-    ),
-    (
-        "a question is counted and told",
-        (Question::Allocate, 2, Host),
-        &[
-            Step::Asked(0, 0),
-            Step::Latest(None),
-            Step::Keep(8, Ok(1), 1),
-            Step::Keep(16, Err(OutOfMemory::OutOfHostMemory), 1),
-            Step::Asked(2, 0),
-            Step::Latest(Some((16, 0))),
-        ],
-    ),
-    (
-        "a plan for a map refuses no allocation",
-        (Question::Map, 1, Failed),
-        &[Step::Keep(8, Ok(1), 1)],
-    ),
-    (
-        "a map that the device has no memory for is counted and maps nothing",
-        (Question::Map, 1, Cause::Device),
-        &[
-            Step::Map(8, Err(DeviceMapError::OutOfDeviceMemory)),
-            Step::Asked(1, 2),
-        ],
-    ),
-    (
-        "a map that the host has no memory for is counted and maps nothing",
-        (Question::Map, 1, Host),
-        &[
-            Step::Map(8, Err(DeviceMapError::OutOfHostMemory)),
-            Step::Asked(1, 2),
-        ],
-    ),
-    (
-        "a map that fails is counted and maps nothing",
-        (Question::Map, 1, Failed),
-        &[
-            Step::Map(8, Err(DeviceMapError::MapFailed)),
-            Step::Asked(1, 2),
-        ],
-    ),
-    (
-        "a plan for a second map refuses no first one",
-        (Question::Map, 2, Failed),
-        &[Step::Map(8, Ok(())), Step::Asked(1, 1)],
-    ),
-    (
-        "a duplicate is of the same object",
-        NONE,
-        &[Step::Keep(8, Ok(1), 1), Step::Duplicate(8, 2)],
-    ),
+const STEPS: [Step; 37] = [
+    Step::Refuse(Question::Allocate, 1, Cause::Device),
+    Step::Keep(8, Err(OutOfMemory::OutOfDeviceMemory), 0),
+    Step::Keep(8, Ok(1), 1),
+    Step::Keep(9, Ok(2), 2),
+    Step::Fresh("a name is given once"),
+    Step::Return(8, Ok(1), 0),
+    Step::Keep(8, Ok(2), 1),
+    Step::Fresh("a question is counted and told"),
+    Step::Refuse(Question::Allocate, 2, Host),
+    Step::Asked(0, 0),
+    Step::Latest(None),
+    Step::Keep(8, Ok(1), 1),
+    Step::Keep(16, Err(OutOfMemory::OutOfHostMemory), 1),
+    Step::Asked(2, 0),
+    Step::Latest(Some((16, 0))),
+    Step::Fresh("a plan for a map refuses no allocation"),
+    Step::Refuse(Question::Map, 1, Failed),
+    Step::Keep(8, Ok(1), 1),
+    Step::Fresh("a map that the device has no memory for is counted"),
+    Step::Refuse(Question::Map, 1, Cause::Device),
+    Step::Map(8, Err(DeviceMapError::OutOfDeviceMemory)),
+    Step::Asked(1, 2),
+    Step::Fresh("a map that the host has no memory for is counted"),
+    Step::Refuse(Question::Map, 1, Host),
+    Step::Map(8, Err(DeviceMapError::OutOfHostMemory)),
+    Step::Asked(1, 2),
+    Step::Fresh("a map that fails is counted"),
+    Step::Refuse(Question::Map, 1, Failed),
+    Step::Map(8, Err(DeviceMapError::MapFailed)),
+    Step::Asked(1, 2),
+    Step::Fresh("a plan for a second map refuses no first one"),
+    Step::Refuse(Question::Map, 2, Failed),
+    Step::Map(8, Ok(())),
+    Step::Asked(1, 1),
+    Step::Fresh("a duplicate is of the same object"),
+    Step::Keep(8, Ok(1), 1),
+    Step::Duplicate(8, 2),
 ];
 
 #[test]
 fn questions_are_answered_in_turn(rt: HostRuntime) -> Result<(), Fail> {
-    for row in &ROWS {
-        play(&rt, rt.alloc(), *row)?;
+    let mut device = Device::new(&rt, rt.alloc(), false, NONE)?;
+    let mut shown = "a refused question uses no name";
+    for (number, step) in STEPS.iter().enumerate() {
+        if let Step::Fresh(shows) = *step {
+            drop(device);
+            device = Device::new(&rt, rt.alloc(), false, NONE)?;
+            shown = shows;
+        }
+        device.take_step(&rt, (shown, number), *step);
     }
+    drop(device);
     Ok(())
 }
 
@@ -396,12 +360,8 @@ fn a_duplicate_is_refused_with_its_memory(rt: HostRuntime) -> Result<(), Fail> {
     }
     scarce.lift();
     let fit = count_duplicates(rt.alloc(), &memory)?;
-    same(
-        &rt,
-        "duplicates and the object",
-        &(fit, memory.object()),
-        &(None, 2),
-    );
+    let came = (fit, memory.object());
+    same(&rt, "duplicates and the object", &came, &(None, 2));
     Ok(())
 }
 
@@ -415,13 +375,8 @@ fn compare_largest(rt: &impl Abort, alloc: Global, bits: u8) -> Result<(), Alloc
     let objects = sim.objects();
     drop(sim);
     let came = (answer, (first, second), objects);
-    same_at(
-        rt,
-        "an object of bits",
-        &bits,
-        &came,
-        &(Ok(1), (false, false), 1),
-    );
+    let wanted = (Ok(1), (false, false), 1);
+    same_at(rt, "an object of bits", &bits, &came, &wanted);
     Ok(())
 }
 

@@ -6,7 +6,7 @@ ghost use Rattle.std.specs.Prelude.{◌≡◌, ◌+◌, ◌≤◌, ◌<◌, IsTr
 use super::pair::At;
 use super::same::{holds, same, same_at};
 use super::sim::{Device, NONE, Plan};
-use Act::{Flush, FlushTwo, Invalidate, Put, Remap, See, Told, Write};
+use Act::{Coherent, Flush, FlushTwo, Fresh, Invalidate, Put, Remap, See, Told, Write};
 use Cause::Host;
 use gpu_alloc_types::{
     AllocationFlags, MappedMemoryRange, MemoryDevice, MemoryObject, OutOfMemory,
@@ -64,24 +64,15 @@ impl Mapped {
 
     fn act(&mut self, rt: &impl Abort, at: At, act: Act) {
         match act {
+            Fresh(_, _) | Coherent(_) => {}
             Put(offset, bytes) => self.put(rt, offset, &bytes),
             Write(offset, bytes, answer) => {
-                same_at(
-                    rt,
-                    "the write of act",
-                    &at,
-                    &self.write(offset, &bytes),
-                    &answer,
-                );
+                let given = self.write(offset, &bytes);
+                same_at(rt, "the write of act", &at, &given, &answer);
             }
             Flush(offset, size, answer) => {
-                same_at(
-                    rt,
-                    "the flush of act",
-                    &at,
-                    &self.flush(rt, offset, size),
-                    &answer,
-                );
+                let given = self.flush(rt, offset, size);
+                same_at(rt, "the flush of act", &at, &given, &answer);
             }
             FlushTwo => self.flush_two_and_none(rt),
             Invalidate(offset, size, answer) => {
@@ -178,6 +169,13 @@ impl Mapped {
 /// What is done to an object, and what is found.
 #[derive(Clone, Copy)]
 enum Act {
+    /// Another object takes the place of the one before. It is not coherent, and its device refuses that question. What
+    /// follows shows that.
+    Fresh(&'static str, Plan),
+
+    /// The same of a coherent object, for which nothing is refused.
+    Coherent(&'static str),
+
     /// The host writes bytes there.
     Put(u64, [u8; 2]),
 
@@ -208,139 +206,90 @@ const REFUSED: Result<(), OutOfMemory> = Err(OutOfMemory::OutOfHostMemory);
 /// All that the device has is copied to the host.
 const ALL: Act = Invalidate(0, 8, Ok(()));
 
-/// What is shown, whether the object is coherent, which question the device refuses, and what is done.
-type Row = (&'static str, bool, Plan, &'static [Act]);
-
-/// Does all that a row has in turn with a fresh object.
-fn act_in_turn(
-    rt: &impl Abort,
-    alloc: Global,
-    (shows, coherent, refused, acts): Row,
-) -> Result<(), Fail> {
-    let mut device = Mapped::new(rt, Device::new(rt, alloc, coherent, refused)?)?;
-    for (number, act) in acts.iter().enumerate() {
-        device.act(rt, (shows, number), *act);
+/// What is shown of another object, if an act takes one, whether it is coherent, and which question is refused.
+fn other(act: Act) -> Option<(&'static str, bool, Plan)> {
+    match act {
+        Fresh(shows, refused) => Some((shows, false, refused)),
+        Coherent(shows) => Some((shows, true, NONE)),
+        _ => None,
     }
-    drop(device);
-    Ok(())
 }
 
-const ROWS: [Row; 11] = [
-    (
-        "new coherent bytes are zeros",
-        true,
-        NONE,
-        &[See([0; 8]), Invalidate(3, 5, Ok(())), See([0; 8])],
-    ),
-    (
-        "new bytes that are not coherent show a missing invalidate",
-        false,
-        NONE,
-        &[
-            See([238; 8]),
-            Invalidate(3, 5, Ok(())),
-            See([238, 238, 238, 0, 0, 0, 0, 0]),
-        ],
-    ),
-    (
-        "the device sees a put into coherent bytes at once",
-        true,
-        NONE,
-        &[Put(2, [3, 4]), ALL, See([0, 0, 3, 4, 0, 0, 0, 0])],
-    ),
-    (
-        "the device does not see a put that is not flushed",
-        false,
-        NONE,
-        &[Put(2, [3, 4]), ALL, See([0; 8])],
-    ),
-    (
-        "a flush copies its range",
-        false,
-        NONE,
-        &[
-            Put(2, [3, 4]),
-            Put(4, [5, 6]),
-            Flush(3, 2, Ok(())),
-            ALL,
-            See([0, 0, 0, 4, 5, 0, 0, 0]),
-        ],
-    ),
-    (
-        "a refused flush copies the first half",
-        false,
-        (Question::Flush, 1, Host),
-        &[
-            Put(1, [2, 3]),
-            Put(3, [4, 5]),
-            Flush(1, 7, REFUSED),
-            ALL,
-            See([0, 2, 3, 4, 0, 0, 0, 0]),
-        ],
-    ),
-    (
+const ACTS: [Act; 54] = [
+    See([0; 8]),
+    Invalidate(3, 5, Ok(())),
+    See([0; 8]),
+    Fresh("a missing invalidate shows in new bytes", NONE),
+    See([238; 8]),
+    Invalidate(3, 5, Ok(())),
+    See([238, 238, 238, 0, 0, 0, 0, 0]),
+    Coherent("the device sees a put into coherent bytes at once"),
+    Put(2, [3, 4]),
+    ALL,
+    See([0, 0, 3, 4, 0, 0, 0, 0]),
+    Fresh("the device does not see a put that is not flushed", NONE),
+    Put(2, [3, 4]),
+    ALL,
+    See([0; 8]),
+    Fresh("a flush copies its range", NONE),
+    Put(2, [3, 4]),
+    Put(4, [5, 6]),
+    Flush(3, 2, Ok(())),
+    ALL,
+    See([0, 0, 0, 4, 5, 0, 0, 0]),
+    Fresh("a refused flush copies half", (Question::Flush, 1, Host)),
+    Put(1, [2, 3]),
+    Put(3, [4, 5]),
+    Flush(1, 7, REFUSED),
+    ALL,
+    See([0, 2, 3, 4, 0, 0, 0, 0]),
+    Fresh(
         "a refused invalidate copies the first half",
-        false,
         (Question::Invalidate, 2, Host),
-        &[
-            Invalidate(7, 1, Ok(())),
-            Invalidate(0, 7, REFUSED),
-            See([0, 0, 0, 238, 238, 238, 238, 0]),
-        ],
     ),
-    (
-        "an unmap keeps the bytes",
-        false,
-        NONE,
-        &[
-            Put(2, [1, 2]),
-            Remap,
-            See([238, 238, 1, 2, 238, 238, 238, 238]),
-        ],
-    ),
-    (
-        "a command writes inside a coherent object, and the host sees it at once",
-        true,
-        NONE,
-        &[
-            Write(7, [1, 1], false),
-            Write(u64::MAX, [1, 1], false),
-            Write(6, [9, 9], true),
-            See([0, 0, 0, 0, 0, 0, 9, 9]),
-            ALL,
-            See([0, 0, 0, 0, 0, 0, 9, 9]),
-        ],
-    ),
-    (
-        "a command writes inside an object, and the host sees it once that is invalidated",
-        false,
-        NONE,
-        &[
-            Write(7, [1, 1], false),
-            Write(u64::MAX, [1, 1], false),
-            Write(6, [9, 9], true),
-            See([238; 8]),
-            ALL,
-            See([0, 0, 0, 0, 0, 0, 9, 9]),
-        ],
-    ),
-    (
+    Invalidate(7, 1, Ok(())),
+    Invalidate(0, 7, REFUSED),
+    See([0, 0, 0, 238, 238, 238, 238, 0]),
+    Fresh("an unmap keeps the bytes", NONE),
+    Put(2, [1, 2]),
+    Remap,
+    See([238, 238, 1, 2, 238, 238, 238, 238]),
+    Coherent("a command writes inside, and the host sees it at once"),
+    Write(7, [1, 1], false),
+    Write(u64::MAX, [1, 1], false),
+    Write(6, [9, 9], true),
+    See([0, 0, 0, 0, 0, 0, 9, 9]),
+    ALL,
+    See([0, 0, 0, 0, 0, 0, 9, 9]),
+    Fresh("an invalidate shows what a command wrote inside", NONE),
+    Write(7, [1, 1], false),
+    Write(u64::MAX, [1, 1], false),
+    Write(6, [9, 9], true),
+    See([238; 8]),
+    ALL,
+    See([0, 0, 0, 0, 0, 0, 9, 9]),
+    Fresh(
         "the latest range is told, also of a refused question",
-        false,
         (Question::Invalidate, 1, Host),
-        &[
-            Told(0, 0, (1, 0, 8)),
-            FlushTwo,
-            Invalidate(3, 4, REFUSED),
-            Told(2, 1, (1, 3, 4)),
-        ],
     ),
+    Told(0, 0, (1, 0, 8)),
+    FlushTwo,
+    Invalidate(3, 4, REFUSED),
+    Told(2, 1, (1, 3, 4)),
 ];
 
 #[test]
 fn bytes_are_copied_where_they_are_asked_for(rt: HostRuntime) -> Result<(), Fail> {
-    for row in &ROWS {
-        act_in_turn(&rt, rt.alloc(), *row)?;
+    let mut object = Mapped::new(&rt, Device::new(&rt, rt.alloc(), true, NONE)?)?;
+    let mut shown = "new coherent bytes are zeros";
+    for (number, act) in ACTS.iter().enumerate() {
+        if let Some((shows, coherent, refused)) = other(*act) {
+            drop(object);
+            object = Mapped::new(&rt, Device::new(&rt, rt.alloc(), coherent, refused)?)?;
+            shown = shows;
+        }
+        object.act(&rt, (shown, number), *act);
     }
+    drop(object);
     Ok(())
 }
