@@ -1,6 +1,5 @@
 mod Commands
 mod EmptyMaps
-mod Hands
 mod OneChunk
 mod Ready
 mod WholeAtoms

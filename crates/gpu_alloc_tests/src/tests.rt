@@ -1,7 +1,6 @@
 //! What no contract says of these, and that the calls succeed.
 
 mod bench;
-mod buddy;
 mod bytes;
 mod config;
 mod drawn;

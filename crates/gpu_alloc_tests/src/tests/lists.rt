@@ -1,11 +1,11 @@
-//! Lists of calls of an allocator of free runs, drawn from a fixed seed. Where each block lies, what the device is
-//! asked for, what is held and what is free is compared with plain lists of chunks and live blocks.
+//! What must come of the calls of an allocator of free runs, by plain lists of chunks and live blocks.
 
 ghost use Rattle.std.specs.Prelude.{◌<◌};
-ghost use Rattle.gpu_alloc.specs.AlignMasks.{IsAlignMask};
 
-use super::drawn::{Chance, came_often, count};
-use super::same::{holds, same, same_at};
+use super::drawn::{
+    Answer, Call, Chance, Keys, Plain, State, Store, came_often, count, held_of, try_lists,
+};
+use super::same::{holds, same_at};
 use gpu_alloc::{AllocationError, FreeRange};
 use std::alloc::{AllocError, Global};
 use std::process::Abort;
@@ -13,9 +13,6 @@ use std::test::Fail;
 
 /// How many lists are drawn, by bytes and by atoms each.
 const LISTS: u64 = 32;
-
-/// How many calls a list has, before those that return what is left.
-pub(super) const CALLS: u64 = 96;
 
 /// How many objects may be held at once.
 pub(super) const MOST: u32 = 3;
@@ -191,8 +188,8 @@ const CASES: [&str; 14] = [
 
 /// What is held and live by plain lists, and what must come of a call.
 #[derive(Drop)]
-pub(super) struct Lists {
-    pub(super) alloc: Global,
+struct Lists {
+    alloc: Global,
     rule: Rule,
     atom_mask: u64,
 
@@ -203,7 +200,7 @@ pub(super) struct Lists {
     live: Vec<Range>,
 
     /// What is free, by chunk, then by start.
-    pub(super) runs: Vec<Range>,
+    runs: Vec<Range>,
 
     /// How many chunks were made.
     made: u64,
@@ -212,7 +209,7 @@ pub(super) struct Lists {
     next: u64,
 
     /// How often the device was asked for a chunk, and for how many bytes the last time.
-    pub(super) asked: (u64, Option<u64>),
+    asked: (u64, Option<u64>),
 
     /// Which of these questions it refuses.
     refused: u64,
@@ -222,51 +219,25 @@ pub(super) struct Lists {
 
 impl Lists {
     /// Nothing is held.
-    fn new(alloc: Global, rule: Rule, atom_mask: u64, refused: u64, tally: Tally) -> Lists {
+    fn new(alloc: Global, rule: Rule) -> Lists {
         Lists {
             alloc,
             rule,
-            atom_mask,
+            atom_mask: 0,
             chunks: Vec::new(alloc),
             live: Vec::new(alloc),
             runs: Vec::new(alloc),
             made: 0,
             next: FIRST,
             asked: (0, None),
-            refused,
-            tally,
+            refused: 0,
+            tally: [0; 15],
         }
     }
 
     /// Finds what is free.
     fn find_runs(&mut self) -> Result<(), AllocError> {
         self.runs = runs_of(self.alloc, self.chunks.as_slice(), self.live.as_slice())?;
-        Ok(())
-    }
-
-    /// Takes in the result of a request, and the refusal that was told before it, which must be right.
-    fn take(
-        &mut self,
-        rt: &impl Abort,
-        size: u64,
-        align_mask: u64,
-        (told, came): Answer,
-    ) -> Result<(), AllocError> {
-        let size = size.saturating_add(self.atom_mask) & !self.atom_mask;
-        let align_mask = align_mask.max(self.atom_mask);
-        let wanted = match self.last_tail(size, align_mask) {
-            Some(tail) => Ok(self.place(tail, size, align_mask, came)),
-            None => self.begin(size, align_mask)?,
-        };
-        same_at(rt, "the block for", &(size, align_mask), &came, &wanted);
-        let refusal = match wanted {
-            Err(AllocationError::TooManyObjects) => Some(AllocationError::TooManyObjects),
-            _ => None,
-        };
-        same_at(rt, "what is told of", &(size, align_mask), &told, &refusal);
-        if let Ok(block) = wanted {
-            self.hold(block, size)?;
-        }
         Ok(())
     }
 
@@ -362,23 +333,6 @@ impl Lists {
         self.find_runs()
     }
 
-    /// Returns the block at this place.
-    fn put_back(&mut self, rt: &impl Abort, at: usize) -> Result<(), AllocError> {
-        holds(rt, at < self.live.len(), "no such block");
-        let block = self.live.remove(at);
-        match sides_of(self.runs.as_slice(), block) {
-            (false, false) => count(&mut self.tally[7]),
-            (true, false) => count(&mut self.tally[8]),
-            (false, true) => count(&mut self.tally[9]),
-            (true, true) => count(&mut self.tally[10]),
-        }
-        self.find_runs()?;
-        let kept = self.kept_after(block);
-        let gone = self.let_go(kept)?;
-        self.tally[12] = self.tally[12].saturating_add(gone);
-        Ok(())
-    }
-
     /// The object of the chunk that the return of a block keeps, if that is wholly free, or 0.
     fn kept_after(&self, block: Range) -> u64 {
         let mut kept = match (self.rule, self.runs.last()) {
@@ -392,13 +346,6 @@ impl Lists {
             }
         }
         kept
-    }
-
-    /// Releases each wholly free chunk.
-    fn clean(&mut self) -> Result<(), AllocError> {
-        let gone = self.let_go(0)?;
-        self.tally[13] = self.tally[13].saturating_add(gone);
-        Ok(())
     }
 
     /// Releases each wholly free chunk, except the one of this number. Returns how many were released.
@@ -419,177 +366,98 @@ impl Lists {
         self.find_runs()?;
         Ok(gone)
     }
+}
 
-    /// How many objects are held, of how many bytes, and how many more may be.
-    pub(super) fn held(&self) -> (usize, u128, u32) {
-        let mut bytes = 0u128;
-        let mut remaining = MOST;
-        for chunk in &self.chunks {
-            bytes = bytes.saturating_add(u128::from(chunk.end));
-            remaining = remaining.saturating_sub(1);
-        }
-        (self.chunks.len(), bytes, remaining)
+impl Plain for Lists {
+    fn open(&mut self, chance: &mut Chance, by_atoms: bool) -> u64 {
+        self.atom_mask = if by_atoms { 63 } else { 0 };
+        self.made = 0;
+        self.next = FIRST;
+        self.asked = (0, None);
+        self.refused = chance.next() % 8;
+        self.refused
     }
-}
 
-/// The refusal that is known before a request, and where its block lies or why it is refused.
-pub(super) type Answer = (Option<AllocationError>, Result<Range, AllocationError>);
-
-/// An allocator of one memory type with the blocks that it gave out. Contracts see nothing of it.
-pub(super) trait Hand: Sized {
-    /// One without blocks, by bytes or by atoms of 64 bytes. It has room for as many blocks as a list has calls.
-    fn new(alloc: Global, by_atoms: bool) -> Result<Self, Fail>;
-
-    /// Has the device refuse that question for a chunk.
-    fn refuse(&mut self, rt: &impl Abort, nth: u64);
-
-    /// Asks which refusal is known before a request, and then makes it. Keeps the block.
-    fn take(&mut self, rt: &impl Abort, size: u64, align_mask: u64) -> Answer
-        requires nonempty { 0 < size }
-        requires alignment { IsAlignMask align_mask };
-
-    /// How many blocks are kept.
-    fn len(&self) -> usize;
-
-    /// The key of the block at this place, if there is one.
-    fn key_at(&self, at: usize) -> Option<usize>;
-
-    /// Returns the block at this place of those that are kept, under this key if there is one.
-    fn dealloc(&mut self, rt: &impl Abort, at: usize, key: Option<usize>);
-
-    /// Releases each wholly free chunk.
-    fn clean(&mut self);
-
-    /// Compares what was asked, what is held and what is free.
-    fn compare(&self, rt: &impl Abort, lists: &Lists);
-
-    /// Ends the allocator, which holds nothing.
-    fn end(self, rt: &impl Abort);
-}
-
-/// Under which keys blocks are returned.
-#[derive(Clone, Copy, PartialEq, Eq)]
-pub(super) enum Keys {
-    /// Their own.
-    Own,
-
-    /// A drawn key: the block's own, that of another block, or an invalid one.
-    Drawn,
-}
-
-/// A key, or `None` for the block's own.
-fn draw_key<H: Hand>(hand: &H, chance: &mut Chance, keys: Keys) -> Option<usize> {
-    if keys == Keys::Own {
-        return None;
-    }
-    match chance.next() % 4 {
-        0 => None,
-        1 => Some(usize::MAX),
-        2 => Some(chance.next() as usize % 64),
-        _ => hand.key_at(chance.next() as usize % 8),
-    }
-}
-
-/// Allocates a block of drawn size and alignment, and compares where it lies or why it is refused.
-fn take<H: Hand>(
-    rt: &impl Abort,
-    hand: &mut H,
-    lists: &mut Lists,
-    chance: &mut Chance,
-) -> Result<(), AllocError> {
-    let size = drawn_size(lists.runs.as_slice(), chance);
-    let align_mask = chance.align_mask();
-    let answer = hand.take(rt, size, align_mask);
-    lists.take(rt, size, align_mask, answer)
-}
-
-/// Returns a drawn one of the blocks in hand, if there is one.
-fn dealloc<H: Hand>(
-    rt: &impl Abort,
-    hand: &mut H,
-    lists: &mut Lists,
-    chance: &mut Chance,
-    keys: Keys,
-) -> Result<(), AllocError> {
-    let len = hand.len();
-    if len == 0 {
-        return Ok(());
-    }
-    let at = chance.next() as usize % len;
-    let key = draw_key(hand, chance, keys);
-    hand.dealloc(rt, at, key);
-    lists.put_back(rt, at)
-}
-
-/// Releases each wholly free chunk.
-fn clean<H: Hand>(hand: &mut H, lists: &mut Lists) -> Result<(), AllocError> {
-    hand.clean();
-    lists.clean()
-}
-
-/// Makes the calls of a list, more than half of which allocate a block, and then returns what is left and cleans up.
-fn run<H: Hand>(
-    rt: &impl Abort,
-    hand: &mut H,
-    lists: &mut Lists,
-    chance: &mut Chance,
-    keys: Keys,
-) -> Result<(), AllocError> {
-    for _ in 0..CALLS {
+    fn call(&self, chance: &mut Chance) -> Call {
         match chance.next() % 32 {
-            0 => clean(hand, lists)?,
-            1..=13 => dealloc(rt, hand, lists, chance, keys)?,
-            _ => take(rt, hand, lists, chance)?,
+            0 => Call::Clean,
+            1..=13 => Call::Return,
+            _ => Call::Take,
         }
-        hand.compare(rt, lists);
     }
-    for _ in 0..hand.len() {
-        dealloc(rt, hand, lists, chance, keys)?;
-        hand.compare(rt, lists);
+
+    fn size(&self, chance: &mut Chance) -> u64 {
+        drawn_size(self.runs.as_slice(), chance)
     }
-    clean(hand, lists)?;
-    hand.compare(rt, lists);
-    Ok(())
+
+    fn take(
+        &mut self,
+        rt: &impl Abort,
+        size: u64,
+        align_mask: u64,
+        (told, came): Answer,
+    ) -> Result<(), AllocError> {
+        let size = size.saturating_add(self.atom_mask) & !self.atom_mask;
+        let align_mask = align_mask.max(self.atom_mask);
+        let wanted = match self.last_tail(size, align_mask) {
+            Some(tail) => Ok(self.place(tail, size, align_mask, came)),
+            None => self.begin(size, align_mask)?,
+        };
+        same_at(rt, "the block for", &(size, align_mask), &came, &wanted);
+        let refusal = match wanted {
+            Err(AllocationError::TooManyObjects) => Some(AllocationError::TooManyObjects),
+            _ => None,
+        };
+        same_at(rt, "what is told of", &(size, align_mask), &told, &refusal);
+        if let Ok(block) = wanted {
+            self.hold(block, size)?;
+        }
+        Ok(())
+    }
+
+    fn put_back(&mut self, rt: &impl Abort, at: usize) -> Result<(), AllocError> {
+        holds(rt, at < self.live.len(), "no such block");
+        let block = self.live.remove(at);
+        match sides_of(self.runs.as_slice(), block) {
+            (false, false) => count(&mut self.tally[7]),
+            (true, false) => count(&mut self.tally[8]),
+            (false, true) => count(&mut self.tally[9]),
+            (true, true) => count(&mut self.tally[10]),
+        }
+        self.find_runs()?;
+        let kept = self.kept_after(block);
+        let gone = self.let_go(kept)?;
+        self.tally[12] = self.tally[12].saturating_add(gone);
+        Ok(())
+    }
+
+    fn clean(&mut self) -> Result<(), AllocError> {
+        let gone = self.let_go(0)?;
+        self.tally[13] = self.tally[13].saturating_add(gone);
+        Ok(())
+    }
+
+    fn state(&self) -> State {
+        (self.asked, held_of(self.chunks.as_slice(), MOST))
+    }
+
+    fn free(&self) -> &[Range] {
+        self.runs.as_slice()
+    }
 }
 
-/// Draws a list, makes its calls, and ends the allocator. Returns which cases the lists met.
-fn try_list<H: Hand>(
-    rt: &impl Abort,
-    alloc: Global,
-    chance: &mut Chance,
-    rule: Rule,
-    by_atoms: bool,
-    keys: Keys,
-    tally: Tally,
-) -> Result<Tally, Fail> {
-    let refused = chance.next() % 8;
-    let mut hand = H::new(alloc, by_atoms)?;
-    let atom_mask = if by_atoms { 63 } else { 0 };
-    let mut lists = Lists::new(alloc, rule, atom_mask, refused, tally);
-    hand.refuse(rt, refused);
-    let ran = run(rt, &mut hand, &mut lists, chance, keys);
-    same(rt, "a list", &ran, &Ok(()));
-    same(rt, "what is held at the end", &lists.held(), &(0, 0, MOST));
-    hand.end(rt);
-    Ok(lists.tally)
-}
-
-/// Draws lists by bytes and by atoms, from this seed on.
-pub(super) fn try_lists<H: Hand>(
+/// Draws lists from this seed on, as many by bytes as by atoms.
+pub(super) fn try_runs<S: Store>(
     rt: &impl Abort,
     alloc: Global,
     seed: u64,
     rule: Rule,
     keys: Keys,
 ) -> Result<(), Fail> {
-    let mut chance = Chance { state: seed };
-    let mut tally = [0; 15];
-    for _ in 0..LISTS {
-        tally = try_list::<H>(rt, alloc, &mut chance, rule, false, keys, tally)?;
-        tally = try_list::<H>(rt, alloc, &mut chance, rule, true, keys, tally)?;
-    }
-    came_often(rt, &CASES, &tally, LISTS / 2);
-    let longer = rule == Rule::Any || tally[14] >= LISTS / 2;
+    let mut lists = Lists::new(alloc, rule);
+    try_lists::<S>(rt, alloc, &mut lists, seed, 2 * LISTS, keys)?;
+    came_often(rt, &CASES, &lists.tally, LISTS / 2);
+    let longer = rule == Rule::Any || lists.tally[14] >= LISTS / 2;
     holds(rt, longer, "few blocks are longer than requested");
     Ok(())
 }

@@ -17,7 +17,9 @@ pub(super) const LOCAL: MemoryType = MemoryType {
 };
 
 /// A device with these types in one heap.
-pub(super) fn offer<'a>(memory_types: &'a [MemoryType], atom: u64) -> DeviceProperties<'a> {
+pub(super) fn offer<'a>(memory_types: &'a [MemoryType], atom: u64) -> DeviceProperties<'a>
+    ensures { (properties_of result).memory_types ≡ memory_types.now }
+{
     DeviceProperties {
         memory_types,
         memory_heaps: &HEAPS,

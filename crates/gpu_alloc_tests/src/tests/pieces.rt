@@ -1,26 +1,30 @@
-//! Lists of calls of the buddy allocator, drawn from a fixed seed: where each block lies, what is held and what is free
-//! is compared with plain lists of free pieces and live blocks.
+//! Drawn lists of calls of the buddy allocator: what must come of them by plain lists of free pieces and live blocks.
 
-ghost use Rattle.gpu_alloc.specs.AlignMasks.{IsAlignMask};
 ghost use Rattle.std.specs.Prelude.{◌<◌, IfSome, length};
+ghost use Rattle.gpu_alloc.specs.AlignMasks.{IsAlignMask};
+ghost use Rattle.gpu_alloc.specs.Steps.{Begins};
 
-use super::buddy::Chunks;
-use super::drawn::{Chance, came_often, count};
+use super::drawn::{
+    Answer, Call, Chance, Keys, Plain, State, Store, came_often, count, held_of, state_of,
+    try_lists,
+};
+use super::offers::{LOCAL, offer};
 use super::same::{holds, never_with, same, same_at};
-use gpu_alloc::buddy::BuddyBlock;
-use gpu_alloc::{FreeRange, MemoryPropertyFlags};
+use gpu_alloc::buddy::{BuddyAllocator, BuddyBlock};
+use gpu_alloc::heap::Heap;
+use gpu_alloc::steps::Steps;
+use gpu_alloc::{AllocationError, AllocationFlags, FreeRange};
+use gpu_alloc_base::buddy_block::into_parts;
 use gpu_alloc_types::MemoryObject;
-use gpu_sim::SimMemory;
+use gpu_sim::{Cause, Question, Sim, SimMemory};
 use std::alloc::{AllocError, Global};
-use std::marker::Model;
+use std::marker::{Brand, Model};
 use std::process::Abort;
+use std::sync::ledger::{Blank, Ledger};
 use std::test::Fail;
 
 /// How many lists are drawn.
 const LISTS: u64 = 48;
-
-/// How many calls a list has, before those that return what is left.
-const CALLS: u64 = 96;
 
 /// How many objects may be held in all.
 const MOST: u32 = 4096;
@@ -92,9 +96,6 @@ fn count_of(pieces: &[Piece], length: u64) -> u64 {
     number
 }
 
-/// How often each case occurred in the drawn lists: rows of [`CASES`].
-type Tally = [u64; 6];
-
 /// The cases that must occur in the lists.
 const CASES: [&str; 6] = [
     "a block of a free piece",
@@ -118,7 +119,7 @@ fn block_size(size: u64, align_mask: u64) -> u64 {
 
 /// What is free, live and held by a plain list of each.
 #[derive(Drop)]
-struct Lists {
+struct Pieces {
     free: Vec<Piece>,
     live: Vec<Piece>,
     chunks: Vec<Piece>,
@@ -126,22 +127,14 @@ struct Lists {
     /// The size of the latest chunk that was made.
     latest: u64,
 
-    /// The cases that the lists met.
-    tally: Tally,
+    /// How often the device was asked for a chunk, and for how many bytes the last time.
+    asked: (u64, Option<u64>),
+
+    /// How often each case occurred: rows of [`CASES`].
+    tally: [u64; 6],
 }
 
-impl Lists {
-    /// Nothing is held.
-    fn new(alloc: Global, tally: Tally) -> Lists {
-        Lists {
-            free: Vec::new(alloc),
-            live: Vec::new(alloc),
-            chunks: Vec::new(alloc),
-            latest: FIRST,
-            tally,
-        }
-    }
-
+impl Pieces {
     /// The length of the shortest free piece of at least this many bytes, if there is one.
     fn shortest(&self, length: u64) -> Option<u64> {
         let mut shortest = None;
@@ -156,36 +149,8 @@ impl Lists {
         shortest
     }
 
-    /// Takes in a block that was granted for this many bytes: the front of a shortest free piece that is long enough,
-    /// or, where there is none, of a new chunk. That has the size that the device was asked for, if it was asked.
-    fn grant(
-        &mut self,
-        rt: &impl Abort,
-        length: u64,
-        block: Piece,
-        asked: Option<u64>,
-    ) -> Result<(), AllocError> {
-        same_at(rt, "the size of", &block, &length_of(block), &length);
-        let piece = match self.shortest(length) {
-            Some(shortest) => {
-                same_at(
-                    rt,
-                    "the chunk asked for beside a piece of",
-                    &shortest,
-                    &asked,
-                    &None,
-                );
-                self.take(rt, block, shortest)
-            }
-            None => self.begin(rt, block, asked)?,
-        };
-        self.split(piece, length)?;
-        self.live.push(block)?;
-        Ok(())
-    }
-
     /// Takes the free piece of which a block is the front, and which must have this length.
-    fn take(&mut self, rt: &impl Abort, block: Piece, length: u64) -> Piece {
+    fn take_front(&mut self, rt: &impl Abort, block: Piece, length: u64) -> Piece {
         let ties = count_of(self.free.as_slice(), length);
         let front = piece_of(block.object, block.start, length);
         let Some(at) = find(self.free.as_slice(), front) else {
@@ -200,14 +165,10 @@ impl Lists {
 
     /// Begins the chunk of which a block is the front. It has twice the bytes of the block, or as many as the latest
     /// chunk where that is more.
-    fn begin(
-        &mut self,
-        rt: &impl Abort,
-        block: Piece,
-        asked: Option<u64>,
-    ) -> Result<Piece, AllocError> {
+    fn begin(&mut self, rt: &impl Abort, block: Piece) -> Result<Piece, AllocError> {
         let length = self.latest.max(length_of(block) << 1);
-        same_at(rt, "the size of a chunk for", &block, &asked, &Some(length));
+        count(&mut self.asked.0);
+        self.asked.1 = Some(length);
         same_at(rt, "the start in a new chunk of", &block, &block.start, &0);
         let known = find_of(self.chunks.as_slice(), block.object);
         same_at(rt, "a chunk that was held has", &block, &known, &None);
@@ -230,17 +191,6 @@ impl Lists {
                 front = piece_of(front.object, front.start, half);
                 self.free.push(other_half(front))?;
             }
-        }
-        Ok(())
-    }
-
-    /// Returns the block at this place. Its chunk is released where no other block in it is live.
-    fn put_back(&mut self, rt: &impl Abort, at: usize) -> Result<(), AllocError> {
-        holds(rt, at < self.live.len(), "no such block");
-        let block = self.live.remove(at);
-        self.join(block)?;
-        if find_of(self.live.as_slice(), block.object).is_none() {
-            self.let_go(rt, block.object);
         }
         Ok(())
     }
@@ -275,17 +225,6 @@ impl Lists {
         }
     }
 
-    /// How many objects are held, of how many bytes, and how many more may be.
-    fn held(&self) -> (usize, u128, u32) {
-        let mut bytes = 0u128;
-        let mut remaining = MOST;
-        for chunk in &self.chunks {
-            bytes = bytes.saturating_add(u128::from(chunk.end));
-            remaining = remaining.saturating_sub(1);
-        }
-        (self.chunks.len(), bytes, remaining)
-    }
-
     /// Sorts the free pieces by the name of their object, then by start.
     fn sort(&mut self) {
         self.free
@@ -293,157 +232,244 @@ impl Lists {
     }
 }
 
-/// A buddy allocator with the blocks that it gave out. Contracts see nothing of it.
-struct Hand {
-    chunks: Chunks,
-    blocks: Vec<BuddyBlock<SimMemory>>,
-}
+impl Plain for Pieces {
+    fn open(&mut self, _chance: &mut Chance, _by_atoms: bool) -> u64 {
+        self.latest = FIRST;
+        self.asked = (0, None);
+        0
+    }
 
-impl Model for Hand {
-    ghost use Rattle.std.specs.Prelude.{ℕ};
-    ghost use Rattle.gpu_alloc.specs.Buddy.{bytes_of};
-    ghost use Rattle.gpu_alloc.specs.InHand.{AreInHand};
-
-    ghost Value = { ℕ };
-
-    ghost view = { λ _. 0 };
-
-    ghost invariant = { λ h. AreInHand bytes_of (h.chunks).live h.blocks.items };
-}
-
-impl Hand {
-    /// An allocator without blocks. It has room for as many blocks as a list has calls.
-    fn new(alloc: Global) -> Result<Hand, Fail> {
-        let blocks = Vec::with_capacity(alloc, CALLS as usize)?;
-        match Chunks::new(alloc, MemoryPropertyFlags::DEVICE_LOCAL, MOST) {
-            Ok(chunks) => Ok(Hand { chunks, blocks }),
-            Err(e) => {
-                blocks.destroy_empty();
-                Err(e)
-            }
+    fn call(&self, chance: &mut Chance) -> Call {
+        if chance.next() % 16 < 9 {
+            Call::Take
+        } else {
+            Call::Return
         }
     }
 
-    /// Allocates a block and keeps it, and returns where it lies.
-    fn take(&mut self, rt: &impl Abort, size: u64, align_mask: u64) -> Piece
+    fn size(&self, chance: &mut Chance) -> u64 {
+        chance.size()
+    }
+
+    // The block is the front of a shortest free piece that is long enough, or, where there is none, of a new chunk.
+    fn take(
+        &mut self,
+        rt: &impl Abort,
+        size: u64,
+        align_mask: u64,
+        (told, came): Answer,
+    ) -> Result<(), AllocError> {
+        same(rt, "what is told", &told, &None);
+        let Ok(block) = came else {
+            return never_with(rt, "a request:", &came);
+        };
+        let length = block_size(size, align_mask);
+        same_at(rt, "the size of", &block, &length_of(block), &length);
+        let piece = match self.shortest(length) {
+            Some(shortest) => self.take_front(rt, block, shortest),
+            None => self.begin(rt, block)?,
+        };
+        self.split(piece, length)?;
+        self.live.push(block)?;
+        self.sort();
+        Ok(())
+    }
+
+    // Its chunk is released where no other block in it is live.
+    fn put_back(&mut self, rt: &impl Abort, at: usize) -> Result<(), AllocError> {
+        holds(rt, at < self.live.len(), "no such block");
+        let block = self.live.remove(at);
+        self.join(block)?;
+        if find_of(self.live.as_slice(), block.object).is_none() {
+            self.let_go(rt, block.object);
+        }
+        self.sort();
+        Ok(())
+    }
+
+    fn clean(&mut self) -> Result<(), AllocError> {
+        Ok(())
+    }
+
+    fn state(&self) -> State {
+        (self.asked, held_of(self.chunks.as_slice(), MOST))
+    }
+
+    fn free(&self) -> &[Piece] {
+        self.free.as_slice()
+    }
+}
+
+/// A buddy allocator with its device, its ledger and its count of objects. Contracts see the allocator.
+struct Buddies {
+    allocator: BuddyAllocator<SimMemory>,
+    device: Sim,
+    heap: Heap,
+    remaining: u32,
+}
+
+impl Model for Buddies {
+    ghost use Rattle.std.specs.Prelude.{◌≡◌};
+    ghost use Rattle.gpu_alloc.specs.Accounts.{IsCounted, chunks_and_remaining};
+    ghost use Rattle.gpu_alloc.specs.Buddy.{Agrees};
+    ghost use Rattle.gpu_alloc.specs.BuddyState.{Buddy};
+    ghost use Rattle.gpu_alloc.specs.Codes.{buddy_code};
+    ghost use Rattle.gpu_sim.specs.Sim.{objects_of};
+
+    ghost Value = { Buddy };
+
+    ghost coded = { buddy_code };
+
+    ghost view = { λ c. c.allocator };
+
+    ghost invariant = { λ c. Agrees c.allocator (c.device).properties (objects_of c.device) ×
+        (IsCounted (c.allocator).chunks c.heap c.remaining ×
+        (chunks_and_remaining (c.allocator).chunks c.remaining ≡ 4096)) };
+}
+
+impl Buddies {
+    /// The refusal that is known before a request, which counts nothing.
+    fn told_uncounted<L: Ledger>(
+        &self,
+        size: u64,
+        align_mask: u64,
+        blank: Blank,
+    ) -> Option<AllocationError>
         requires nonempty { 0 < size }
         requires alignment { IsAlignMask align_mask }
+        requires begins { Begins blank L.name L.parts }
     {
-        holds(
-            rt,
-            self.blocks.len() < self.blocks.capacity(),
-            "no place for a block",
+        let looks = &mut Steps::<L>::new(blank);
+        self.allocator
+            .refuses(size, align_mask, &self.heap, self.remaining, looks)
+    }
+
+    /// Makes a request, which counts nothing.
+    fn ask_uncounted<L: Ledger, K: Ledger>(
+        &mut self,
+        size: u64,
+        align_mask: u64,
+        looks: Blank,
+        splits: Blank,
+    ) -> Result<BuddyBlock<SimMemory>, AllocationError>
+        requires nonempty { 0 < size }
+        requires alignment { IsAlignMask align_mask }
+        requires looks { Begins looks L.name L.parts }
+        requires splits { Begins splits K.name K.parts }
+    {
+        self.allocator.alloc(
+            &mut self.device,
+            size,
+            align_mask,
+            AllocationFlags::empty(),
+            &mut self.heap,
+            &mut self.remaining,
+            &mut Steps::<L>::new(looks),
+            &mut Steps::<K>::new(splits),
+        )
+    }
+
+    /// Finds a block under this key or its own, and returns it. Counts nothing.
+    fn put_back<L: Ledger>(
+        &mut self,
+        rt: &impl Abort,
+        block: BuddyBlock<SimMemory>,
+        key: Option<usize>,
+        blank: Blank,
+    )
+        requires begins { Begins blank L.name L.parts }
+    {
+        let (memory, leaf) = into_parts(block);
+        let key = key.unwrap_or(leaf.index);
+        let found = self
+            .allocator
+            .find(key, memory.object(), leaf.offset, leaf.size);
+        same(rt, "a block that is found", &found, &Some(leaf));
+        let Some(leaf) = found else {
+            panic!(rt; "a block that is not found");
+        };
+        self.allocator.dealloc(
+            &mut self.device,
+            BuddyBlock::new(memory, leaf),
+            &mut self.heap,
+            &mut self.remaining,
+            &mut Steps::<L>::new(blank),
         );
-        let told = self.chunks.told(size, align_mask);
-        same(rt, "what is told", &told, &None);
-        match self.chunks.ask(size, align_mask) {
-            Ok(block) => {
-                let object = block.memory().object();
-                let place = piece_of(object, block.offset(), block.size());
-                self.blocks.push_reserved(block);
-                place
+    }
+}
+
+impl Store for Buddies {
+    type Block = BuddyBlock<SimMemory>;
+
+    fn new(alloc: Global, _by_atoms: bool) -> Result<Buddies, Fail> {
+        let device = Sim::new(alloc, offer(&[LOCAL], 1))?;
+        match BuddyAllocator::new(alloc, 1, FIRST, 0, LOCAL.props, 0) {
+            Ok(allocator) => Ok(Buddies {
+                allocator,
+                device,
+                heap: Heap::new(1 << 20),
+                remaining: MOST,
+            }),
+            Err(e) => {
+                drop(device);
+                Err(Fail::from(e))
             }
-            Err(error) => panic!(rt; "{error}"),
         }
     }
 
-    /// Returns the block at this place of those that are kept.
-    fn dealloc(&mut self, rt: &impl Abort, at: usize) {
-        assert!(rt; at < self.blocks.len());
-        let block = self.blocks.remove(at);
-        self.chunks.dealloc(block);
+    fn refuse(&mut self, rt: &impl Abort, nth: u64) {
+        let planned = self.device.refuse(Question::Allocate, nth, Cause::Device);
+        same(rt, "a plan", &planned, &Ok(()));
     }
 
-    /// Ends the allocator, which holds nothing.
+    fn told(&mut self, _rt: &impl Abort, size: u64, align_mask: u64) -> Option<AllocationError> {
+        self.told_uncounted::<Brand>(size, align_mask, Blank::new(1))
+    }
+
+    fn ask(
+        &mut self,
+        _rt: &impl Abort,
+        size: u64,
+        align_mask: u64,
+    ) -> Result<BuddyBlock<SimMemory>, AllocationError> {
+        self.ask_uncounted::<Brand, Brand>(size, align_mask, Blank::new(1), Blank::new(1))
+    }
+
+    fn place_of(_rt: &impl Abort, block: &BuddyBlock<SimMemory>) -> (Piece, usize) {
+        let place = piece_of(block.memory().object(), block.offset(), block.size());
+        (place, block.index())
+    }
+
+    fn dealloc(&mut self, rt: &impl Abort, block: BuddyBlock<SimMemory>, key: Option<usize>) {
+        self.put_back::<Brand>(rt, block, key, Blank::new(1));
+    }
+
+    // No chunk without a live block is held between calls.
+    fn clean(&mut self) {}
+
+    fn searches(&self) -> u64 {
+        0
+    }
+
+    fn state(&self) -> State {
+        state_of(&self.device, &self.heap, self.remaining)
+    }
+
+    fn free_ranges(&self, _alloc: Global) -> Result<Vec<Piece>, AllocError> {
+        self.allocator.free_ranges()
+    }
+
     fn end(self, rt: &impl Abort) {
-        let Hand { chunks, blocks } = self;
-        holds(rt, blocks.is_empty(), "blocks at the end");
-        blocks.destroy_empty();
-        chunks.end(rt);
+        let Buddies {
+            allocator,
+            device,
+            heap: _,
+            remaining,
+        } = self;
+        drop(device);
+        holds(rt, remaining == MOST, "objects held at the end");
+        allocator.close();
     }
-}
-
-/// Allocates a block of drawn size and alignment, and finds where it may lie by the lists.
-fn take(
-    rt: &impl Abort,
-    hand: &mut Hand,
-    lists: &mut Lists,
-    chance: &mut Chance,
-) -> Result<(), AllocError> {
-    let size = chance.size();
-    let align_mask = chance.align_mask();
-    let (before, _) = hand.chunks.asked();
-    let block = hand.take(rt, size, align_mask);
-    let (after, latest) = hand.chunks.asked();
-    let asked = if after == before { None } else { latest };
-    lists.grant(rt, block_size(size, align_mask), block, asked)
-}
-
-/// Returns a drawn one of the blocks in hand, if there is one.
-fn dealloc(
-    rt: &impl Abort,
-    hand: &mut Hand,
-    lists: &mut Lists,
-    chance: &mut Chance,
-) -> Result<(), AllocError> {
-    let len = hand.blocks.len();
-    if len == 0 {
-        return Ok(());
-    }
-    let at = chance.next() as usize % len;
-    hand.dealloc(rt, at);
-    lists.put_back(rt, at)
-}
-
-/// Compares what is held and what is free.
-fn compare(rt: &impl Abort, hand: &Hand, lists: &mut Lists) {
-    same(rt, "what is held", &hand.chunks.held(), &lists.held());
-    lists.sort();
-    let found = hand.chunks.free_ranges(rt);
-    same(
-        rt,
-        "what is free",
-        &found.as_slice(),
-        &lists.free.as_slice(),
-    );
-}
-
-/// Makes the calls of a list, more than half of which allocate a block, and then returns what is left.
-fn run(
-    rt: &impl Abort,
-    hand: &mut Hand,
-    lists: &mut Lists,
-    chance: &mut Chance,
-) -> Result<(), AllocError> {
-    for _ in 0..CALLS {
-        if chance.next() % 16 < 9 {
-            take(rt, hand, lists, chance)?;
-        } else {
-            dealloc(rt, hand, lists, chance)?;
-        }
-        compare(rt, hand, lists);
-    }
-    for _ in 0..hand.blocks.len() {
-        dealloc(rt, hand, lists, chance)?;
-        compare(rt, hand, lists);
-    }
-    Ok(())
-}
-
-/// Draws a list, makes its calls, and ends the allocator. Returns which cases the lists met.
-fn try_list(
-    rt: &impl Abort,
-    alloc: Global,
-    chance: &mut Chance,
-    tally: Tally,
-) -> Result<Tally, Fail> {
-    let mut hand = Hand::new(alloc)?;
-    let mut lists = Lists::new(alloc, tally);
-    let ran = run(rt, &mut hand, &mut lists, chance);
-    same(rt, "a list", &ran, &Ok(()));
-    same(rt, "what is held at the end", &lists.held(), &(0, 0, MOST));
-    hand.end(rt);
-    Ok(lists.tally)
 }
 
 /// Whatever is allocated and returned, each block is the front of a shortest free piece that is long enough, any of
@@ -451,11 +477,15 @@ fn try_list(
 /// is released. If not, blocks would share bytes, or bytes would be lost.
 #[test]
 fn drawn_calls_leave_what_plain_lists_say(rt: HostRuntime) -> Result<(), Fail> {
-    let mut chance = Chance { state: 7 };
-    let mut tally = [0; 6];
-    for _ in 0..LISTS {
-        tally = try_list(&rt, rt.alloc(), &mut chance, tally)?;
-    }
-    came_often(&rt, &CASES, &tally, LISTS / 2 + 1);
+    let mut pieces = Pieces {
+        free: Vec::new(rt.alloc()),
+        live: Vec::new(rt.alloc()),
+        chunks: Vec::new(rt.alloc()),
+        latest: FIRST,
+        asked: (0, None),
+        tally: [0; 6],
+    };
+    try_lists::<Buddies>(&rt, rt.alloc(), &mut pieces, 7, LISTS, Keys::Own)?;
+    came_often(&rt, &CASES, &pieces.tally, LISTS / 2 + 1);
     Ok(())
 }

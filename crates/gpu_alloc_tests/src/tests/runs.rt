@@ -1,136 +1,161 @@
 //! Drawn lists of calls of the free-list allocator.
 
-ghost use Rattle.std.specs.Prelude.{◌≡◌, ◌<◌};
+ghost use Rattle.std.specs.Prelude.{◌≤◌, ◌<◌, ◌+◌, ◌^◌, IsTrue};
+ghost use Rattle.std.specs.Int.{is_power_of_two};
 ghost use Rattle.gpu_alloc.specs.AlignMasks.{IsAlignMask};
-ghost use Rattle.gpu_alloc.specs.FreeListAllocator.{Removes};
-ghost use Rattle.gpu_alloc.specs.FreeListState.{IsLiveSlot};
+ghost use Rattle.gpu_alloc.specs.FreeSpace.{IsMultipleOf};
 
-use super::freelist::Chunks;
-use super::lists::{Answer, CALLS, Hand, Keys, Lists, MOST, Range, Rule, try_lists};
+use super::drawn::{Keys, State, Store, state_of};
+use super::lists::{FIRST, LARGEST, MOST, Range, Rule, try_runs};
+use super::offers::{LOCAL, offer};
 use super::same::{holds, same, same_at};
-use gpu_alloc::freelist::FreeListBlock;
+use gpu_alloc::freelist::{FreeListAllocator, FreeListBlock};
+use gpu_alloc::heap::Heap;
+use gpu_alloc::{AllocationError, AllocationFlags};
 use gpu_alloc_base::free_list_block::{into_parts, key_of};
 use gpu_alloc_types::MemoryObject;
-use gpu_sim::SimMemory;
-use std::alloc::Global;
+use gpu_sim::{Cause, Question, Sim, SimMemory};
+use std::alloc::{AllocError, Global};
 use std::marker::Model;
 use std::process::Abort;
 use std::test::Fail;
 
-/// Where a block lies, and the number of its chunk.
-fn place_of(block: &FreeListBlock<SimMemory>) -> (Range, u64) {
-    let place = Range {
-        object: block.memory().object(),
-        start: block.offset(),
-        end: block.offset().saturating_add(block.size()),
-    };
-    (place, block.chunk())
-}
-
-/// A free-list allocator with the blocks that it gave out. Contracts see nothing of it.
+/// A free-list allocator with its device, its ledger and its count of objects. Contracts see the allocator.
 struct Listed {
-    chunks: Chunks,
-    blocks: Vec<FreeListBlock<SimMemory>>,
+    allocator: FreeListAllocator<SimMemory>,
+    device: Sim,
+    heap: Heap,
+    remaining: u32,
 }
 
 impl Model for Listed {
-    ghost use Rattle.std.specs.Prelude.{ℕ};
-    ghost use Rattle.gpu_alloc.specs.FreeListAllocator.{bytes_of};
-    ghost use Rattle.gpu_alloc.specs.InHand.{AreInHand};
+    ghost use Rattle.std.specs.Prelude.{◌≡◌};
+    ghost use Rattle.gpu_alloc.specs.Codes.{listing_code};
+    ghost use Rattle.gpu_alloc.specs.Accounts.{IsCounted, chunks_and_remaining};
+    ghost use Rattle.gpu_alloc.specs.FreeListAllocator.{Agrees};
+    ghost use Rattle.gpu_alloc.specs.FreeListSound.{IsSoundListing};
+    ghost use Rattle.gpu_alloc.specs.FreeListState.{Listing};
+    ghost use Rattle.gpu_sim.specs.Sim.{objects_of};
 
-    ghost Value = { ℕ };
+    ghost Value = { Listing };
 
-    ghost view = { λ _. 0 };
+    ghost coded = { listing_code };
 
-    ghost invariant = { λ h. AreInHand bytes_of ((h.chunks).space).live h.blocks.items };
+    ghost view = { λ c. c.allocator };
+
+    ghost invariant = { λ c. Agrees c.allocator (c.device).properties (objects_of c.device) ×
+        (IsCounted ((c.allocator).space).chunks c.heap c.remaining ×
+        ((chunks_and_remaining ((c.allocator).space).chunks c.remaining ≡ 3) ×
+        (IsSoundListing c.allocator × ((c.allocator).final_chunk ≡ 32768)))) };
 }
 
-impl Hand for Listed {
+impl Listed {
+    /// One by atoms of the mask plus one.
+    fn by_atoms(alloc: Global, atom_mask: u64) -> Result<Listed, Fail>
+        requires atom { IsTrue (is_power_of_two (atom_mask + 1)) }
+        requires atom_bound { atom_mask + 1 ≤ 2 ^ 62 }
+        requires starting { IsMultipleOf (atom_mask + 1) 8192 }
+        requires largest { IsMultipleOf (atom_mask + 1) 32768 }
+    {
+        let device = Sim::new(alloc, offer(&[LOCAL], 1))?;
+        let allocator = FreeListAllocator::new(alloc, FIRST, LARGEST, 0, LOCAL.props, atom_mask);
+        Ok(Listed {
+            allocator,
+            device,
+            heap: Heap::new(1 << 20),
+            remaining: MOST,
+        })
+    }
+}
+
+impl Store for Listed {
+    type Block = FreeListBlock<SimMemory>;
+
     fn new(alloc: Global, by_atoms: bool) -> Result<Listed, Fail> {
-        let blocks = Vec::with_capacity(alloc, CALLS as usize)?;
-        let chunks = if by_atoms {
-            Chunks::by_atoms(alloc, MOST)
+        if by_atoms {
+            Listed::by_atoms(alloc, 63)
         } else {
-            Chunks::new(alloc, MOST)
-        };
-        match chunks {
-            Ok(chunks) => Ok(Listed { chunks, blocks }),
-            Err(e) => {
-                blocks.destroy_empty();
-                Err(e)
-            }
+            Listed::by_atoms(alloc, 0)
         }
     }
 
     fn refuse(&mut self, rt: &impl Abort, nth: u64) {
-        let planned = self.chunks.refuse(nth);
+        let planned = self.device.refuse(Question::Allocate, nth, Cause::Device);
         same(rt, "a plan", &planned, &Ok(()));
     }
 
-    fn take(&mut self, rt: &impl Abort, size: u64, align_mask: u64) -> Answer {
-        holds(
-            rt,
-            self.blocks.len() < self.blocks.capacity(),
-            "no place for a block",
+    fn told(&mut self, rt: &impl Abort, size: u64, align_mask: u64) -> Option<AllocationError> {
+        assert!(rt; size <= LARGEST);
+        self.allocator
+            .refuses(size, align_mask, &self.heap, self.remaining)
+    }
+
+    fn ask(
+        &mut self,
+        rt: &impl Abort,
+        size: u64,
+        align_mask: u64,
+    ) -> Result<FreeListBlock<SimMemory>, AllocationError> {
+        assert!(rt; size <= LARGEST);
+        self.allocator.alloc(
+            &mut self.device,
+            size,
+            align_mask,
+            AllocationFlags::empty(),
+            &mut self.heap,
+            &mut self.remaining,
+        )
+    }
+
+    fn place_of(rt: &impl Abort, block: &FreeListBlock<SimMemory>) -> (Range, usize) {
+        let place = Range {
+            object: block.memory().object(),
+            start: block.offset(),
+            end: block.offset().saturating_add(block.size()),
+        };
+        same_at(rt, "the chunk of", &place, &block.chunk(), &place.object);
+        (place, key_of(block))
+    }
+
+    fn dealloc(&mut self, rt: &impl Abort, block: FreeListBlock<SimMemory>, key: Option<usize>) {
+        let (memory, slot, own) = into_parts(block);
+        assert!(rt; self.allocator.is_live(own, slot));
+        self.allocator.dealloc(
+            &mut self.device,
+            FreeListBlock::new(memory, slot, key.unwrap_or(own)),
+            &mut self.heap,
+            &mut self.remaining,
         );
-        let told = self.chunks.told(rt, size, align_mask);
-        match self.chunks.ask(rt, size, align_mask) {
-            Ok(block) => {
-                let (place, number) = place_of(&block);
-                self.blocks.push_reserved(block);
-                same_at(rt, "the chunk of", &place, &number, &place.object);
-                (told, Ok(place))
-            }
-            Err(refusal) => (told, Err(refusal)),
-        }
-    }
-
-    fn len(&self) -> usize {
-        self.blocks.len()
-    }
-
-    fn key_at(&self, at: usize) -> Option<usize> {
-        self.blocks.get(at).map(key_of)
-    }
-
-    fn dealloc(&mut self, rt: &impl Abort, at: usize, key: Option<usize>) {
-        assert!(rt; at < self.blocks.len());
-        let block = self.blocks.remove(at);
-        dealloc_under(&mut self.chunks, block, key);
     }
 
     fn clean(&mut self) {
-        self.chunks.clean();
+        self.allocator
+            .cleanup(&mut self.device, &mut self.heap, &mut self.remaining);
     }
 
-    fn compare(&self, rt: &impl Abort, lists: &Lists) {
-        same(rt, "what was asked", &self.chunks.asked(), &lists.asked);
-        same(rt, "what is held", &self.chunks.held(), &lists.held());
-        self.chunks.compare_ranges(rt, lists.runs.as_slice());
+    fn searches(&self) -> u64 {
+        0
+    }
+
+    fn state(&self) -> State {
+        state_of(&self.device, &self.heap, self.remaining)
+    }
+
+    fn free_ranges(&self, _alloc: Global) -> Result<Vec<Range>, AllocError> {
+        self.allocator.free_ranges()
     }
 
     fn end(self, rt: &impl Abort) {
-        let Listed { chunks, blocks } = self;
-        holds(rt, blocks.is_empty(), "blocks at the end");
-        blocks.destroy_empty();
-        chunks.end(rt);
+        let Listed {
+            allocator,
+            device,
+            heap: _,
+            remaining,
+        } = self;
+        drop(device);
+        holds(rt, remaining == MOST, "objects held at the end");
+        allocator.close();
     }
-}
-
-/// A block under this key, if any, in place of its own.
-fn under(block: FreeListBlock<SimMemory>, key: Option<usize>) -> FreeListBlock<SimMemory>
-    ensures { result ≡ block }
-{
-    let (memory, slot, own) = into_parts(block);
-    FreeListBlock::new(memory, slot, key.unwrap_or(own))
-}
-
-/// Returns a block under this key, if there is one.
-fn dealloc_under(chunks: &mut Chunks, block: FreeListBlock<SimMemory>, key: Option<usize>)
-    requires live { IsLiveSlot (chunks.old).space block }
-    ensures removed { Removes chunks.old block chunks.new }
-{
-    chunks.dealloc(under(block, key));
 }
 
 /// Whatever is allocated and returned, each block is the tail of the last free run with room, or of a new chunk where
@@ -138,12 +163,12 @@ fn dealloc_under(chunks: &mut Chunks, block: FreeListBlock<SimMemory>, key: Opti
 /// share bytes, bytes would be lost, or a device would be asked for chunks that nobody needs.
 #[test]
 fn drawn_calls_leave_what_live_blocks_say(rt: HostRuntime) -> Result<(), Fail> {
-    try_lists::<Listed>(&rt, rt.alloc(), 11, Rule::Last, Keys::Own)
+    try_runs::<Listed>(&rt, rt.alloc(), 11, Rule::Last, Keys::Own)
 }
 
 /// A block is returned whatever key it has: its own, that of another block, or an invalid one. If not, a list would
 /// free another block in its place.
 #[test]
 fn a_block_comes_back_under_any_key(rt: HostRuntime) -> Result<(), Fail> {
-    try_lists::<Listed>(&rt, rt.alloc(), 12, Rule::Last, Keys::Drawn)
+    try_runs::<Listed>(&rt, rt.alloc(), 12, Rule::Last, Keys::Drawn)
 }
