@@ -84,6 +84,12 @@ const CALLS: u64 = 96;
 /// The refusal that is known before a request, and where its block lies or why it is refused.
 pub(super) type Answer = (Option<AllocationError>, Result<FreeRange, AllocationError>);
 
+/// A block, or why there is none.
+pub(super) type Came<B> = Result<B, AllocationError>;
+
+/// What comes of a step of a model, which takes memory.
+pub(super) type Done = Result<(), AllocError>;
+
 /// How often a device was asked for a chunk, and for how many bytes the last time. Then how many objects are held, of
 /// how many bytes, and how many more may be.
 pub(super) type State = ((u64, Option<u64>), (usize, u128, u32));
@@ -96,6 +102,15 @@ pub(super) fn state_of(device: &Sim, heap: &Heap, remaining: u32) -> State {
     };
     let asked = (device.asked(Question::Allocate), size);
     (asked, (device.objects(), heap.used(), remaining))
+}
+
+/// The range of an object from this start on, of this length.
+pub(super) fn range_of(object: u64, start: u64, length: u64) -> FreeRange {
+    FreeRange {
+        object,
+        start,
+        end: start.saturating_add(length),
+    }
 }
 
 /// How many of these chunks there are, of how many bytes, and how many more there may be.
@@ -119,7 +134,7 @@ pub(super) trait Store: Sized {
     fn new(alloc: Global, by_atoms: bool) -> Result<Self, Fail>;
 
     /// Has the device refuse a question for a chunk, by its number from 1.
-    fn refuse(&mut self, rt: &impl Abort, nth: u64);
+    fn refuse(&mut self, nth: u64) -> Done;
 
     /// The refusal that is known before a request for this many bytes at a multiple of the mask plus one.
     fn told(&mut self, rt: &impl Abort, size: u64, align_mask: u64) -> Option<AllocationError>
@@ -127,12 +142,7 @@ pub(super) trait Store: Sized {
         requires alignment { IsAlignMask align_mask };
 
     /// Makes such a request.
-    fn ask(
-        &mut self,
-        rt: &impl Abort,
-        size: u64,
-        align_mask: u64,
-    ) -> Result<Self::Block, AllocationError>
+    fn ask(&mut self, rt: &impl Abort, size: u64, align_mask: u64) -> Came<Self::Block>
         requires nonempty { 0 < size }
         requires alignment { IsAlignMask align_mask };
 
@@ -146,7 +156,9 @@ pub(super) trait Store: Sized {
     fn clean(&mut self);
 
     /// How often all live blocks and free runs were searched, if that is counted.
-    fn searches(&self) -> u64;
+    fn searches(&self) -> u64 {
+        0
+    }
 
     /// What was asked, and what is held.
     fn state(&self) -> State;
@@ -171,19 +183,13 @@ pub(super) trait Plain {
         ensures { 0 < result };
 
     /// Takes in the answer to a request, which must be right.
-    fn take(
-        &mut self,
-        rt: &impl Abort,
-        size: u64,
-        align_mask: u64,
-        answer: Answer,
-    ) -> Result<(), AllocError>;
+    fn take(&mut self, rt: &impl Abort, size: u64, align_mask: u64, answer: Answer) -> Done;
 
     /// Returns the block at this place.
-    fn put_back(&mut self, rt: &impl Abort, at: usize) -> Result<(), AllocError>;
+    fn put_back(&mut self, rt: &impl Abort, at: usize) -> Done;
 
     /// Releases each wholly free chunk.
-    fn clean(&mut self) -> Result<(), AllocError>;
+    fn clean(&mut self) -> Done;
 
     /// What was asked, and what is held.
     fn state(&self) -> State;
@@ -240,11 +246,7 @@ impl<S: Store> Hand<S> {
         requires nonempty { 0 < size }
         requires alignment { IsAlignMask align_mask }
     {
-        holds(
-            rt,
-            self.blocks.len() < self.blocks.capacity(),
-            "no place for a block",
-        );
+        holds(rt, self.blocks.len() < self.blocks.capacity(), "no place");
         let before = self.store.searches();
         let told = self.store.told(rt, size, align_mask);
         let came = self.store.ask(rt, size, align_mask);
@@ -291,11 +293,7 @@ impl<S: Store> Hand<S> {
             .searches()
             .saturating_add(u64::from(key.is_some()));
         self.store.dealloc(rt, block, key);
-        holds(
-            rt,
-            self.store.searches() <= most,
-            "a block with its own key was searched for",
-        );
+        holds(rt, self.store.searches() <= most, "searched by its own key");
     }
 
     /// Compares what was asked, what is held and what is free.
@@ -325,25 +323,7 @@ impl<S: Store> Hand<S> {
     }
 }
 
-/// Returns a drawn one of the blocks in hand, if there is one.
-fn dealloc<S: Store>(
-    rt: &impl Abort,
-    hand: &mut Hand<S>,
-    plain: &mut impl Plain,
-    chance: &mut Chance,
-    keys: Keys,
-) -> Result<(), AllocError> {
-    let len = hand.blocks.len();
-    if len == 0 {
-        return Ok(());
-    }
-    let at = chance.next() as usize % len;
-    let key = hand.draw_key(rt, chance, keys);
-    hand.dealloc(rt, at, key);
-    plain.put_back(rt, at)
-}
-
-/// Makes a drawn call, and compares what comes of it.
+/// Makes a drawn call, and compares what comes of it. A return is of a drawn one of the blocks in hand, if there is one.
 fn step<S: Store>(
     rt: &impl Abort,
     hand: &mut Hand<S>,
@@ -351,7 +331,7 @@ fn step<S: Store>(
     chance: &mut Chance,
     keys: Keys,
     call: Call,
-) -> Result<(), AllocError> {
+) -> Done {
     match call {
         Call::Take => {
             let size = plain.size(chance);
@@ -359,7 +339,13 @@ fn step<S: Store>(
             let answer = hand.take(rt, size, align_mask);
             plain.take(rt, size, align_mask, answer)?;
         }
-        Call::Return => dealloc(rt, hand, plain, chance, keys)?,
+        Call::Return if hand.blocks.is_empty() => {}
+        Call::Return => {
+            let at = chance.next() as usize % hand.blocks.len();
+            let key = hand.draw_key(rt, chance, keys);
+            hand.dealloc(rt, at, key);
+            plain.put_back(rt, at)?;
+        }
         Call::Clean => {
             hand.store.clean();
             plain.clean()?;
@@ -376,7 +362,7 @@ fn run<S: Store>(
     plain: &mut impl Plain,
     chance: &mut Chance,
     keys: Keys,
-) -> Result<(), AllocError> {
+) -> Done {
     for _ in 0..CALLS {
         let call = plain.call(chance);
         step(rt, hand, plain, chance, keys, call)?;
@@ -401,7 +387,7 @@ pub(super) fn try_lists<S: Store>(
         let by_atoms = nth % 2 == 1;
         let refused = plain.open(&mut chance, by_atoms);
         let mut hand = Hand::<S>::new(alloc, by_atoms)?;
-        hand.store.refuse(rt, refused);
+        same(rt, "a plan", &hand.store.refuse(refused), &Ok(()));
         let ran = run(rt, &mut hand, plain, &mut chance, keys);
         same(rt, "a list", &ran, &Ok(()));
         let (_, (objects, bytes, _)) = plain.state();

@@ -6,10 +6,10 @@ ghost use Rattle.gpu_alloc.specs.AlignMasks.{IsAlignMask};
 ghost use Rattle.gpu_alloc.specs.FreeSpace.{IsMultipleOf};
 ghost use Rattle.gpu_alloc.specs.Steps.{Begins};
 
-use super::drawn::{Keys, State, Store, state_of};
+use super::drawn::{Came, Done, Keys, State, Store, range_of, state_of};
 use super::lists::{FIRST, LARGEST, MOST, Range, Rule, try_runs};
 use super::offers::{LOCAL, offer};
-use super::same::{holds, same};
+use super::same::holds;
 use gpu_alloc::heap::Heap;
 use gpu_alloc::steps::Steps;
 use gpu_alloc::{AllocationError, AllocationFlags};
@@ -108,9 +108,8 @@ impl Store for Exact {
         }
     }
 
-    fn refuse(&mut self, rt: &impl Abort, nth: u64) {
-        let planned = self.device.refuse(Question::Allocate, nth, Cause::Device);
-        same(rt, "a plan", &planned, &Ok(()));
+    fn refuse(&mut self, nth: u64) -> Done {
+        self.device.refuse(Question::Allocate, nth, Cause::Device)
     }
 
     fn told(&mut self, rt: &impl Abort, size: u64, align_mask: u64) -> Option<AllocationError> {
@@ -119,12 +118,7 @@ impl Store for Exact {
             .refuses(size, align_mask, &self.heap, self.remaining)
     }
 
-    fn ask(
-        &mut self,
-        rt: &impl Abort,
-        size: u64,
-        align_mask: u64,
-    ) -> Result<FitBlock<SimMemory>, AllocationError> {
+    fn ask(&mut self, rt: &impl Abort, size: u64, align_mask: u64) -> Came<Self::Block> {
         assert!(rt; size <= LARGEST);
         self.allocator.alloc(
             &mut self.device,
@@ -137,11 +131,7 @@ impl Store for Exact {
     }
 
     fn place_of(_rt: &impl Abort, block: &FitBlock<SimMemory>) -> (Range, usize) {
-        let place = Range {
-            object: block.memory().object(),
-            start: block.offset(),
-            end: block.offset().saturating_add(block.size()),
-        };
+        let place = range_of(block.memory().object(), block.offset(), block.size());
         (place, key_of(block))
     }
 

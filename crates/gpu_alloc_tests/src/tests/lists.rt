@@ -3,7 +3,7 @@
 ghost use Rattle.std.specs.Prelude.{◌<◌};
 
 use super::drawn::{
-    Answer, Call, Chance, Keys, Plain, State, Store, came_often, count, held_of, try_lists,
+    Answer, Call, Chance, Done, Keys, Plain, State, Store, came_often, count, held_of, try_lists,
 };
 use super::same::{holds, same_at};
 use gpu_alloc::{AllocationError, FreeRange};
@@ -45,7 +45,7 @@ pub(super) fn front_of(range: Range, size: u64) -> Range {
 }
 
 /// Adds a range to the runs, if it is not empty.
-fn add_run(runs: &mut Vec<Range>, run: Range) -> Result<(), AllocError> {
+fn add_run(runs: &mut Vec<Range>, run: Range) -> Done {
     if run.start < run.end {
         runs.push(run)?;
     }
@@ -53,7 +53,7 @@ fn add_run(runs: &mut Vec<Range>, run: Range) -> Result<(), AllocError> {
 }
 
 /// Adds what rising blocks leave of a chunk to the runs.
-fn add_runs(runs: &mut Vec<Range>, chunk: Range, blocks: &[Range]) -> Result<(), AllocError> {
+fn add_runs(runs: &mut Vec<Range>, chunk: Range, blocks: &[Range]) -> Done {
     let mut rest = chunk;
     for block in blocks {
         if block.object == chunk.object {
@@ -236,7 +236,7 @@ impl Lists {
     }
 
     /// Finds what is free.
-    fn find_runs(&mut self) -> Result<(), AllocError> {
+    fn find_runs(&mut self) -> Done {
         self.runs = runs_of(self.alloc, self.chunks.as_slice(), self.live.as_slice())?;
         Ok(())
     }
@@ -321,7 +321,7 @@ impl Lists {
     }
 
     /// A block for a request of this many bytes is live.
-    fn hold(&mut self, block: Range, size: u64) -> Result<(), AllocError> {
+    fn hold(&mut self, block: Range, size: u64) -> Done {
         if is_within(block, self.runs.as_slice()) {
             let whole = is_among(block, self.runs.as_slice());
             count(&mut self.tally[usize::from(whole)]);
@@ -390,32 +390,26 @@ impl Plain for Lists {
         drawn_size(self.runs.as_slice(), chance)
     }
 
-    fn take(
-        &mut self,
-        rt: &impl Abort,
-        size: u64,
-        align_mask: u64,
-        (told, came): Answer,
-    ) -> Result<(), AllocError> {
+    fn take(&mut self, rt: &impl Abort, size: u64, mask: u64, (told, came): Answer) -> Done {
         let size = size.saturating_add(self.atom_mask) & !self.atom_mask;
-        let align_mask = align_mask.max(self.atom_mask);
-        let wanted = match self.last_tail(size, align_mask) {
-            Some(tail) => Ok(self.place(tail, size, align_mask, came)),
-            None => self.begin(size, align_mask)?,
+        let mask = mask.max(self.atom_mask);
+        let wanted = match self.last_tail(size, mask) {
+            Some(tail) => Ok(self.place(tail, size, mask, came)),
+            None => self.begin(size, mask)?,
         };
-        same_at(rt, "the block for", &(size, align_mask), &came, &wanted);
+        same_at(rt, "the block for", &(size, mask), &came, &wanted);
         let refusal = match wanted {
             Err(AllocationError::TooManyObjects) => Some(AllocationError::TooManyObjects),
             _ => None,
         };
-        same_at(rt, "what is told of", &(size, align_mask), &told, &refusal);
+        same_at(rt, "what is told of", &(size, mask), &told, &refusal);
         if let Ok(block) = wanted {
             self.hold(block, size)?;
         }
         Ok(())
     }
 
-    fn put_back(&mut self, rt: &impl Abort, at: usize) -> Result<(), AllocError> {
+    fn put_back(&mut self, rt: &impl Abort, at: usize) -> Done {
         holds(rt, at < self.live.len(), "no such block");
         let block = self.live.remove(at);
         match sides_of(self.runs.as_slice(), block) {
@@ -431,7 +425,7 @@ impl Plain for Lists {
         Ok(())
     }
 
-    fn clean(&mut self) -> Result<(), AllocError> {
+    fn clean(&mut self) -> Done {
         let gone = self.let_go(0)?;
         self.tally[13] = self.tally[13].saturating_add(gone);
         Ok(())

@@ -5,8 +5,8 @@ ghost use Rattle.gpu_alloc.specs.AlignMasks.{IsAlignMask};
 ghost use Rattle.gpu_alloc.specs.Steps.{Begins};
 
 use super::drawn::{
-    Answer, Call, Chance, Keys, Plain, State, Store, came_often, count, held_of, state_of,
-    try_lists,
+    Answer, Call, Came, Chance, Done, Keys, Plain, State, Store, came_often, count, held_of,
+    range_of, state_of, try_lists,
 };
 use super::offers::{LOCAL, offer};
 use super::same::{holds, never_with, same, same_at};
@@ -35,15 +35,6 @@ const FIRST: u64 = 8192;
 /// A free piece, a live block or a chunk.
 type Piece = FreeRange;
 
-/// The piece of an object from this start on, of this length.
-fn piece_of(object: u64, start: u64, length: u64) -> Piece {
-    Piece {
-        object,
-        start,
-        end: start.saturating_add(length),
-    }
-}
-
 /// The length of a piece.
 fn length_of(piece: Piece) -> u64 {
     piece.end.saturating_sub(piece.start)
@@ -52,13 +43,13 @@ fn length_of(piece: Piece) -> u64 {
 /// The piece with which this one is the two halves of an aligned range.
 fn other_half(piece: Piece) -> Piece {
     let length = length_of(piece);
-    piece_of(piece.object, piece.start ^ length, length)
+    range_of(piece.object, piece.start ^ length, length)
 }
 
 /// The aligned range of which this piece is one half.
 fn joined(piece: Piece) -> Piece {
     let length = length_of(piece);
-    piece_of(piece.object, piece.start & !length, length << 1)
+    range_of(piece.object, piece.start & !length, length << 1)
 }
 
 /// The place of a piece among others.
@@ -152,7 +143,7 @@ impl Pieces {
     /// Takes the free piece of which a block is the front, and which must have this length.
     fn take_front(&mut self, rt: &impl Abort, block: Piece, length: u64) -> Piece {
         let ties = count_of(self.free.as_slice(), length);
-        let front = piece_of(block.object, block.start, length);
+        let front = range_of(block.object, block.start, length);
         let Some(at) = find(self.free.as_slice(), front) else {
             return never_with(rt, "no shortest piece starts with", &(block, length));
         };
@@ -172,7 +163,7 @@ impl Pieces {
         same_at(rt, "the start in a new chunk of", &block, &block.start, &0);
         let known = find_of(self.chunks.as_slice(), block.object);
         same_at(rt, "a chunk that was held has", &block, &known, &None);
-        let chunk = piece_of(block.object, 0, length);
+        let chunk = range_of(block.object, 0, length);
         self.chunks.push(chunk)?;
         count(&mut self.tally[2]);
         if length > self.latest {
@@ -183,12 +174,12 @@ impl Pieces {
     }
 
     /// Splits a piece by halves down to this length. All but the front is free.
-    fn split(&mut self, piece: Piece, length: u64) -> Result<(), AllocError> {
+    fn split(&mut self, piece: Piece, length: u64) -> Done {
         let mut front = piece;
         for _ in 0..63 {
             let half = length_of(front) >> 1;
             if half >= length {
-                front = piece_of(front.object, front.start, half);
+                front = range_of(front.object, front.start, half);
                 self.free.push(other_half(front))?;
             }
         }
@@ -196,7 +187,7 @@ impl Pieces {
     }
 
     /// Joins a range with its other half while that is free, and frees the result.
-    fn join(&mut self, block: Piece) -> Result<(), AllocError> {
+    fn join(&mut self, block: Piece) -> Done {
         let mut piece = block;
         for _ in 0..63 {
             let Some(at) = find(self.free.as_slice(), other_half(piece)) else {
@@ -252,18 +243,12 @@ impl Plain for Pieces {
     }
 
     // The block is the front of a shortest free piece that is long enough, or, where there is none, of a new chunk.
-    fn take(
-        &mut self,
-        rt: &impl Abort,
-        size: u64,
-        align_mask: u64,
-        (told, came): Answer,
-    ) -> Result<(), AllocError> {
+    fn take(&mut self, rt: &impl Abort, size: u64, mask: u64, (told, came): Answer) -> Done {
         same(rt, "what is told", &told, &None);
         let Ok(block) = came else {
             return never_with(rt, "a request:", &came);
         };
-        let length = block_size(size, align_mask);
+        let length = block_size(size, mask);
         same_at(rt, "the size of", &block, &length_of(block), &length);
         let piece = match self.shortest(length) {
             Some(shortest) => self.take_front(rt, block, shortest),
@@ -276,7 +261,7 @@ impl Plain for Pieces {
     }
 
     // Its chunk is released where no other block in it is live.
-    fn put_back(&mut self, rt: &impl Abort, at: usize) -> Result<(), AllocError> {
+    fn put_back(&mut self, rt: &impl Abort, at: usize) -> Done {
         holds(rt, at < self.live.len(), "no such block");
         let block = self.live.remove(at);
         self.join(block)?;
@@ -287,7 +272,7 @@ impl Plain for Pieces {
         Ok(())
     }
 
-    fn clean(&mut self) -> Result<(), AllocError> {
+    fn clean(&mut self) -> Done {
         Ok(())
     }
 
@@ -417,26 +402,20 @@ impl Store for Buddies {
         }
     }
 
-    fn refuse(&mut self, rt: &impl Abort, nth: u64) {
-        let planned = self.device.refuse(Question::Allocate, nth, Cause::Device);
-        same(rt, "a plan", &planned, &Ok(()));
+    fn refuse(&mut self, nth: u64) -> Done {
+        self.device.refuse(Question::Allocate, nth, Cause::Device)
     }
 
     fn told(&mut self, _rt: &impl Abort, size: u64, align_mask: u64) -> Option<AllocationError> {
         self.told_uncounted::<Brand>(size, align_mask, Blank::new(1))
     }
 
-    fn ask(
-        &mut self,
-        _rt: &impl Abort,
-        size: u64,
-        align_mask: u64,
-    ) -> Result<BuddyBlock<SimMemory>, AllocationError> {
+    fn ask(&mut self, _rt: &impl Abort, size: u64, align_mask: u64) -> Came<Self::Block> {
         self.ask_uncounted::<Brand, Brand>(size, align_mask, Blank::new(1), Blank::new(1))
     }
 
     fn place_of(_rt: &impl Abort, block: &BuddyBlock<SimMemory>) -> (Piece, usize) {
-        let place = piece_of(block.memory().object(), block.offset(), block.size());
+        let place = range_of(block.memory().object(), block.offset(), block.size());
         (place, block.index())
     }
 
@@ -446,10 +425,6 @@ impl Store for Buddies {
 
     // No chunk without a live block is held between calls.
     fn clean(&mut self) {}
-
-    fn searches(&self) -> u64 {
-        0
-    }
 
     fn state(&self) -> State {
         state_of(&self.device, &self.heap, self.remaining)

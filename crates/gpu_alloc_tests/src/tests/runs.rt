@@ -5,10 +5,10 @@ ghost use Rattle.std.specs.Int.{is_power_of_two};
 ghost use Rattle.gpu_alloc.specs.AlignMasks.{IsAlignMask};
 ghost use Rattle.gpu_alloc.specs.FreeSpace.{IsMultipleOf};
 
-use super::drawn::{Keys, State, Store, state_of};
+use super::drawn::{Came, Done, Keys, State, Store, range_of, state_of};
 use super::lists::{FIRST, LARGEST, MOST, Range, Rule, try_runs};
 use super::offers::{LOCAL, offer};
-use super::same::{holds, same, same_at};
+use super::same::{holds, same_at};
 use gpu_alloc::freelist::{FreeListAllocator, FreeListBlock};
 use gpu_alloc::heap::Heap;
 use gpu_alloc::{AllocationError, AllocationFlags};
@@ -79,9 +79,8 @@ impl Store for Listed {
         }
     }
 
-    fn refuse(&mut self, rt: &impl Abort, nth: u64) {
-        let planned = self.device.refuse(Question::Allocate, nth, Cause::Device);
-        same(rt, "a plan", &planned, &Ok(()));
+    fn refuse(&mut self, nth: u64) -> Done {
+        self.device.refuse(Question::Allocate, nth, Cause::Device)
     }
 
     fn told(&mut self, rt: &impl Abort, size: u64, align_mask: u64) -> Option<AllocationError> {
@@ -90,12 +89,7 @@ impl Store for Listed {
             .refuses(size, align_mask, &self.heap, self.remaining)
     }
 
-    fn ask(
-        &mut self,
-        rt: &impl Abort,
-        size: u64,
-        align_mask: u64,
-    ) -> Result<FreeListBlock<SimMemory>, AllocationError> {
+    fn ask(&mut self, rt: &impl Abort, size: u64, align_mask: u64) -> Came<Self::Block> {
         assert!(rt; size <= LARGEST);
         self.allocator.alloc(
             &mut self.device,
@@ -108,11 +102,7 @@ impl Store for Listed {
     }
 
     fn place_of(rt: &impl Abort, block: &FreeListBlock<SimMemory>) -> (Range, usize) {
-        let place = Range {
-            object: block.memory().object(),
-            start: block.offset(),
-            end: block.offset().saturating_add(block.size()),
-        };
+        let place = range_of(block.memory().object(), block.offset(), block.size());
         same_at(rt, "the chunk of", &place, &block.chunk(), &place.object);
         (place, key_of(block))
     }
@@ -131,10 +121,6 @@ impl Store for Listed {
     fn clean(&mut self) {
         self.allocator
             .cleanup(&mut self.device, &mut self.heap, &mut self.remaining);
-    }
-
-    fn searches(&self) -> u64 {
-        0
     }
 
     fn state(&self) -> State {
