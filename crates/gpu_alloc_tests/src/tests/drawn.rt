@@ -1,6 +1,6 @@
-//! Lists of calls of a store, drawn from a fixed seed. Where each block lies, what the device is asked for, what is held
-//! and what is free is compared with a plain model. What other drawn lists share stands here too: the numbers, and how
-//! often each case came.
+//! Lists of calls of a store, drawn from a fixed seed. Where each block lies, what the device is asked for, what is
+//! held and what is free is compared with a plain model. What other drawn lists share stands here too: the numbers, and
+//! how often each case came.
 
 ghost use Rattle.std.specs.Prelude.{◌<◌};
 ghost use Rattle.gpu_alloc.specs.AlignMasks.{IsAlignMask};
@@ -323,7 +323,7 @@ impl<S: Store> Hand<S> {
     }
 }
 
-/// Makes a drawn call, and compares what comes of it. A return is of a drawn one of the blocks in hand, if there is one.
+/// Makes a drawn call, and compares what comes of it. A return takes one of the blocks in hand, if there is one.
 fn step<S: Store>(
     rt: &impl Abort,
     hand: &mut Hand<S>,
