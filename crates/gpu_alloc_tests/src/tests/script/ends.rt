@@ -1,5 +1,6 @@
 //! Readers and writers that fail.
 
+use super::scripts::ran;
 use crate::tests::same::{same, same_at};
 use gpu_script_language::run_script;
 use gpu_sim::ScarceMemory;
@@ -9,40 +10,22 @@ use std::io::{Error, ErrorKind, Read, Write};
 use std::process::Abort;
 use std::test::Fail;
 
-/// A reader that gives two bytes a read, and fails after a number of reads.
+/// A reader that gives one byte a read, and fails after a number of reads, and again after each such number.
 #[derive(Drop)]
 struct BrokenReader<'a> {
     left: &'a [u8],
     good: usize,
+    next: usize,
+    kind: ErrorKind,
 }
 
 impl Read for BrokenReader<'_> {
     fn read(&mut self, buf: &mut [u8]) -> io::Result<usize> {
         if self.good == 0 {
-            return Err(Error::from(ErrorKind::BrokenPipe));
+            self.good = self.next;
+            return Err(Error::from(self.kind));
         }
         self.good -= 1;
-        let count = self.left.len().min(buf.len()).min(2);
-        let (now, later) = self.left.split_at(count);
-        buf[..count].copy_from_slice(now);
-        self.left = later;
-        Ok(count)
-    }
-}
-
-/// A reader that is interrupted before each byte that it gives.
-#[derive(Drop)]
-struct InterruptedReader<'a> {
-    left: &'a [u8],
-    is_ready: bool,
-}
-
-impl Read for InterruptedReader<'_> {
-    fn read(&mut self, buf: &mut [u8]) -> io::Result<usize> {
-        self.is_ready = !self.is_ready;
-        if self.is_ready {
-            return Err(Error::from(ErrorKind::Interrupted));
-        }
         let count = self.left.len().min(buf.len()).min(1);
         let (now, later) = self.left.split_at(count);
         buf[..count].copy_from_slice(now);
@@ -92,27 +75,22 @@ const ENDS: [(&str, &str, u8); 3] = [
 /// Compares the end of a script whose reader fails at each of its reads in turn, including the one that finds its end.
 /// Nothing is printed then, not even for a bad line that was read.
 fn compare_reads(rt: &impl Abort, alloc: Global, script: &str, printed: &str, status: u8) {
-    let reads = script.len().div_ceil(2).saturating_add(1);
+    let reads = script.len().saturating_add(1);
     for good in 0..=reads {
         let mut input = BrokenReader {
             left: script.as_bytes(),
             good,
+            next: 0,
+            kind: ErrorKind::BrokenPipe,
         };
-        let mut output = Vec::new(alloc);
-        let ended = run_script(alloc, &mut input, &mut output);
+        let (ended, output) = ran(alloc, alloc, &mut input);
         let came = (ended, output.as_slice());
         let wanted = if good < reads {
             (1, "".as_bytes())
         } else {
             (status, printed.as_bytes())
         };
-        same_at(
-            rt,
-            "status and what is printed after reads:",
-            &good,
-            &came,
-            &wanted,
-        );
+        same_at(rt, "status and output after reads:", &good, &came, &wanted);
     }
 }
 
@@ -125,19 +103,15 @@ fn a_failed_read_prints_nothing(rt: HostRuntime) {
 
 #[test]
 fn an_interrupted_read_is_tried_again(rt: HostRuntime) {
-    let mut input = InterruptedReader {
+    let mut input = BrokenReader {
         left: SCRIPT.as_bytes(),
-        is_ready: false,
+        good: 0,
+        next: 1,
+        kind: ErrorKind::Interrupted,
     };
-    let mut output = Vec::new(rt.alloc());
-    let ended = run_script(rt.alloc(), &mut input, &mut output);
+    let (ended, output) = ran(rt.alloc(), rt.alloc(), &mut input);
     let came = (ended, output.as_slice());
-    same(
-        &rt,
-        "status and what is printed",
-        &came,
-        &(0, ANSWER.as_bytes()),
-    );
+    same(&rt, "status and output", &came, &(0, ANSWER.as_bytes()));
 }
 
 /// Compares the end of a script whose writer fails after each number of bytes in turn, and at the flush. The program
@@ -163,13 +137,7 @@ fn compare_writes<A: Allocator + Copy>(
         } else {
             (1, &printed.as_bytes()[..room])
         };
-        same_at(
-            rt,
-            "status and what is printed with room for",
-            &room,
-            &came,
-            &wanted,
-        );
+        same_at(rt, "status and output with room for", &room, &came, &wanted);
     }
 }
 

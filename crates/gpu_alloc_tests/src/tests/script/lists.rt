@@ -5,6 +5,7 @@ mod printed;
 mod tally;
 
 use super::scripts;
+use crate::tests::drawn::Chance;
 use crate::tests::same::{same, same_at};
 use gpu_alloc::{Dedicated, MapError, Request, UsageFlags};
 use gpu_script_language::SimSession;
@@ -14,7 +15,7 @@ use printed::printed;
 use std::alloc::{AllocError, Global};
 use std::process::Abort;
 use std::test::Fail;
-use tally::{ONE_VALUE, SEVERAL_VALUES, Tally};
+use tally::Tally;
 
 /// How many lists are drawn.
 const LISTS: u64 = 200;
@@ -28,43 +29,23 @@ const NAMES: usize = 7;
 /// How many bytes are kept of each block: no command that is drawn moves a byte past them.
 const BLOCK: usize = 40;
 
-/// The commands of a script.
-#[derive(Clone, Copy, Debug, PartialEq, Eq)]
-enum Kind {
-    Alloc,
-    Required,
-    Preferred,
-    Import,
-    Free,
-    Map,
-    Unmap,
-    Write,
-    Read,
-    Put,
-    Get,
-    Remaining,
-    Cleanup,
-    Ranges,
-    Counts,
-}
-
-/// Each kind with its word, and how many numbers follow it.
-const KINDS: [(Kind, &str, usize); 15] = [
-    (Kind::Alloc, "alloc", 5),
-    (Kind::Required, "required", 5),
-    (Kind::Preferred, "preferred", 5),
-    (Kind::Import, "import", 5),
-    (Kind::Free, "free", 1),
-    (Kind::Map, "map", 3),
-    (Kind::Unmap, "unmap", 1),
-    (Kind::Write, "write", 2),
-    (Kind::Read, "read", 3),
-    (Kind::Put, "put", 2),
-    (Kind::Get, "get", 3),
-    (Kind::Remaining, "remaining", 1),
-    (Kind::Cleanup, "cleanup", 0),
-    (Kind::Ranges, "ranges", 1),
-    (Kind::Counts, "counts", 0),
+/// Each kind of command by its word, and how many numbers follow it.
+const KINDS: [(&str, usize); 15] = [
+    ("alloc", 5),
+    ("required", 5),
+    ("preferred", 5),
+    ("import", 5),
+    ("free", 1),
+    ("map", 3),
+    ("unmap", 1),
+    ("write", 2),
+    ("read", 3),
+    ("put", 2),
+    ("get", 3),
+    ("remaining", 1),
+    ("cleanup", 0),
+    ("ranges", 1),
+    ("counts", 0),
 ];
 
 /// How often kinds are drawn, by their places in `KINDS`: those that move bytes the most.
@@ -76,28 +57,10 @@ const DRAWN: [usize; 32] = [
 /// What often follows a kind, on the same name: so a put is often followed by an unmap, a write and a read.
 const NEXT: [usize; 15] = [7, 7, 7, 7, 0, 9, 7, 8, 5, 6, 9, 7, 7, 7, 7];
 
-/// Pseudorandom numbers, the same in each run.
-#[derive(Drop)]
-struct Chance {
-    state: u64,
-}
-
-impl Chance {
-    /// The next number, below 2^31.
-    fn next(&mut self) -> u64 {
-        self.state = self
-            .state
-            .wrapping_mul(6364136223846793005)
-            .wrapping_add(1442695040888963407);
-        self.state >> 33
-    }
-}
-
 /// A command as the word and the numbers of its line, and the bytes that follow them where it has any.
 #[derive(Drop)]
 struct Line {
     place: usize,
-    kind: Kind,
     word: &'static str,
     count: usize,
     numbers: [u64; 5],
@@ -105,25 +68,25 @@ struct Line {
 }
 
 /// The numbers of a command of this kind.
-fn numbers_of(kind: Kind, chance: &mut Chance) -> [u64; 5] {
+fn numbers_of(word: &str, chance: &mut Chance) -> [u64; 5] {
     let name = chance.next() % 6 + 1;
     let first = chance.next();
     let second = chance.next();
     let third = chance.next();
-    match kind {
-        Kind::Alloc | Kind::Required | Kind::Preferred => {
+    match word {
+        "alloc" | "required" | "preferred" => {
             let mask = if third % 4 == 0 { 31 } else { 0 };
             let usage = if first % 3 == 0 { 18 } else { 2 };
             let types = if third % 16 == 1 { 0 } else { 1 };
             [name, second % 100 + 1, mask, usage, types]
         }
-        Kind::Import => {
+        "import" => {
             let size = (second % 4 + 1) * 16;
             let span = if third % 8 == 0 { size + 1 } else { size };
             [name, 0, 128, first % 3 * 16, span]
         }
-        Kind::Remaining => [first % 4 + 1, 0, 0, 0, 0],
-        Kind::Ranges => [first % 5 / 4, 0, 0, 0, 0],
+        "remaining" => [first % 4 + 1, 0, 0, 0, 0],
+        "ranges" => [first % 5 / 4, 0, 0, 0, 0],
         _ => [name, first % 12, second % 16 + 1, 0, 0],
     }
 }
@@ -150,19 +113,17 @@ fn draw_line(
     } else {
         DRAWN[(chance.next() % 32) as usize]
     };
-    let (kind, word, count) = KINDS[place % KINDS.len()];
-    let mut numbers = numbers_of(kind, chance);
+    let (word, count) = KINDS[place % KINDS.len()];
+    let mut numbers = numbers_of(word, chance);
     if follows {
         numbers[0] = name;
     }
-    let bytes = some_bytes(alloc, chance)?;
     Ok(Line {
         place,
-        kind,
         word,
         count,
         numbers,
-        bytes,
+        bytes: some_bytes(alloc, chance)?,
     })
 }
 
@@ -220,8 +181,8 @@ fn draw_plan(alloc: Global, chance: &mut Chance) -> Result<Plan, AllocError> {
 }
 
 /// Whether bytes follow the numbers of a line.
-fn has_bytes(kind: Kind) -> bool {
-    kind == Kind::Write || kind == Kind::Put
+fn has_bytes(line: &Line) -> bool {
+    line.word == "write" || line.word == "put"
 }
 
 /// Adds a command's line to a script.
@@ -230,7 +191,7 @@ fn add_line(text: &mut String, line: &Line) -> Result<(), AllocError> {
     for number in line.numbers.iter().take(line.count) {
         write!(text, " {number}")?;
     }
-    if has_bytes(line.kind) {
+    if has_bytes(line) {
         add_bytes(text, line.bytes.as_slice())?;
     }
     text.push('\n')
@@ -253,92 +214,82 @@ fn as_u32(number: u64) -> u32 {
     (number % (1 << 32)) as u32
 }
 
-/// What the numbers of a line ask for.
-fn request_of(numbers: &[u64; 5]) -> Request {
-    Request {
-        size: numbers[1],
-        align_mask: numbers[2],
-        usage: UsageFlags::from_bits_truncate((numbers[3] % 256) as u8),
-        memory_types: as_u32(numbers[4]),
-    }
-}
-
-/// The command of a line that asks for a block.
-fn asking(kind: Kind, numbers: &[u64; 5]) -> Command {
-    let name = as_u32(numbers[0]);
-    let request = request_of(numbers);
-    match kind {
-        Kind::Alloc => Command::Alloc { name, request },
-        Kind::Required => Command::Dedicated {
-            name,
-            request,
-            dedicated: Dedicated::Required,
-        },
-        _ => Command::Dedicated {
-            name,
-            request,
-            dedicated: Dedicated::Preferred,
-        },
-    }
-}
-
-/// The command of a line that moves bytes.
-fn moving(alloc: Global, line: &Line) -> Result<Command, AllocError> {
-    let [first, offset, len, ..] = line.numbers;
+/// The command of a line.
+fn command_of(alloc: Global, line: &Line) -> Result<Command, AllocError> {
+    let [first, offset, len, start, part] = line.numbers;
     let name = as_u32(first);
-    Ok(match line.kind {
-        Kind::Read => Command::Read { name, offset, len },
-        Kind::Get => Command::Get { name, offset, len },
-        Kind::Write => Command::Write {
+    Ok(match line.word {
+        "alloc" | "required" | "preferred" => asking(line.word, name, request_of(line)),
+        "import" => Command::Import {
+            name,
+            memory_type: as_u32(offset),
+            object_size: len,
+            offset: start,
+            size: part,
+        },
+        "free" => Command::Free { name },
+        "map" => Command::Map {
             name,
             offset,
-            bytes: bytes_of(alloc, line)?,
+            size: len,
         },
-        _ => Command::Put {
-            name,
-            offset,
-            bytes: bytes_of(alloc, line)?,
-        },
+        "unmap" => Command::Unmap { name },
+        "write" | "put" => moving(line.word, name, offset, bytes_of(alloc, line)?),
+        "read" => Command::Read { name, offset, len },
+        "get" => Command::Get { name, offset, len },
+        "remaining" => Command::SetRemaining { remaining: name },
+        "ranges" => Command::FreeRanges { memory_type: name },
+        "counts" => Command::Counts,
+        _ => Command::Cleanup,
     })
+}
+
+/// What the numbers of a line ask for.
+fn request_of(line: &Line) -> Request {
+    let [_, size, align_mask, usage, memory_types] = line.numbers;
+    Request {
+        size,
+        align_mask,
+        usage: UsageFlags::from_bits_truncate((usage % 256) as u8),
+        memory_types: as_u32(memory_types),
+    }
+}
+
+/// The command with this word that asks for a block.
+fn asking(word: &str, name: u32, request: Request) -> Command {
+    let dedicated = match word {
+        "required" => Dedicated::Required,
+        "preferred" => Dedicated::Preferred,
+        _ => return Command::Alloc { name, request },
+    };
+    Command::Dedicated {
+        name,
+        request,
+        dedicated,
+    }
+}
+
+/// The command with this word that brings bytes.
+fn moving(word: &str, name: u32, offset: u64, bytes: Bytes) -> Command {
+    if word == "write" {
+        Command::Write {
+            name,
+            offset,
+            bytes,
+        }
+    } else {
+        Command::Put {
+            name,
+            offset,
+            bytes,
+        }
+    }
 }
 
 /// The bytes of a line.
 fn bytes_of(alloc: Global, line: &Line) -> Result<Bytes, AllocError> {
-    let mut bytes = Vec::new(alloc);
-    bytes.extend_from_slice(line.bytes.as_slice())?;
+    let bytes = Vec::from_slice(alloc, line.bytes.as_slice())?;
     Ok(Bytes::from_vec(bytes))
-}
-
-/// The command of a line.
-fn command_of(alloc: Global, line: &Line) -> Result<Command, AllocError> {
-    let [first, second, third, fourth, fifth] = line.numbers;
-    let name = as_u32(first);
-    Ok(match line.kind {
-        Kind::Alloc | Kind::Required | Kind::Preferred => asking(line.kind, &line.numbers),
-        Kind::Import => Command::Import {
-            name,
-            memory_type: as_u32(second),
-            object_size: third,
-            offset: fourth,
-            size: fifth,
-        },
-        Kind::Free => Command::Free { name },
-        Kind::Map => Command::Map {
-            name,
-            offset: second,
-            size: third,
-        },
-        Kind::Unmap => Command::Unmap { name },
-        Kind::Write | Kind::Read | Kind::Put | Kind::Get => moving(alloc, line)?,
-        Kind::Remaining => Command::SetRemaining {
-            remaining: as_u32(first),
-        },
-        Kind::Cleanup => Command::Cleanup,
-        Kind::Ranges => Command::FreeRanges {
-            memory_type: as_u32(first),
-        },
-        Kind::Counts => Command::Counts,
-    })
 }
 
 /// The commands of a list.
@@ -354,82 +305,64 @@ fn commands_of(alloc: Global, lines: &[Line]) -> Result<Vec<Command>, AllocError
 /// the value `v`, and no bit where no write has covered the byte since the block was granted.
 #[derive(Drop)]
 struct Written {
-    values: Vec<u64>,
-    mapped_from: Vec<u64>,
+    values: [[u64; BLOCK]; NAMES],
+
+    /// Where the latest mapping of each block starts in it.
+    mapped_from: [u64; NAMES],
 }
 
 impl Written {
     /// Nothing was written.
-    fn new(alloc: Global) -> Result<Written, AllocError> {
-        let values = vec![in alloc; 0u64; NAMES * BLOCK]?;
-        let mapped_from = vec![in alloc; 0u64; NAMES]?;
-        Ok(Written {
-            values,
-            mapped_from,
-        })
-    }
-
-    /// The bits of a byte, if it is kept.
-    fn at(&mut self, name: u64, byte: u64) -> Option<&mut u64> {
-        let place = name.wrapping_mul(BLOCK as u64).wrapping_add(byte);
-        if byte < BLOCK as u64 && place < self.values.len() as u64 {
-            self.values.get_mut(place as usize)
-        } else {
-            None
+    fn new() -> Written {
+        Written {
+            values: [[0; BLOCK]; NAMES],
+            mapped_from: [0; NAMES],
         }
     }
 
     /// The values of a byte, 0 where it is not kept.
-    fn bits(&mut self, name: u64, byte: u64) -> u64 {
-        match self.at(name, byte) {
-            Some(bits) => *bits,
-            None => 0,
-        }
+    fn bits(&self, name: u64, byte: u64) -> u64 {
+        let block = self.values.get(name as usize);
+        let bits = block.and_then(|block| block.get(byte as usize));
+        bits.copied().unwrap_or(0)
     }
 
-    /// Whether one of these bytes, from an offset on, has values.
-    fn goes_over_values(&mut self, name: u64, offset: u64, bytes: &[u8]) -> bool {
-        for place in 0..bytes.len() as u64 {
-            if self.bits(name, offset.wrapping_add(place)) != 0 {
-                return true;
-            }
-        }
-        false
+    /// Whether a byte that a line would write has values.
+    fn is_known(&self, line: &Line) -> bool {
+        let [name, offset, ..] = line.numbers;
+        (0..line.bytes.len() as u64).any(|place| self.bits(name, offset.wrapping_add(place)) != 0)
     }
 
     /// No byte of the block has values.
     fn clear(&mut self, name: u64) {
-        for byte in 0..BLOCK as u64 {
-            if let Some(bits) = self.at(name, byte) {
-                *bits = 0;
-            }
+        if let Some(block) = self.values.get_mut(name as usize) {
+            *block = [0; BLOCK];
         }
     }
 
     /// These bytes are the values from an offset on. Where they only may be, they are added to those that there are.
     fn cover(&mut self, name: u64, offset: u64, bytes: &[u8], is_sure: bool) {
-        let mut byte = offset;
-        for value in bytes {
-            if let Some(bits) = self.at(name, byte) {
-                let bit = 1u64 << (*value % 64);
-                if is_sure {
-                    *bits = bit;
-                } else if *bits != 0 {
-                    *bits |= bit;
-                }
+        let Some(block) = self.values.get_mut(name as usize) else {
+            return;
+        };
+        for (bits, value) in block.iter_mut().skip(offset as usize).zip(bytes) {
+            let bit = 1u64 << (*value % 64);
+            if is_sure {
+                *bits = bit;
+            } else if *bits != 0 {
+                *bits |= bit;
             }
-            byte = byte.wrapping_add(1);
         }
     }
 
-    /// Whether each of these bytes, read from an offset on, is one of its values where it has some.
-    fn fits(&mut self, name: u64, offset: u64, bytes: &[u8]) -> bool {
+    /// Whether each of these bytes, read from an offset on, is kept, and is one of its values where it has some.
+    fn fits(&self, name: u64, offset: u64, bytes: &[u8]) -> bool {
         let mut byte = offset;
         for value in bytes {
-            let Some(bits) = self.at(name, byte) else {
-                return false;
-            };
-            if *bits != 0 && (*value >= 64 || (*bits >> (*value % 64)) & 1 == 0) {
+            let bits = self.bits(name, byte);
+            if byte >= BLOCK as u64
+                || bits != 0 && (*value >= 64 || bits >> (*value % 64) & 1 == 0)
+            {
                 return false;
             }
             byte = byte.wrapping_add(1);
@@ -437,47 +370,26 @@ impl Written {
         true
     }
 
-    /// Where the latest mapping of a block starts in it.
-    fn mapping(&mut self, name: u64) -> Option<&mut u64> {
-        self.mapped_from.get_mut((name % NAMES as u64) as usize)
-    }
-
-    /// After a command that was done.
-    fn done(&mut self, line: &Line) {
-        let [name, offset, ..] = line.numbers;
-        match line.kind {
-            Kind::Free => self.clear(name),
-            Kind::Write => self.cover(name, offset, line.bytes.as_slice(), true),
-            Kind::Put => {
-                let start = self.mapping(name).map_or(0, |start| *start);
-                self.cover(
-                    name,
-                    start.wrapping_add(offset),
-                    line.bytes.as_slice(),
-                    false,
-                );
-            }
-            _ => (),
-        }
-    }
-
     /// After a command: whether its reply gives no byte a value that it cannot have.
     fn after(&mut self, line: &Line, reply: &Reply) -> bool {
         let [name, offset, ..] = line.numbers;
-        match reply {
-            Reply::Granted { .. } => self.clear(name),
-            Reply::Done => self.done(line),
-            Reply::Mapped(_) => {
-                if let Some(start) = self.mapping(name) {
+        let bytes = line.bytes.as_slice();
+        match (reply, line.word) {
+            (Reply::Granted { .. }, _) | (Reply::Done, "free") => self.clear(name),
+            (Reply::Done, "write") => self.cover(name, offset, bytes, true),
+            (Reply::Done, "put") => {
+                let start = self.mapped_from.get(name as usize).copied().unwrap_or(0);
+                self.cover(name, start.wrapping_add(offset), bytes, false);
+            }
+            (Reply::Mapped(_), _) => {
+                if let Some(start) = self.mapped_from.get_mut(name as usize) {
                     *start = offset;
                 }
             }
-            Reply::MapRefused(error) if line.kind == Kind::Write && may_have_moved(*error) => {
-                self.cover(name, offset, line.bytes.as_slice(), false);
+            (Reply::MapRefused(error), "write") if may_have_moved(*error) => {
+                self.cover(name, offset, bytes, false);
             }
-            Reply::Bytes(bytes) if line.kind == Kind::Read => {
-                return self.fits(name, offset, bytes.as_slice());
-            }
+            (Reply::Bytes(read), "read") => return self.fits(name, offset, read.as_slice()),
             _ => (),
         }
         true
@@ -502,17 +414,17 @@ fn check_replies(
     replies: &[Reply],
     tally: &mut Tally,
 ) -> Result<(), Fail> {
-    let mut written = Written::new(alloc)?;
+    let mut written = Written::new();
     for (index, (line, reply)) in lines.iter().zip(replies).enumerate() {
         let has_memory = !matches!(reply, Reply::Fault(Fault::NoMemory));
         same(rt, "whether there is memory", &has_memory, &true);
-        tally.count(line, reply, &mut written);
+        tally.count(line, reply, &written);
         let fits = written.after(line, reply);
         same(rt, "a read gives what was written", &fits, &true);
         if index % PART == PART - 1 {
             let commands = commands.get(..=index).unwrap_or(&[]);
             let replies = replies.get(..=index).unwrap_or(&[]);
-            compare_told(rt, alloc, commands, replies, &mut written, tally)?;
+            compare_told(rt, alloc, commands, replies, &written, tally)?;
         }
     }
     Ok(())
@@ -534,7 +446,7 @@ fn compare_told(
     alloc: Global,
     commands: &[Command],
     replies: &[Reply],
-    written: &mut Written,
+    written: &Written,
     tally: &mut Tally,
 ) -> Result<(), AllocError> {
     for name in 0..NAMES as u32 {
@@ -543,7 +455,7 @@ fn compare_told(
             let bits = written.bits(u64::from(name), byte);
             let came = bits_of(told.as_slice());
             same_at(rt, "name and byte", &(name, byte), &came, &bits);
-            tally.count_byte(bits, ONE_VALUE, SEVERAL_VALUES);
+            tally.count_byte(bits, "byte of one value", "byte of several values");
         }
     }
     Ok(())
@@ -559,15 +471,6 @@ pub(super) fn session_of(
     Ok(scripts::open_session(rt, alloc, &script.setup)?)
 }
 
-/// Runs commands as one list. Returns the replies, and the device at the end.
-fn run_list(
-    mut session: SimSession<Global>,
-    commands: &[Command],
-) -> (Result<Vec<Reply>, AllocError>, Sim<Global>) {
-    let replies = session.run(commands);
-    (replies, session.finish())
-}
-
 /// The replies to a list, and what a script of it must print.
 fn answers(
     rt: &impl Abort,
@@ -576,8 +479,9 @@ fn answers(
     commands: &[Command],
     tally: &mut Tally,
 ) -> Result<(Vec<Reply>, String), Fail> {
-    let session = session_of(rt, alloc, plan.text.as_str())?;
-    let (replies, device) = run_list(session, commands);
+    let mut session = session_of(rt, alloc, plan.text.as_str())?;
+    let replies = session.run(commands);
+    let device = session.finish();
     tally.count_refused(plan, &device);
     let objects = device.objects();
     let asked = device.asked(Question::Allocate);
@@ -596,21 +500,16 @@ fn try_list(
 ) -> Result<(), Fail> {
     let plan = draw_plan(alloc, chance)?;
     let lines = draw_list(alloc, chance)?;
-    let commands = commands_of(alloc, lines.as_slice())?;
-    let (replies, expected) = answers(rt, alloc, &plan, commands.as_slice(), tally)?;
-    check_replies(
-        rt,
-        alloc,
-        lines.as_slice(),
-        commands.as_slice(),
-        replies.as_slice(),
-        tally,
-    )?;
+    let lines = lines.as_slice();
+    let commands = commands_of(alloc, lines)?;
+    let commands = commands.as_slice();
+    let (replies, expected) = answers(rt, alloc, &plan, commands, tally)?;
+    check_replies(rt, alloc, lines, commands, replies.as_slice(), tally)?;
     let Plan {
         text: mut script,
         ..
     } = plan;
-    for line in &lines {
+    for line in lines {
         add_line(&mut script, line)?;
     }
     scripts::compare(rt, alloc, &[(script.as_str(), expected.as_str(), 0)]);
@@ -620,7 +519,7 @@ fn try_list(
 #[test]
 fn reads_of_drawn_lists_give_what_was_written(rt: HostRuntime) -> Result<(), Fail> {
     let mut chance = Chance { state: 20 };
-    let mut tally = Tally::new(rt.alloc())?;
+    let mut tally = Tally::new();
     for _ in 0..LISTS {
         try_list(&rt, rt.alloc(), &mut chance, &mut tally)?;
     }

@@ -1,9 +1,9 @@
 //! Host memory that is refused: to the program, and to single commands, each of whose requests is refused in turn.
 
 use super::scarce::{Outcome, Refusals, ScarceSession};
-use super::scripts::good_script;
+use super::scripts::{good_script, ran};
 use crate::tests::same::{same, same_at};
-use gpu_script_language::{print_reply, run_script};
+use gpu_script_language::print_reply;
 use gpu_session::{Command, Fault, Reply};
 use gpu_sim::ScarceMemory;
 use std::alloc::{AllocError, Allocator, Global};
@@ -23,14 +23,9 @@ fn outcome_in<A: Allocator + Copy>(
     let outcome = session.outcome(command);
     let after = session.told(alloc)?;
     if outcome != Outcome::Served {
-        compare_held(rt, outcome, after.as_slice(), before.as_slice());
+        same_at(rt, "held after", &outcome, &after, &before);
     }
     Ok(outcome)
-}
-
-/// Compares what is held after a refused command with what was held before it.
-fn compare_held(rt: &impl Abort, outcome: Outcome, after: &[String], before: &[String]) {
-    same_at(rt, "held after", &outcome, &after, &before);
 }
 
 /// Runs the earlier commands with ample memory, and then one command where `room` bytes are left. At the end the device
@@ -54,19 +49,6 @@ fn outcome_of<A: Allocator + Copy>(
     Ok(outcome?)
 }
 
-/// The same with fresh memory.
-fn outcome_of_script(
-    rt: &impl Abort,
-    alloc: Global,
-    earlier: &str,
-    command: &str,
-    room: usize,
-) -> Result<Outcome, Fail> {
-    let memory = ScarceMemory::new(alloc)?;
-    let host = memory.host();
-    outcome_of(rt, alloc, &memory, host, earlier, command, room)
-}
-
 /// Which refusals a command meets, as more bytes are left until it is served.
 fn refusals(
     rt: &impl Abort,
@@ -76,7 +58,9 @@ fn refusals(
 ) -> Result<Refusals, Fail> {
     let mut met = [false; 3];
     for room in 0..8192 {
-        let outcome = outcome_of_script(rt, alloc, earlier, command, room << 3)?;
+        let memory = ScarceMemory::new(alloc)?;
+        let host = memory.host();
+        let outcome = outcome_of(rt, alloc, &memory, host, earlier, command, room << 3)?;
         if outcome == Outcome::Served {
             return Ok(met);
         }
@@ -130,24 +114,6 @@ const SCRIPT: &str =
     "heap 1048576\ntype 0 6\nrefuse map 3 failed\nrequired 1 8 0 2 1\nwrite 1 0 00\nread 1 0 8\n\
 required 2 4096 0 2 1\nranges 0\nfree 1";
 
-/// How a script ends, and what it prints, where `room` bytes are left.
-fn script_in(alloc: Global, room: usize) -> Result<(u8, Vec<u8>), Fail> {
-    let memory = ScarceMemory::new(alloc)?;
-    memory.leave(room)?;
-    let mut input = SCRIPT.as_bytes();
-    let mut output = Vec::new(alloc);
-    let status = run_script(memory.host(), &mut input, &mut output);
-    Ok((status, output))
-}
-
-/// How a script ends, and what it prints, with ample memory.
-fn ample_script(alloc: Global) -> (u8, Vec<u8>) {
-    let mut input = SCRIPT.as_bytes();
-    let mut output = Vec::new(alloc);
-    let status = run_script(alloc, &mut input, &mut output);
-    (status, output)
-}
-
 /// How many lines are printed, 0 where it is not a text.
 fn lines_of(printed: &[u8]) -> usize {
     match str::from_utf8(printed) {
@@ -171,29 +137,21 @@ enum Ended {
 
 /// How a script ends where `room` bytes are left. What it then prints is compared.
 fn ended_in(rt: &impl Abort, alloc: Global, whole: &[u8], room: usize) -> Result<Ended, Fail> {
-    let (status, printed) = script_in(alloc, room)?;
+    let memory = ScarceMemory::new(alloc)?;
+    memory.leave(room)?;
+    let (status, printed) = ran(alloc, memory.host(), &mut SCRIPT.as_bytes());
     let printed = printed.as_slice();
     if printed == whole {
         return Ok(Ended::Whole);
     }
     if status == 3 {
-        same_at(
-            rt,
-            "printed in",
-            &room,
-            &printed,
-            &"out of memory\n".as_bytes(),
-        );
+        let wanted = "out of memory\n".as_bytes();
+        same_at(rt, "printed in", &room, &printed, &wanted);
         return Ok(Ended::Wanting);
     }
     let ended = (status, lines_of(printed));
-    same_at(
-        rt,
-        "status and lines in",
-        &room,
-        &ended,
-        &(0, lines_of(whole)),
-    );
+    let wanted = (0, lines_of(whole));
+    same_at(rt, "status and lines in", &room, &ended, &wanted);
     Ok(Ended::Refused)
 }
 
@@ -201,8 +159,8 @@ fn ended_in(rt: &impl Abort, alloc: Global, whole: &[u8], room: usize) -> Result
 /// its commands make are answered by a line each, and the rest runs.
 #[test]
 fn a_program_without_memory_says_so_alone(rt: HostRuntime) -> Result<(), Fail> {
-    let (ran, whole) = ample_script(rt.alloc());
-    same(&rt, "the status with ample memory", &ran, &0);
+    let (status, whole) = ran(rt.alloc(), rt.alloc(), &mut SCRIPT.as_bytes());
+    same(&rt, "the status with ample memory", &status, &0);
     let mut wanting = 0u32;
     let mut refused = 0u32;
     for room in 0..8192 {

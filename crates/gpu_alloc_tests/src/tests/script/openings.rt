@@ -1,7 +1,7 @@
 //! Each request for host memory of an opening refused in turn.
 
 use super::scarce::ScarceSession;
-use super::scripts::good_script;
+use super::scripts::{good_script, halves};
 use super::whole::{BYTES, OBJECTS};
 use crate::tests::same::same_at;
 use gpu_sim::ScarceMemory;
@@ -27,29 +27,17 @@ fn open_script<A: Allocator + Copy>(
     Ok(enough)
 }
 
-/// The same with fresh memory. It also returns how many bytes may be left next.
-fn open_in(
-    rt: &impl Abort,
-    alloc: Global,
-    text: &str,
-    room: usize,
-) -> Result<(bool, Option<usize>), Fail> {
-    let memory = ScarceMemory::new(alloc)?;
-    let enough = open_script(rt, &memory, memory.host(), text, room)?;
-    Ok((enough, memory.less_room(room)))
-}
-
 /// How often a session over a script's device lacked its memory: never at first, where more bytes are left than it
 /// takes, and then at each request, the last one first.
 fn refused_openings(rt: &impl Abort, alloc: Global, text: &str) -> Result<u32, Fail> {
     let mut refused = 0u32;
     let mut room = 1 << 17;
     for _ in 0..4096 {
-        let (enough, less) = open_in(rt, alloc, text, room)?;
-        if !enough {
+        let memory = ScarceMemory::new(alloc)?;
+        if !open_script(rt, &memory, memory.host(), text, room)? {
             refused = refused.saturating_add(1);
         }
-        match less {
+        match memory.less_room(room) {
             Some(less) => room = less,
             None => return Ok(refused),
         }
@@ -59,8 +47,9 @@ fn refused_openings(rt: &impl Abort, alloc: Global, text: &str) -> Result<u32, F
 
 #[test]
 fn a_refused_opening_gives_the_device_back(rt: HostRuntime) -> Result<(), Fail> {
-    for text in [OBJECTS[2].0, OBJECTS[3].0, BYTES[3].0] {
-        let refused = refused_openings(&rt, rt.alloc(), text)?;
+    for text in [OBJECTS[2], OBJECTS[3], BYTES[3]] {
+        let (script, _) = halves(rt.alloc(), text)?;
+        let refused = refused_openings(&rt, rt.alloc(), script.as_str())?;
         same_at(&rt, "refused openings", &refused, &(refused > 0), &true);
     }
     Ok(())

@@ -107,7 +107,13 @@ impl<'a, A: Allocator + Copy> ScarceSession<'a, A> {
         memory.lift();
         let (session, enough) = match opened {
             Ok(session) => (session, true),
-            Err(device) => (open_again(host, &script.setup, device)?, false),
+            Err(device) => match open_over(host, &script.setup, device) {
+                Ok(session) => (session, false),
+                Err(device) => {
+                    drop(device);
+                    return Err(Fail::from("refused with ample memory"));
+                }
+            },
         };
         let opened = ScarceSession {
             memory,
@@ -173,23 +179,5 @@ fn open_over<A: Allocator + Copy>(
     match Session::new(host, setup.config, setup.properties(), device) {
         Ok(session) => Ok(session),
         Err(SessionOpenError { device }) => Err(device),
-    }
-}
-
-/// A session over the device that came back.
-fn open_again<A: Allocator + Copy>(
-    host: A,
-    setup: &Setup<A>,
-    device: Sim<A>,
-) -> Result<SimSession<A>, Fail>
-    requires usable { IsUsable (offered setup.now) }
-    requires same { device.properties ≡ offered setup.now }
-{
-    match open_over(host, setup, device) {
-        Ok(session) => Ok(session),
-        Err(device) => {
-            drop(device);
-            Err(Fail::from("refused with ample memory"))
-        }
     }
 }

@@ -6,37 +6,45 @@ ghost use Rattle.gpu_script_language.specs.Setup.{offered};
 use crate::tests::same::{holds, same_at};
 use gpu_script_language::{Script, Setup, SimSession, open, parse, run_script};
 use std::alloc::{AllocError, Allocator, Global};
-use std::fmt::Debug;
+use std::io::Read;
 use std::process::Abort;
 use std::test::Fail;
 
-/// Runs a script of any bytes, and compares its status and what it prints.
-pub(super) fn compare_bytes(
-    rt: &impl Abort,
+/// How a script of any bytes ends with this host memory, and what it prints.
+pub(super) fn ran<A: Allocator + Copy>(
     alloc: Global,
-    at: &impl Debug,
-    script: &[u8],
-    printed: &str,
-    status: u8,
-) {
-    let mut input = script;
+    host: A,
+    input: &mut impl Read,
+) -> (u8, Vec<u8>) {
     let mut output = Vec::new(alloc);
-    let ended = run_script(alloc, &mut input, &mut output);
-    let came = (ended, str::from_utf8(output.as_slice()).ok());
-    same_at(
-        rt,
-        "the status and what is printed by",
-        at,
-        &came,
-        &(status, Some(printed)),
-    );
+    let status = run_script(host, input, &mut output);
+    (status, output)
 }
 
 /// Runs each script, and compares its status and what it prints.
 pub(super) fn compare(rt: &impl Abort, alloc: Global, rows: &[(&str, &str, u8)]) {
     for (script, printed, status) in rows {
-        compare_bytes(rt, alloc, script, script.as_bytes(), printed, *status);
+        let (ended, output) = ran(alloc, alloc, &mut script.as_bytes());
+        let came = (ended, str::from_utf8(output.as_slice()).ok());
+        let wanted = (*status, Some(*printed));
+        same_at(rt, "status and what is printed by", script, &came, &wanted);
     }
+}
+
+/// A script and what it prints, from a text in which each command stands with its reply.
+pub(super) fn halves(alloc: Global, text: &str) -> Result<(String, String), AllocError> {
+    let mut script = String::new(alloc);
+    let mut printed = String::new(alloc);
+    for line in text.lines() {
+        let (command, reply) = line.split_once(" = ").unwrap_or((line, ""));
+        if !command.is_empty() {
+            writeln!(script, "{command}")?;
+        }
+        if !reply.is_empty() {
+            writeln!(printed, "{reply}")?;
+        }
+    }
+    Ok((script, printed))
 }
 
 /// An allocator can be built on what setup lines describe.

@@ -1,11 +1,10 @@
-//! What a script prints for replies, by patterns. This is written apart from the program's own printer, except for the
-//! texts of errors, which contracts state.
+//! What a script prints for replies. This is written apart from the program's own printer, except for the texts of
+//! errors, which contracts state.
 
 use super::add_bytes;
 use crate::tests::script::memory::FAULTS;
 use gpu_session::{Fault, Reply};
 use std::alloc::{AllocError, Global};
-use std::slice::Iter;
 
 /// The line of a fault.
 fn fault_line(fault: Fault) -> &'static str {
@@ -17,27 +16,6 @@ fn fault_line(fault: Fault) -> &'static str {
     ""
 }
 
-/// Adds a pattern, with the next number for each `#` of it.
-fn fill(text: &mut String, pattern: &str, numbers: &[u64]) -> Result<(), AllocError> {
-    let mut next = numbers.iter();
-    for part in pattern.chars() {
-        match next_for(part, &mut next) {
-            Some(number) => write!(text, "{number}")?,
-            None => text.push(part)?,
-        }
-    }
-    Ok(())
-}
-
-/// The next number for a `#`, if there is one.
-fn next_for(part: char, next: &mut Iter<'_, u64>) -> Option<u64> {
-    if part == '#' {
-        next.next().copied()
-    } else {
-        None
-    }
-}
-
 /// Adds the line of a reply.
 fn add_reply(text: &mut String, reply: &Reply) -> Result<(), AllocError> {
     match reply {
@@ -46,39 +24,34 @@ fn add_reply(text: &mut String, reply: &Reply) -> Result<(), AllocError> {
             object,
             offset,
             size,
-        } => {
-            let numbers = [u64::from(*memory_type), *object, *offset, *size];
-            fill(text, "block type # object # offset # size #", &numbers)
-        }
+        } => write!(
+            text,
+            "block type {memory_type} object {object} offset {offset} size {size}"
+        ),
         Reply::Refused(error) => write!(text, "refused: {error}"),
         Reply::MapRefused(error) => write!(text, "refused: {error}"),
-        Reply::Done => fill(text, "ok", &[]),
-        Reply::Mapped(mapping) => { fill(text, "mapped # #", &[mapping.start, mapping.len]) }
-        Reply::Unmapped(true) => fill(text, "unmapped yes", &[]),
-        Reply::Unmapped(false) => fill(text, "unmapped no", &[]),
+        Reply::Done => text.push_str("ok"),
+        Reply::Mapped(mapping) => write!(text, "mapped {} {}", mapping.start, mapping.len),
+        Reply::Unmapped(true) => text.push_str("unmapped yes"),
+        Reply::Unmapped(false) => text.push_str("unmapped no"),
         Reply::Bytes(bytes) => {
             text.push_str("bytes")?;
             add_bytes(text, bytes.as_slice())
         }
+        Reply::Ranges(ranges) if ranges.as_slice().is_empty() => text.push_str("ranges none"),
         Reply::Ranges(ranges) => {
             text.push_str("ranges")?;
             for range in ranges.as_slice() {
-                fill(text, " #:#-#", &[range.object, range.start, range.end])?;
+                write!(text, " {}:{}-{}", range.object, range.start, range.end)?;
             }
-            let rest = if ranges.as_slice().is_empty() {
-                " none"
-            } else {
-                ""
-            };
-            text.push_str(rest)
+            Ok(())
         }
         Reply::Counts {
             remaining,
             held,
             used,
         } => {
-            let numbers = [u64::from(*remaining), u64::from(*held)];
-            fill(text, "counts remaining # held # used", &numbers)?;
+            write!(text, "counts remaining {remaining} held {held} used")?;
             for ledger in used.as_slice() {
                 write!(text, " {ledger}")?;
             }
@@ -100,7 +73,6 @@ pub(super) fn printed(
         add_reply(&mut text, reply)?;
         text.push('\n')?;
     }
-    let numbers = [objects as u64, asked];
-    fill(&mut text, "end objects # allocations #\n", &numbers)?;
+    writeln!(text, "end objects {objects} allocations {asked}")?;
     Ok(text)
 }
