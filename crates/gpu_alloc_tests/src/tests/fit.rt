@@ -133,9 +133,7 @@ fn draw_ask(model: &Model, chance: &mut Chance) -> Result<Ask, AllocError> {
 fn gap_size(model: &Model, memory_type: u32, chance: &mut Chance) -> Result<u64, AllocError> {
     let gaps = model.gaps(memory_type, None)?;
     let drawn = chance.next() as usize;
-    let Some(at) = drawn.checked_rem(gaps.len()) else {
-        return Ok(256);
-    };
+    let at = drawn.checked_rem(gaps.len()).unwrap_or(0);
     let gap = gaps.get(at).copied();
     Ok(gap.map_or(256, |gap| gap.end.saturating_sub(gap.start).max(1)))
 }
@@ -243,13 +241,8 @@ fn compare(rt: &impl Abort, model: &Model, replies: &[Reply]) -> Result<(), Allo
         let gaps = model.gaps(memory_type, None)?;
         match replies.get(memory_type as usize + 1) {
             Some(Reply::Ranges(ranges)) => {
-                same_at(
-                    rt,
-                    "what is free of",
-                    &memory_type,
-                    &ranges.as_slice(),
-                    &gaps.as_slice(),
-                );
+                let (came, wanted) = (ranges.as_slice(), gaps.as_slice());
+                same_at(rt, "what is free of", &memory_type, &came, &wanted);
             }
             _ => never(rt, "no ranges"),
         }
@@ -324,9 +317,7 @@ fn dealloc(
     chance: &mut Chance,
 ) -> Result<(), AllocError> {
     let drawn = chance.next() as usize;
-    let Some(at) = drawn.checked_rem(model.live.len()) else {
-        return Ok(());
-    };
+    let at = drawn.checked_rem(model.live.len()).unwrap_or(0);
     let Some(block) = model.live.get(at).copied() else {
         return Ok(());
     };

@@ -580,14 +580,9 @@ impl Model {
 
     /// Releases a chunk.
     fn let_go(&mut self, object: u64) {
-        let mut gone = None;
-        for chunk in &self.chunks {
-            if chunk.range.object == object {
-                gone = Some((chunk.memory_type, chunk.range.end));
-            }
-        }
-        if let Some((memory_type, size)) = gone {
-            self.give(memory_type, size);
+        let mut chunks = self.chunks.iter();
+        if let Some(gone) = chunks.find(|chunk| chunk.range.object == object).copied() {
+            self.give(gone.memory_type, gone.range.end);
         }
         self.chunks.retain(|chunk| chunk.range.object != object);
     }
@@ -615,11 +610,8 @@ impl Model {
 
     /// How many more objects may be held, how many are, and how many bytes of each heap.
     pub(super) fn counts(&self) -> (u32, u32, [u128; 3]) {
-        let mut held = self.own;
-        for _ in &self.chunks {
-            held = held.saturating_add(1);
-        }
-        (self.remaining, held, self.used)
+        let chunks = u32::try_from(self.chunks.len()).unwrap_or(u32::MAX);
+        (self.remaining, self.own.saturating_add(chunks), self.used)
     }
 
     /// The fit chunks of a memory type: how many there are, how many blocks are live in them, of how many bytes, and
