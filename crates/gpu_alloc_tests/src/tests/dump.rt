@@ -205,12 +205,8 @@ fn compare(rt: &impl Abort, alloc: Global, desk: &Desk) -> Result<(), Fail> {
     let report = Report::of_desk(alloc, desk)?;
     let length = write_report(desk, &report, &mut []);
     let mut text = vec![in alloc; 0u8; length as usize]?;
-    same(
-        rt,
-        "its length again",
-        &write_report(desk, &report, &mut text),
-        &length,
-    );
+    let again = write_report(desk, &report, &mut text);
+    same(rt, "its length again", &again, &length);
     same(rt, "a byte of 0", &text.contains(&0), &false);
     let read = Value::from_slice(alloc, text.as_slice())?;
     same(rt, "its text", &read, &wanted(rt, alloc, desk, &report)?);
