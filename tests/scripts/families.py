@@ -44,12 +44,37 @@ LINES = {
     "line 35: bad properties\n": ["heap 1048576\n" + 33 * "type 0 1\n"],
     EMPTY: [
         "", "\n\n\n", "#\n \t\n\r\n  # heap\n", "config 1 2 3 4 5 6 7\nconfig prototyping\nconfig potato",
-        "refuse map 1 failed",
+        "refuse map 1 failed", "#heap", "heap 1\ntype 0 63",
     ],
     NOTHING: ["counts\r\n", "counts \r\n", " \t counts\t "],
     UNKNOWN: ["write 1 0 -", "write 1 0 00\r\n", "write 1 0 - \r", "put 1 0 0aAF"],
+    f"fault 5 NoDeviceAddress\n{EMPTY}": ["alloc 1 1 0 255 1"],
     f"counts remaining 4096 held 0 used 0\n{EMPTY}": ["heap\t 0007 \ntype 0 1\ncounts"],
     f"counts remaining 2 held 0 used\n{EMPTY}": ["limits 1 1\nlimits 2 2\natom 3\natom 4\naddress\naddress\ncounts"],
+}
+
+# What setup lines mean, and what holds where there are none: the first buddy chunk and the smallest buddy, the atom, the
+# largest object.
+ONE_TYPE = "heap 1048576\ntype 0 1\n"
+SETTINGS = {
+    "config prototyping\nheap 1073741824\ntype 0 1\nalloc 1 1 0 0 1\ncounts": """\
+block type 0 object 1 offset 0 size 1024
+counts remaining 4095 held 1 used 8388608
+end objects 0 allocations 1
+""",
+    f"config 32768 1024 131072 8192 131072 64 8192\n{ONE_TYPE}alloc 1 1 0 0 1": """\
+block type 0 object 1 offset 0 size 64
+end objects 0 allocations 1
+""",
+    "heap 1048576\ntype 0 2\nalloc 1 3 0 16 1": """\
+block type 0 object 1 offset 8189 size 3
+end objects 0 allocations 1
+""",
+    "heap 4294967296\ntype 0 1\nrequired 1 1073741825 0 0 1\nrequired 1 1073741824 0 0 1": """\
+refused: Device memory exhausted
+block type 0 object 1 offset 0 size 1073741824
+end objects 0 allocations 1
+""",
 }
 
 # How many fields follow each word.
@@ -129,6 +154,11 @@ def lines():
         yield from ((script, replies) for script in scripts)
 
 
+def settings():
+    """What setup lines and their defaults mean."""
+    yield from SETTINGS.items()
+
+
 def freed_buddies():
     """A chunk goes with its last block, in each order of returns."""
     for order in itertools.permutations((1, 2, 3)):
@@ -194,9 +224,9 @@ def halves():
     blocks = "".join(f"block type 0 object 1 offset {128 * name} size 128\n" for name in range(64))
     first, second = ("".join(f"free {name}\n" for name in range(half, 64, 2)) for half in (0, 1))
     ranges = "".join(f" 1:{128 * name}-{128 * name + 128}" for name in range(1, 64, 2))
-    yield (f"heap 1048576\ntype 0 1\n{takes}{second}ranges 0\ncounts\n{first}counts\n",
+    yield (f"{ONE_TYPE}{takes}{second}ranges 0\ncounts\n{first}counts\n",
            f"{blocks}{32 * OK}ranges{ranges}\n{HELD[3:]}{32 * OK}{FREED[3:]}{ended(1)}")
 
 
-FAMILIES = lines, freed_buddies, freed_tails, tried_types, halves
+FAMILIES = lines, settings, freed_buddies, freed_tails, tried_types, halves
 MANY = counted_fields, last_bytes, long_numbers
