@@ -14,7 +14,8 @@ PAIRS = "line 1: bad bytes\n"
 # What is printed, and the scripts that print it: bad lines first, each of which ends its script.
 LINES = {
     NUMBER: [
-        "heap 18446744073709551616", "heap 1x", "heap -1", "heap \u0661", "config 1 2 3 4 5 6 x", "refuse map 0 melon",
+        "heap 18446744073709551616", "heap 20000000000000000000", "heap 1x", "heap -1", "heap \u0661",
+        "config 1 2 3 4 5 6 x", "refuse map 0 melon",
         "type 0 64", "type 4294967296 1", "limits 4294967296 1", "alloc 1 1 0 256 1", "alloc 4294967296 1 0 0 1",
         "alloc 1 1 0 0 4294967296", "required 1 1 0 256 1", "preferred 1 18446744073709551616 0 0 1",
         "import 1 4294967296 1 0 1", "free 4294967296", "map 1 0 -1", "unmap -", "read 1 x 1", "get 1 0 0x1",
@@ -53,8 +54,8 @@ LINES = {
     f"counts remaining 2 held 0 used\n{EMPTY}": ["limits 1 1\nlimits 2 2\natom 3\natom 4\naddress\naddress\ncounts"],
 }
 
-# What setup lines mean, and what holds where there are none: the first buddy chunk and the smallest buddy, the atom, the
-# largest object.
+# What setup lines mean, and what holds where there are none: the first buddy chunk and the smallest buddy, the atom,
+# the largest object.
 ONE_TYPE = "heap 1048576\ntype 0 1\n"
 SETTINGS = {
     "config prototyping\nheap 1073741824\ntype 0 1\nalloc 1 1 0 0 1\ncounts": """\

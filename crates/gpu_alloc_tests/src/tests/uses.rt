@@ -5,7 +5,7 @@ ghost use Rattle.gpu_alloc.specs.Request.{IsAskable};
 
 use super::offers::{LOCAL, again, are_usable, offer};
 use super::same::{holds, same};
-use gpu_alloc::{AllocationError, AllocationFlags, Config, DeviceProperties, Request, UsageFlags};
+use gpu_alloc::{AllocationError, Config, DeviceProperties, Request, UsageFlags};
 use gpu_clients::uses::opening::open_and_close;
 use gpu_clients::uses::textures::TextureCache;
 use gpu_sim::{Question, Sim, SimMemory};
@@ -25,13 +25,16 @@ fn request(size: u64, usage: UsageFlags) -> Request {
     }
 }
 
+/// The bit of the address flag.
+const ADDRESS: u8 = 1;
+
 /// Opens an allocator, takes a block of 100 bytes and closes it. Compares the only question for an object.
 fn use_once(
     rt: &impl Abort,
     alloc: Global,
     usage: UsageFlags,
     buffer_device_address: bool,
-    flags: AllocationFlags,
+    flags: u8,
 ) -> Result<(), Fail> {
     let types = [LOCAL];
     let props = DeviceProperties {
@@ -44,6 +47,7 @@ fn use_once(
     let done = open_and_close::<SimMemory, Sim>(alloc, props, &mut device, asked);
     let counts = (device.asked(Question::Allocate), device.objects());
     let latest = device.last_allocation();
+    let latest = latest.map(|(size, memory_type, flags)| (size, memory_type, flags.bits()));
     drop(device);
     same(rt, "whether it is served", &done.is_ok(), &true);
     same(rt, "allocations and objects", &counts, &(1, 0));
@@ -55,12 +59,11 @@ fn use_once(
 /// the close the device holds nothing.
 #[test]
 fn an_allocator_is_opened_used_and_closed(rt: HostRuntime) -> Result<(), Fail> {
-    let none = AllocationFlags::empty();
-    let address = AllocationFlags::DEVICE_ADDRESS;
-    use_once(&rt, rt.alloc(), UsageFlags::TRANSIENT, false, none)?;
-    use_once(&rt, rt.alloc(), UsageFlags::TRANSIENT, true, address)?;
-    use_once(&rt, rt.alloc(), UsageFlags::empty(), false, none)?;
-    use_once(&rt, rt.alloc(), UsageFlags::empty(), true, address)
+    for usage in [UsageFlags::TRANSIENT, UsageFlags::empty()] {
+        use_once(&rt, rt.alloc(), usage, false, 0)?;
+        use_once(&rt, rt.alloc(), usage, true, ADDRESS)?;
+    }
+    Ok(())
 }
 
 /// A valid request for a texture of `size` bytes.
