@@ -1,5 +1,3 @@
-mod Commands
 mod EmptyMaps
-mod OneChunk
 mod Ready
 mod WholeAtoms

@@ -1,15 +1,11 @@
 //! What no contract says of these, and that the calls succeed.
 
 mod bench;
-mod bytes;
 mod config;
 mod drawn;
 mod dump;
-mod errors;
 mod exact;
-mod fit;
 mod flags;
-mod freelist;
 mod growths;
 mod handles_and_frames;
 mod held_only;
@@ -17,13 +13,12 @@ mod imports;
 mod keys;
 mod lists;
 mod offers;
-mod pair;
 mod pieces;
-mod ranges;
 mod report;
 mod runs;
 mod same;
 mod script;
+mod sessions;
 mod sim;
 mod sim_bytes;
 mod slots;

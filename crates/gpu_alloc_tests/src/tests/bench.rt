@@ -12,7 +12,7 @@ ghost use Rattle.gpu_alloc.specs.State.{IsOwned};
 ghost use Rattle.gpu_alloc_tests.specs.Bench.{HasTwoTypes};
 
 use super::offers::{again, are_usable, offer};
-use super::same::{below, holds, same, same_at};
+use super::same::{below, holds, same};
 use gpu_alloc::laws::{
     agrees_at_first, imports_agree, made_objects_may_be_imported, which_objects_may_be_imported,
 };
@@ -261,18 +261,6 @@ impl<A: Allocator + Copy> Bench<A> {
         dealloc(rt, &mut self.allocator, &mut self.device, block);
     }
 
-    /// Returns the block in an object that has no other.
-    pub(super) fn dealloc(&mut self, rt: &impl Abort, object: u64) {
-        let mut found = None;
-        for (at, block) in self.blocks.iter().enumerate() {
-            if block.memory().object() == object {
-                found = Some(at);
-            }
-        }
-        same_at(rt, "a block is in", &object, &found.is_some(), &true);
-        self.dealloc_at(rt, found.unwrap_or(0));
-    }
-
     /// Returns all blocks.
     pub(super) fn give_all_back(&mut self, rt: &impl Abort) {
         for _ in 0..self.blocks.len() {
@@ -310,22 +298,6 @@ impl<A: Allocator + Copy> Bench<A> {
         assert!(rt; blocks.is_empty());
         blocks.destroy_empty();
         close(rt, allocator);
-    }
-}
-
-impl Bench {
-    /// Imports a part of an object and writes to its first bytes.
-    pub(super) fn import_and_write(&mut self, rt: &impl Abort, part: Part, data: &[u8]) {
-        let device = &mut self.device;
-        let mut block = make_and_import(rt, &mut self.allocator, device, self.props, part);
-        holds(
-            rt,
-            data.len() as u64 <= block.size(),
-            "more bytes than the part has",
-        );
-        let written = block.write_bytes(&mut self.device, 0, data);
-        same(rt, "what is written", &written, &Ok(()));
-        keep(rt, &mut self.blocks, block);
     }
 }
 
@@ -482,14 +454,11 @@ fn map_and_unmap<M: MemoryObject, D: MemoryDevice<M>, A: Allocator>(
     ensures size { block.new.size ≡ block.old.size }
 {
     let _ = allocator;
-    let mapped = block.map(device, 0, 4).is_ok();
-    let unmapped = block.unmap(device);
-    same(
-        rt,
-        "mapped and unmapped",
-        &(mapped, unmapped),
-        &(true, true),
-    );
+    let mapping = block.map(device, 0, 4).ok();
+    let mapped = (mapping.is_some(), block.is_mapped(), block.mapping());
+    let unmapped = (block.unmap(device), block.is_mapped());
+    same(rt, "mapped", &mapped, &(true, true, mapping));
+    same(rt, "unmapped", &unmapped, &(true, false));
 }
 
 /// Calls a block of four bytes or more where no memory is left. Then memory is ample.

@@ -2,7 +2,6 @@
 
 use super::same::{holds, same, same_at};
 use gpu_alloc::Config;
-use serde_json::Error;
 use std::alloc::{AllocError, Global};
 use std::process::Abort;
 use std::test::Fail;
@@ -32,29 +31,21 @@ fn object(alloc: Global, fields: &[Field]) -> Result<String, AllocError> {
     Ok(text)
 }
 
-fn read(alloc: Global, text: &str) -> Result<Config, Error> {
-    serde_json::from_str(alloc, text)
+/// Compares what is read of a text: this configuration, or none.
+fn compare(rt: &impl Abort, alloc: Global, text: &str, wanted: Option<Config>) {
+    let config = serde_json::from_str::<Config>(alloc, text).ok();
+    same_at(rt, "what is read at", &text, &config, &wanted);
 }
 
-/// A text that is not a configuration.
-fn compare_refused(rt: &impl Abort, alloc: Global, text: &str) {
-    let refused = read(alloc, text).is_err();
-    same_at(rt, "it is refused at", &text, &refused, &true);
-}
-
-/// Fields that no configuration has.
-fn refuse(rt: &impl Abort, alloc: Global, fields: &[Field]) -> Result<(), AllocError> {
+/// Compares what is read of an object with these fields.
+fn compare_fields(
+    rt: &impl Abort,
+    alloc: Global,
+    fields: &[Field],
+    wanted: Option<Config>,
+) -> Result<(), AllocError> {
     let text = object(alloc, fields)?;
-    compare_refused(rt, alloc, text.as_str());
-    Ok(())
-}
-
-/// Fields that the potato's configuration has.
-fn compare_potato(rt: &impl Abort, alloc: Global, fields: &[Field]) -> Result<(), Fail> {
-    let text = object(alloc, fields)?;
-    let config = read(alloc, text.as_str())?;
-    let potato = Config::i_am_potato();
-    same_at(rt, "what is read at", &text, &config, &potato);
+    compare(rt, alloc, text.as_str(), wanted);
     Ok(())
 }
 
@@ -70,39 +61,40 @@ fn a_configuration_is_read_as_it_was_written(rt: HostRuntime) -> Result<(), Fail
         minimal_buddy_size: u64::MAX,
         initial_buddy_dedicated_size: u64::MAX,
     };
-    for config in [Config::i_am_potato(), Config::i_am_prototyping(), most] {
+    let potato = Config::i_am_potato();
+    for config in [potato, Config::i_am_prototyping(), most] {
         let text = serde_json::to_string(alloc, &config)?;
-        same(&rt, "what is read", &read(alloc, text.as_str())?, &config);
+        compare(&rt, alloc, text.as_str(), Some(config));
     }
-    let text = serde_json::to_string(alloc, &Config::i_am_potato())?;
+    let text = serde_json::to_string(alloc, &potato)?;
     same(&rt, "what is written", &text, &object(alloc, &POTATO)?);
     Ok(())
 }
 
-/// Puts an unknown field among the potato's at each place, and compares what is read, with the fields in order and
-/// reversed.
-fn compare_with_unknown(
-    rt: &impl Abort,
-    alloc: Global,
-    index: usize,
-    value: &'static str,
-) -> Result<(), Fail> {
-    holds(rt, index < 8, "a place beyond the fields");
-    let mut fields = Vec::from_slice(alloc, &POTATO)?;
-    fields.insert(index, ("unknown", value))?;
-    compare_potato(rt, alloc, fields.as_slice())?;
-    fields.reverse();
-    compare_potato(rt, alloc, fields.as_slice())
+/// The documented sizes, as lists.
+#[test]
+fn a_list_of_the_values_is_read(rt: HostRuntime) {
+    let potato = "[32768,1024,131072,8192,131072,1,8192]";
+    compare(&rt, rt.alloc(), potato, Some(Config::i_am_potato()));
+    let prototyping = "[33554432,1048576,134217728,8388608,134217728,1024,8388608]";
+    let wanted = Some(Config::i_am_prototyping());
+    compare(&rt, rt.alloc(), prototyping, wanted);
 }
 
 /// Values of an unknown field.
 const UNKNOWN: [&str; 6] = ["1", "\"\"", "null", "[[1],{}]", "{\"a\":{\"b\":[]}}", "1e9"];
 
+/// An unknown field stands among the potato's at each place, with the fields in order and reversed.
 #[test]
 fn fields_come_in_any_order_with_others_among_them(rt: HostRuntime) -> Result<(), Fail> {
+    let potato = Some(Config::i_am_potato());
     for index in 0..8 {
         for value in &UNKNOWN {
-            compare_with_unknown(&rt, rt.alloc(), index, value)?;
+            let mut fields = Vec::from_slice(rt.alloc(), &POTATO)?;
+            fields.insert(index, ("unknown", *value))?;
+            compare_fields(&rt, rt.alloc(), fields.as_slice(), potato)?;
+            fields.reverse();
+            compare_fields(&rt, rt.alloc(), fields.as_slice(), potato)?;
         }
     }
     Ok(())
@@ -113,14 +105,14 @@ fn compare_wrong(rt: &impl Abort, alloc: Global, index: usize) -> Result<(), All
     holds(rt, index < 7, "no such field");
     let mut fields = Vec::from_slice(alloc, &POTATO)?;
     fields.push(POTATO[index])?;
-    refuse(rt, alloc, fields.as_slice())?;
+    compare_fields(rt, alloc, fields.as_slice(), None)?;
     fields.pop();
     fields.remove(index);
-    refuse(rt, alloc, fields.as_slice())?;
+    compare_fields(rt, alloc, fields.as_slice(), None)?;
     for value in WRONG.split(' ') {
         let mut fields = POTATO;
         fields[index].1 = value;
-        refuse(rt, alloc, &fields)?;
+        compare_fields(rt, alloc, &fields, None)?;
     }
     Ok(())
 }
@@ -149,50 +141,19 @@ fn a_text_of_no_configuration_is_refused(rt: HostRuntime) -> Result<(), Fail> {
     let mut text = object(alloc, &POTATO)?;
     for tail in &TAILS {
         let longer = format!(in alloc; "{text}{tail}")?;
-        compare_refused(&rt, alloc, longer.as_str());
+        compare(&rt, alloc, longer.as_str(), None);
     }
     for _ in 0..text.len() {
         text.pop();
-        compare_refused(&rt, alloc, text.as_str());
+        compare(&rt, alloc, text.as_str(), None);
     }
     holds(&rt, text.is_empty(), "a text that was not cut to its start");
     for text in TEXTS.split(' ') {
-        compare_refused(&rt, alloc, text);
+        compare(&rt, alloc, text, None);
     }
-    compare_refused(&rt, alloc, " ");
+    compare(&rt, alloc, " ", None);
     let deep = "[".repeat(alloc, 100_000)?;
     let text = format!(in alloc; "{{\"unknown\":{deep}")?;
-    compare_refused(&rt, alloc, text.as_str());
+    compare(&rt, alloc, text.as_str(), None);
     Ok(())
-}
-
-#[test]
-fn a_list_of_the_values_is_read(rt: HostRuntime) -> Result<(), Fail> {
-    let config = read(rt.alloc(), "[32768,1024,131072,8192,131072,1,8192]")?;
-    same(&rt, "what is read", &config, &Config::i_am_potato());
-    Ok(())
-}
-
-fn sizes(config: Config) -> [u64; 7] {
-    [
-        config.dedicated_threshold,
-        config.preferred_dedicated_threshold,
-        config.transient_dedicated_threshold,
-        config.starting_free_list_chunk,
-        config.final_free_list_chunk,
-        config.minimal_buddy_size,
-        config.initial_buddy_dedicated_size,
-    ]
-}
-
-#[test]
-fn defaults_are_the_documented_sizes(rt: HostRuntime) {
-    let potato = sizes(Config::i_am_potato());
-    let wanted = [32768, 1024, 131072, 8192, 131072, 1, 8192];
-    same(&rt, "a potato", &potato, &wanted);
-    let prototyping = sizes(Config::i_am_prototyping());
-    let wanted = [
-        33554432, 1048576, 134217728, 8388608, 134217728, 1024, 8388608,
-    ];
-    same(&rt, "prototyping", &prototyping, &wanted);
 }

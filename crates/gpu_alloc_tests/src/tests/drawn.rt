@@ -68,13 +68,8 @@ pub(super) fn count(number: &mut u64) {
 pub(super) fn came_often(rt: &impl Abort, cases: &[&str], tally: &[u64], least: u64) {
     holds(rt, cases.len() <= tally.len(), "a case that is not counted");
     for (case, times) in cases.iter().zip(tally.iter()) {
-        same_at(
-            rt,
-            "it came often enough:",
-            &(case, times),
-            &(*times >= least),
-            &true,
-        );
+        let often = *times >= least;
+        same_at(rt, "it came often enough:", &(case, times), &often, &true);
     }
 }
 
@@ -111,6 +106,11 @@ pub(super) fn range_of(object: u64, start: u64, length: u64) -> FreeRange {
         start,
         end: start.saturating_add(length),
     }
+}
+
+/// How many bytes a range has.
+pub(super) fn length_of(range: &FreeRange) -> u64 {
+    range.end.saturating_sub(range.start)
 }
 
 /// How many of these chunks there are, of how many bytes, and how many more there may be.
@@ -298,12 +298,8 @@ impl<S: Store> Hand<S> {
 
     /// Compares what was asked, what is held and what is free.
     fn compare(&self, rt: &impl Abort, plain: &impl Plain) {
-        same(
-            rt,
-            "what was asked and is held",
-            &self.store.state(),
-            &plain.state(),
-        );
+        let (came, wanted) = (self.store.state(), plain.state());
+        same(rt, "what was asked and is held", &came, &wanted);
         match self.store.free_ranges(self.alloc) {
             Ok(found) => same(rt, "what is free", &found.as_slice(), &plain.free()),
             Err(_) => panic!(rt; "no memory"),

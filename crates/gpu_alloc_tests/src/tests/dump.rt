@@ -1,50 +1,15 @@
 //! The text of a report of a living program: the report that `serde_json` reads from it is the same, field by field.
 
-use super::same::{holds, never, never_with, same, same_at};
+use super::same::{holds, never, never_with, same};
 use gpu_alloc::{
     Config, DeviceProperties, MemoryHeap, MemoryPropertyFlags, MemoryType, Request, UsageFlags,
 };
 use gpu_desk::{Answer, Answered, Denial, Desk, Grant, Wish};
-use gpu_report::{
-    HeapReport, KindReport, ObjectKind, ObjectReport, Place, Report, Statistics, write_report,
-};
-use serde::Serialize;
-use serde_json::Value;
-use std::alloc::Global;
+use gpu_report::{ObjectKind, ObjectReport, Place, Report, Statistics, write_report};
+use serde_json::{Value, json};
+use std::alloc::{AllocError, Global};
 use std::process::Abort;
 use std::test::Fail;
-
-/// The members of the text, as documented.
-#[derive(Drop, Serialize)]
-struct Dump<'r> {
-    heaps: &'r [HeapReport],
-    types: Vec<TypeRow>,
-    kinds: &'r [KindReport],
-    objects: Vec<ObjectRow>,
-}
-
-#[derive(Drop, Serialize)]
-struct TypeRow {
-    heap: u32,
-    properties: u8,
-}
-
-#[derive(Drop, Serialize)]
-struct ObjectRow {
-    object: u64,
-    memory_type: u32,
-    kind: ObjectKind,
-    size: u64,
-    places: Vec<PlaceRow>,
-}
-
-#[derive(Drop, Serialize)]
-struct PlaceRow {
-    key: Option<u64>,
-    user: Option<u64>,
-    offset: u64,
-    size: u64,
-}
 
 const TYPES: [MemoryType; 2] = [
     MemoryType {
@@ -121,8 +86,13 @@ fn granted(
     never(rt, "too many questions")
 }
 
-/// A place, with the value of its block.
-fn place_row(rt: &impl Abort, desk: &Desk, place: &Place) -> PlaceRow {
+/// A place's members, with the value of its block.
+fn place_of(
+    rt: &impl Abort,
+    alloc: Global,
+    desk: &Desk,
+    place: &Place,
+) -> Result<Value, AllocError> {
     let user = match place.block {
         Some(key) => match desk.block(key) {
             Ok(grant) => Some(grant.user),
@@ -130,53 +100,36 @@ fn place_row(rt: &impl Abort, desk: &Desk, place: &Place) -> PlaceRow {
         },
         None => None,
     };
-    PlaceRow {
-        key: place.block,
-        user,
-        offset: place.offset,
-        size: place.size,
-    }
+    json!(in alloc; {"key": place.block, "user": user, "offset": place.offset, "size": place.size})
 }
 
-fn object_row(
+/// An object's members.
+fn object_of(
     rt: &impl Abort,
     alloc: Global,
     desk: &Desk,
     object: &ObjectReport,
-) -> Result<ObjectRow, Fail> {
+) -> Result<Value, Fail> {
     let mut places = Vec::new(alloc);
     for place in &object.places {
-        places.push(place_row(rt, desk, place))?;
+        places.push(place_of(rt, alloc, desk, place)?)?;
     }
-    Ok(ObjectRow {
-        object: object.object,
-        memory_type: object.memory_type,
-        kind: object.kind,
-        size: object.size,
-        places,
-    })
+    let kind = serde_json::to_value(alloc, &object.kind)?;
+    Ok(json!(in alloc; {
+        "object": object.object, "memory_type": object.memory_type, "kind": kind, "size": object.size, "places": places
+    })?)
 }
 
-/// The members of the text of a report of the desk.
+/// The members of the text of a report of the desk, as documented.
 fn wanted(rt: &impl Abort, alloc: Global, desk: &Desk, report: &Report) -> Result<Value, Fail> {
-    let mut types = Vec::new(alloc);
-    for offered in &TYPES {
-        types.push(TypeRow {
-            heap: offered.heap,
-            properties: offered.props.bits(),
-        })?;
-    }
     let mut objects = Vec::new(alloc);
     for object in &report.objects {
-        objects.push(object_row(rt, alloc, desk, object)?)?;
+        objects.push(object_of(rt, alloc, desk, object)?)?;
     }
-    let dump = Dump {
-        heaps: report.heaps.as_slice(),
-        types,
-        kinds: report.kinds.as_slice(),
-        objects,
-    };
-    Ok(serde_json::to_value(alloc, &dump)?)
+    let heaps = serde_json::to_value(alloc, &report.heaps)?;
+    let kinds = serde_json::to_value(alloc, &report.kinds)?;
+    let types = json!(in alloc; [{"heap": 0, "properties": 1}, {"heap": 1, "properties": 2}])?;
+    Ok(json!(in alloc; {"heaps": heaps, "types": types, "kinds": kinds, "objects": objects})?)
 }
 
 /// Ends a desk: its blocks are freed, and the names of its objects are read.
@@ -231,15 +184,12 @@ fn compare(rt: &impl Abort, alloc: Global, desk: &Desk) -> Result<(), Fail> {
 fn the_text_of_a_report_is_read_back_as_the_report(rt: HostRuntime) -> Result<(), Fail> {
     let alloc = rt.alloc();
     let mut desk = opened(&rt, alloc);
-    let mut second = 0;
-    for (index, row) in REQUESTS.iter().enumerate() {
+    let mut keys = [0; 6];
+    for (index, key) in keys.iter_mut().enumerate() {
         let user = u64::MAX - index as u64;
-        let grant = granted(&rt, alloc, &mut desk, *row, user);
-        if index == 1 {
-            second = grant.key;
-        }
+        *key = granted(&rt, alloc, &mut desk, REQUESTS[index], user).key;
     }
-    holds(&rt, desk.free(second).is_ok(), "a block comes back");
+    holds(&rt, desk.free(keys[1]).is_ok(), "a block comes back");
     holds(&rt, desk.import(1, 65536, 4096, 32768).is_ok(), "an import");
     let compared = compare(&rt, alloc, &desk);
     ended(&rt, desk);

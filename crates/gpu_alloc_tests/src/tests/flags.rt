@@ -29,12 +29,7 @@ fn generic_code_calls_the_same(rt: HostRuntime) {
     let properties = numbers::<MemoryPropertyFlags>(0xd2);
     same(&rt, "of properties", &properties, &[0x3f, 0x12, 0x2d, 0xd3]);
     let allocation = numbers::<AllocationFlags>(0xd2);
-    same(
-        &rt,
-        "of an allocation",
-        &allocation,
-        &[0x01, 0x00, 0x01, 0xd3],
-    );
+    same(&rt, "of an allocation", &allocation, &[1, 0, 1, 0xd3]);
 }
 
 fn hash_of<T: Hash>(value: &T) -> u64 {
@@ -55,47 +50,26 @@ fn members<F: Flags<Bits = u8> + Hash>(alloc: Global) -> Result<usize, AllocErro
 
 #[test]
 fn flags_are_hashed_by_their_numbers(rt: HostRuntime) -> Result<(), Fail> {
-    same(&rt, "usages", &members::<UsageFlags>(rt.alloc())?, &256);
-    same(
-        &rt,
-        "properties",
-        &members::<MemoryPropertyFlags>(rt.alloc())?,
-        &256,
-    );
-    same(
-        &rt,
-        "allocations",
-        &members::<AllocationFlags>(rt.alloc())?,
-        &256,
-    );
+    let alloc = rt.alloc();
+    let sizes = [
+        members::<UsageFlags>(alloc)?,
+        members::<MemoryPropertyFlags>(alloc)?,
+        members::<AllocationFlags>(alloc)?,
+    ];
+    same(&rt, "members", &sizes, &[256; 3]);
     compare_hashes(&rt);
     Ok(())
 }
 
 // Flags of one number have the same hash, whatever their type, and others do not.
 fn compare_hashes(rt: &impl Abort) {
-    let usage = hash_of(&UsageFlags::UPLOAD);
-    same(
-        rt,
-        "a usage",
-        &hash_of(&UsageFlags::from_bits_retain(8)),
-        &usage,
-    );
-    holds(
-        rt,
-        usage != hash_of(&UsageFlags::DOWNLOAD),
-        "one hash for two usages",
-    );
-    same(
-        rt,
-        "properties",
-        &hash_of(&MemoryPropertyFlags::HOST_CACHED),
-        &usage,
-    );
-    same(
-        rt,
-        "an allocation",
-        &hash_of(&AllocationFlags::from_bits_retain(8)),
-        &usage,
-    );
+    let upload = hash_of(&UsageFlags::UPLOAD);
+    let others = [
+        hash_of(&UsageFlags::from_bits_retain(8)),
+        hash_of(&MemoryPropertyFlags::HOST_CACHED),
+        hash_of(&AllocationFlags::from_bits_retain(8)),
+    ];
+    same(rt, "hashes of 8", &others, &[upload; 3]);
+    let differs = upload != hash_of(&UsageFlags::DOWNLOAD);
+    holds(rt, differs, "one hash for two usages");
 }

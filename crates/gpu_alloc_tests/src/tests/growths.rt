@@ -131,6 +131,9 @@ fn run_in(
     let less = memory.less_room(room);
     call_each(rt, &memory, &mut bench);
     leave_nothing(rt, &memory);
+    let ranges = bench.free_ranges(rt, 0).err();
+    let refusal = Some(AllocationError::OutOfHostMemory);
+    same(rt, "the free ranges", &ranges, &refusal);
     bench.give_all_back(rt);
     bench.end(rt, 4096);
     Ok((refused, less))

@@ -5,6 +5,7 @@ ghost use Rattle.gpu_alloc.specs.Request.{IsAskable};
 
 use super::offers::{LOCAL, again, offer};
 use super::same::{holds, same};
+use AllocationError::OutOfDeviceMemory;
 use gpu_alloc::{AllocationError, Config, Request, UsageFlags};
 use gpu_clients::frames::FramePlanner;
 use gpu_clients::resources::{Handle, ResourceManager};
@@ -53,12 +54,7 @@ fn replace(rt: &impl Abort, manager: &mut Manager) {
     let third = make(rt, manager, 256);
     let asked = request(rt, 1 << 19);
     let refused = manager.create(asked);
-    same(
-        rt,
-        "a refusal",
-        &refused,
-        &Err(AllocationError::OutOfDeviceMemory),
-    );
+    same(rt, "a refusal", &refused, &Err(OutOfDeviceMemory));
     finds(rt, manager, first, None);
     finds(rt, manager, second, Some(128));
     finds(rt, manager, third, Some(256));
@@ -76,12 +72,7 @@ fn fly(rt: &impl Abort, planner: &mut Planner) {
     same(rt, "a flight", &begin(rt, planner, 32), &Ok(()));
     same(rt, "another", &begin(rt, planner, 64), &Ok(()));
     let refused = begin(rt, planner, 1 << 19);
-    same(
-        rt,
-        "a refusal",
-        &refused,
-        &Err(AllocationError::OutOfDeviceMemory),
-    );
+    same(rt, "a refusal", &refused, &Err(OutOfDeviceMemory));
     same(rt, "flights", &planner.flights(), &2);
     same(rt, "whether one went", &planner.retire_oldest(), &true);
     same(rt, "flights", &planner.flights(), &1);

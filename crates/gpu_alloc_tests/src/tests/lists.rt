@@ -3,7 +3,8 @@
 ghost use Rattle.std.specs.Prelude.{◌<◌};
 
 use super::drawn::{
-    Answer, Call, Chance, Done, Keys, Plain, State, Store, came_often, count, held_of, try_lists,
+    Answer, Call, Chance, Done, Keys, Plain, State, Store, came_often, count, held_of, length_of,
+    range_of, try_lists,
 };
 use super::same::{holds, same_at};
 use gpu_alloc::{AllocationError, FreeRange};
@@ -28,7 +29,7 @@ pub(super) type Range = FreeRange;
 
 /// The tail of a run with room for this many bytes from a multiple of the mask plus one on: it starts at the last such
 /// multiple.
-pub(super) fn tail_of(run: Range, size: u64, align_mask: u64) -> Option<Range> {
+fn tail_of(run: Range, size: u64, align_mask: u64) -> Option<Range> {
     let start = run.end.checked_sub(size)? & !align_mask;
     if start < run.start {
         return None;
@@ -44,33 +45,7 @@ pub(super) fn front_of(range: Range, size: u64) -> Range {
     }
 }
 
-/// Adds a range to the runs, if it is not empty.
-fn add_run(runs: &mut Vec<Range>, run: Range) -> Done {
-    if run.start < run.end {
-        runs.push(run)?;
-    }
-    Ok(())
-}
-
-/// Adds what rising blocks leave of a chunk to the runs.
-fn add_runs(runs: &mut Vec<Range>, chunk: Range, blocks: &[Range]) -> Done {
-    let mut rest = chunk;
-    for block in blocks {
-        if block.object == chunk.object {
-            add_run(
-                runs,
-                Range {
-                    end: block.start,
-                    ..rest
-                },
-            )?;
-            rest.start = block.end;
-        }
-    }
-    add_run(runs, rest)
-}
-
-/// The free runs: what the live blocks leave of each chunk.
+/// The free runs, by chunk, then by start: what the live blocks leave of each chunk.
 pub(super) fn runs_of(
     alloc: Global,
     chunks: &[Range],
@@ -80,16 +55,28 @@ pub(super) fn runs_of(
     for block in live {
         blocks.push(*block)?;
     }
+    // The last run of a chunk ends where a block behind it would begin.
+    for chunk in chunks {
+        blocks.push(range_of(chunk.object, chunk.end, 0))?;
+    }
     blocks.sort_unstable_by_key(|block| (block.object, block.start));
     let mut runs = Vec::new(alloc);
     for chunk in chunks {
-        add_runs(&mut runs, *chunk, blocks.as_slice())?;
+        let mut start = chunk.start;
+        for block in &blocks {
+            if block.object == chunk.object {
+                if start < block.start {
+                    runs.push(range_of(chunk.object, start, block.start - start))?;
+                }
+                start = block.end;
+            }
+        }
     }
     Ok(runs)
 }
 
 /// On which sides of a block there are runs: before it, and behind it.
-pub(super) fn sides_of(runs: &[Range], block: Range) -> (bool, bool) {
+fn sides_of(runs: &[Range], block: Range) -> (bool, bool) {
     let mut before = false;
     let mut behind = false;
     for run in runs {
@@ -112,21 +99,72 @@ pub(super) fn chunk_size(next: u64, size: u64, largest: u64) -> u64 {
     length.min(largest)
 }
 
-/// Whether a range is one of these.
-pub(super) fn is_among(range: Range, ranges: &[Range]) -> bool {
-    for other in ranges {
-        if *other == range {
-            return true;
-        }
-    }
-    false
-}
-
 /// Whether a range lies in one of these.
-pub(super) fn is_within(range: Range, ranges: &[Range]) -> bool {
+fn is_within(range: Range, ranges: &[Range]) -> bool {
     ranges.iter().any(|other| {
         range.object == other.object && other.start <= range.start && range.end <= other.end
     })
+}
+
+/// Where blocks lie, and which wholly free chunk a return keeps.
+#[derive(Clone, Copy, PartialEq, Eq)]
+pub(super) enum Rule {
+    /// A block is the tail of the last run with room. That run's chunk is kept.
+    Last,
+
+    /// A block is as long as requested, anywhere in a run with room, or the front of a new chunk. One chunk is kept,
+    /// and not the block's where another one is free.
+    Any,
+}
+
+/// Where a block must lie that some run has room for, which is where it came where the rule allows that.
+pub(super) fn place(
+    rule: Rule,
+    runs: &[Range],
+    size: u64,
+    align_mask: u64,
+    came: Option<Range>,
+) -> Option<Range> {
+    let mut last = None;
+    for run in runs {
+        if let Some(tail) = tail_of(*run, size, align_mask) {
+            last = Some(tail);
+        }
+    }
+    let is_right = |block: &Range| {
+        length_of(block) == size && block.start & align_mask == 0 && is_within(*block, runs)
+    };
+    match rule {
+        Rule::Last => last,
+        Rule::Any => came
+            .filter(is_right)
+            .or(last.map(|tail| front_of(tail, size))),
+    }
+}
+
+/// Whether a block of an object is live.
+pub(super) fn is_used(object: u64, live: &[Range]) -> bool {
+    live.iter().any(|block| block.object == object)
+}
+
+/// The object that the return of a block of this one keeps, if nothing in it is live. The runs are those after it.
+pub(super) fn kept_after(rule: Rule, runs: &[Range], live: &[Range], object: u64) -> u64 {
+    let mut kept = object;
+    for run in runs {
+        let is_other = run.object != object && !is_used(run.object, live);
+        if rule == Rule::Last || is_other {
+            kept = run.object;
+        }
+    }
+    kept
+}
+
+/// The block that a chunk is made for.
+pub(super) fn first_block(rule: Rule, chunk: Range, size: u64, align_mask: u64) -> Range {
+    match rule {
+        Rule::Last => tail_of(chunk, size, align_mask).unwrap_or(chunk),
+        Rule::Any => front_of(chunk, size),
+    }
 }
 
 /// A drawn size: small ones most often, now and then that of a run, which may then be taken whole, or up to the
@@ -150,31 +188,19 @@ fn run_length(runs: &[Range], drawn: usize) -> u64
         return 1;
     }
     let run = runs[drawn % len];
-    run.end.saturating_sub(run.start).max(1)
-}
-
-/// Where blocks lie, and which wholly free chunk a return keeps.
-#[derive(Clone, Copy, PartialEq, Eq)]
-pub(super) enum Rule {
-    /// A block is the tail of the last run with room. That run's chunk is kept.
-    Last,
-
-    /// A block is as long as requested, anywhere in a run with room, or the front of a new chunk. One chunk is kept,
-    /// and not the block's where another one is free.
-    Any,
+    length_of(&run).max(1)
 }
 
 /// How often each case occurred in the drawn lists: rows of [`CASES`], and then how often a block had more bytes than
 /// requested, because of its alignment.
-type Tally = [u64; 15];
+type Tally = [u64; 14];
 
 /// The cases that must occur in the lists.
-const CASES: [&str; 14] = [
+const CASES: [&str; 13] = [
     "a part of a run",
     "a whole run",
     "the last run has no room, and one before it has",
-    "a chunk",
-    "one larger than the next was to be",
+    "a chunk larger than the next was to be",
     "no more objects",
     "the device refuses",
     "back beside no run",
@@ -231,7 +257,7 @@ impl Lists {
             next: FIRST,
             asked: (0, None),
             refused: 0,
-            tally: [0; 15],
+            tally: [0; 14],
         }
     }
 
@@ -239,43 +265,6 @@ impl Lists {
     fn find_runs(&mut self) -> Done {
         self.runs = runs_of(self.alloc, self.chunks.as_slice(), self.live.as_slice())?;
         Ok(())
-    }
-
-    /// The tail of the last run with room.
-    fn last_tail(&mut self, size: u64, align_mask: u64) -> Option<Range> {
-        let mut last = None;
-        let mut passed = false;
-        for run in &self.runs {
-            match tail_of(*run, size, align_mask) {
-                Some(tail) => {
-                    last = Some(tail);
-                    passed = false;
-                }
-                None => passed = true,
-            }
-        }
-        if passed && last.is_some() {
-            count(&mut self.tally[2]);
-        }
-        last
-    }
-
-    /// Where a block must lie that some run has room for, which is where it came where the rule allows that.
-    fn place(
-        &self,
-        tail: Range,
-        size: u64,
-        align_mask: u64,
-        came: Result<Range, AllocationError>,
-    ) -> Range {
-        match (self.rule, came) {
-            (Rule::Last, _) => tail,
-            (Rule::Any, Ok(block))
-                if block.end.checked_sub(block.start) == Some(size)
-                    && block.start & align_mask == 0
-                    && is_within(block, self.runs.as_slice()) => { block }
-            (Rule::Any, _) => front_of(tail, size),
-        }
     }
 
     /// Begins a chunk, and finds the block in it. Where no more objects may be held it is refused without a question,
@@ -286,66 +275,24 @@ impl Lists {
         align_mask: u64,
     ) -> Result<Result<Range, AllocationError>, AllocError> {
         if self.chunks.len() >= MOST as usize {
-            count(&mut self.tally[5]);
+            count(&mut self.tally[4]);
             return Ok(Err(AllocationError::TooManyObjects));
         }
         let length = chunk_size(self.next, size, LARGEST);
         count(&mut self.asked.0);
         self.asked.1 = Some(length);
         if self.asked.0 == self.refused {
-            count(&mut self.tally[6]);
+            count(&mut self.tally[5]);
             return Ok(Err(AllocationError::OutOfDeviceMemory));
         }
-        let chunk = self.add_chunk(length)?;
-        Ok(Ok(match self.rule {
-            Rule::Last => tail_of(chunk, size, align_mask).unwrap_or(chunk),
-            Rule::Any => front_of(chunk, size),
-        }))
-    }
-
-    /// Adds a chunk of this many bytes. The one after it has twice as many, up to the largest.
-    fn add_chunk(&mut self, length: u64) -> Result<Range, AllocError> {
-        count(&mut self.made);
-        count(&mut self.tally[3]);
         if length > self.next {
-            count(&mut self.tally[4]);
+            count(&mut self.tally[3]);
         }
         self.next = LARGEST.min(length << 1);
-        let chunk = Range {
-            object: self.made,
-            start: 0,
-            end: length,
-        };
+        count(&mut self.made);
+        let chunk = range_of(self.made, 0, length);
         self.chunks.push(chunk)?;
-        Ok(chunk)
-    }
-
-    /// A block for a request of this many bytes is live.
-    fn hold(&mut self, block: Range, size: u64) -> Done {
-        if is_within(block, self.runs.as_slice()) {
-            let whole = is_among(block, self.runs.as_slice());
-            count(&mut self.tally[usize::from(whole)]);
-        }
-        if block.end.saturating_sub(block.start) > size {
-            count(&mut self.tally[14]);
-        }
-        self.live.push(block)?;
-        self.find_runs()
-    }
-
-    /// The object of the chunk that the return of a block keeps, if that is wholly free, or 0.
-    fn kept_after(&self, block: Range) -> u64 {
-        let mut kept = match (self.rule, self.runs.last()) {
-            (Rule::Any, _) => block.object,
-            (Rule::Last, Some(run)) => return run.object,
-            (Rule::Last, None) => return 0,
-        };
-        for chunk in &self.chunks {
-            if chunk.object != block.object && is_among(*chunk, self.runs.as_slice()) {
-                kept = chunk.object;
-            }
-        }
-        kept
+        Ok(Ok(first_block(self.rule, chunk, size, align_mask)))
     }
 
     /// Releases each wholly free chunk, except the one of this number. Returns how many were released.
@@ -353,10 +300,10 @@ impl Lists {
         let mut left = Vec::new(self.alloc);
         let mut gone = 0;
         for chunk in &self.chunks {
-            if !is_among(*chunk, self.runs.as_slice()) {
+            if is_used(chunk.object, self.live.as_slice()) {
                 left.push(*chunk)?;
             } else if chunk.object == kept {
-                count(&mut self.tally[11]);
+                count(&mut self.tally[10]);
                 left.push(*chunk)?;
             } else {
                 count(&mut gone);
@@ -393,41 +340,52 @@ impl Plain for Lists {
     fn take(&mut self, rt: &impl Abort, size: u64, mask: u64, (told, came): Answer) -> Done {
         let size = size.saturating_add(self.atom_mask) & !self.atom_mask;
         let mask = mask.max(self.atom_mask);
-        let wanted = match self.last_tail(size, mask) {
-            Some(tail) => Ok(self.place(tail, size, mask, came)),
+        let wanted = match place(self.rule, self.runs.as_slice(), size, mask, came.ok()) {
+            Some(block) => Ok(block),
             None => self.begin(size, mask)?,
         };
         same_at(rt, "the block for", &(size, mask), &came, &wanted);
-        let refusal = match wanted {
-            Err(AllocationError::TooManyObjects) => Some(AllocationError::TooManyObjects),
-            _ => None,
-        };
+        let refusal = wanted
+            .err()
+            .filter(|e| *e == AllocationError::TooManyObjects);
         same_at(rt, "what is told of", &(size, mask), &told, &refusal);
-        if let Ok(block) = wanted {
-            self.hold(block, size)?;
+        let Ok(block) = wanted else {
+            return Ok(());
+        };
+        if is_within(block, self.runs.as_slice()) {
+            let last = self.runs.last().copied();
+            if last.is_some_and(|run| tail_of(run, size, mask).is_none()) {
+                count(&mut self.tally[2]);
+            }
+            count(&mut self.tally[usize::from(self.runs.contains(&block))]);
         }
-        Ok(())
+        if length_of(&block) > size {
+            count(&mut self.tally[13]);
+        }
+        self.live.push(block)?;
+        self.find_runs()
     }
 
     fn put_back(&mut self, rt: &impl Abort, at: usize) -> Done {
         holds(rt, at < self.live.len(), "no such block");
         let block = self.live.remove(at);
         match sides_of(self.runs.as_slice(), block) {
-            (false, false) => count(&mut self.tally[7]),
-            (true, false) => count(&mut self.tally[8]),
-            (false, true) => count(&mut self.tally[9]),
-            (true, true) => count(&mut self.tally[10]),
+            (false, false) => count(&mut self.tally[6]),
+            (true, false) => count(&mut self.tally[7]),
+            (false, true) => count(&mut self.tally[8]),
+            (true, true) => count(&mut self.tally[9]),
         }
         self.find_runs()?;
-        let kept = self.kept_after(block);
+        let (runs, live) = (self.runs.as_slice(), self.live.as_slice());
+        let kept = kept_after(self.rule, runs, live, block.object);
         let gone = self.let_go(kept)?;
-        self.tally[12] = self.tally[12].saturating_add(gone);
+        self.tally[11] = self.tally[11].saturating_add(gone);
         Ok(())
     }
 
     fn clean(&mut self) -> Done {
         let gone = self.let_go(0)?;
-        self.tally[13] = self.tally[13].saturating_add(gone);
+        self.tally[12] = self.tally[12].saturating_add(gone);
         Ok(())
     }
 
@@ -451,7 +409,7 @@ pub(super) fn try_runs<S: Store>(
     let mut lists = Lists::new(alloc, rule);
     try_lists::<S>(rt, alloc, &mut lists, seed, 2 * LISTS, keys)?;
     came_often(rt, &CASES, &lists.tally, LISTS / 2);
-    let longer = rule == Rule::Any || lists.tally[14] >= LISTS / 2;
+    let longer = rule == Rule::Any || lists.tally[13] >= LISTS / 2;
     holds(rt, longer, "few blocks are longer than requested");
     Ok(())
 }

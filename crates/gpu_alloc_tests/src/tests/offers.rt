@@ -18,7 +18,8 @@ pub(super) const LOCAL: MemoryType = MemoryType {
 
 /// A device with these types in one heap.
 pub(super) fn offer<'a>(memory_types: &'a [MemoryType], atom: u64) -> DeviceProperties<'a>
-    ensures { (properties_of result).memory_types ≡ memory_types.now }
+    ensures types { (properties_of result).memory_types ≡ memory_types.now }
+    ensures atom { (properties_of result).non_coherent_atom_size ≡ atom }
 {
     DeviceProperties {
         memory_types,

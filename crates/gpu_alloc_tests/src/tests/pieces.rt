@@ -1,13 +1,14 @@
 //! Drawn lists of calls of the buddy allocator: what must come of them by plain lists of free pieces and live blocks.
 
-ghost use Rattle.std.specs.Prelude.{◌<◌, IfSome, length};
+ghost use Rattle.std.specs.Prelude.{◌<◌};
 ghost use Rattle.gpu_alloc.specs.AlignMasks.{IsAlignMask};
 ghost use Rattle.gpu_alloc.specs.Steps.{Begins};
 
 use super::drawn::{
     Answer, Call, Came, Chance, Done, Keys, Plain, State, Store, came_often, count, held_of,
-    range_of, state_of, try_lists,
+    length_of, range_of, state_of, try_lists,
 };
+use super::lists::{front_of, is_used};
 use super::offers::{LOCAL, offer};
 use super::same::{holds, never_with, same, same_at};
 use gpu_alloc::buddy::{BuddyAllocator, BuddyBlock};
@@ -35,70 +36,63 @@ const FIRST: u64 = 8192;
 /// A free piece, a live block or a chunk.
 type Piece = FreeRange;
 
-/// The length of a piece.
-fn length_of(piece: Piece) -> u64 {
-    piece.end.saturating_sub(piece.start)
+/// Whether a block has bytes of a piece.
+fn meets(block: &Piece, piece: &Piece) -> bool {
+    block.object == piece.object && block.start < piece.end && piece.start < block.end
 }
 
-/// The piece with which this one is the two halves of an aligned range.
-fn other_half(piece: Piece) -> Piece {
-    let length = length_of(piece);
-    range_of(piece.object, piece.start ^ length, length)
-}
-
-/// The aligned range of which this piece is one half.
-fn joined(piece: Piece) -> Piece {
-    let length = length_of(piece);
-    range_of(piece.object, piece.start & !length, length << 1)
-}
-
-/// The place of a piece among others.
-fn find(pieces: &[Piece], wanted: Piece) -> Option<usize>
-    ensures { IfSome result (λ at. at < length pieces.now) }
-{
-    for (at, piece) in pieces.iter().enumerate() {
-        if *piece == wanted {
-            return Some(at);
+/// The free pieces of chunks: a chunk, a half of it, or a half of that, and so on, where it is the largest without a
+/// live block. They come by object, then by start.
+pub(super) fn pieces_of(
+    alloc: Global,
+    chunks: &[Piece],
+    live: &[Piece],
+) -> Result<Vec<Piece>, AllocError> {
+    let mut free = Vec::new(alloc);
+    let mut rest = Vec::new(alloc);
+    for chunk in chunks {
+        rest.push(*chunk)?;
+    }
+    for _ in 0..u64::MAX {
+        let Some(piece) = rest.pop() else {
+            break;
+        };
+        if !live.iter().any(|block| meets(block, &piece)) {
+            free.push(piece)?;
+        } else if !live.contains(&piece) {
+            let half = length_of(&piece) / 2;
+            rest.push(range_of(piece.object, piece.start, half))?;
+            rest.push(range_of(piece.object, piece.start.saturating_add(half), half))?;
         }
     }
-    None
+    free.sort_unstable_by_key(|piece| (piece.object, piece.start));
+    Ok(free)
 }
 
-/// The place of the first piece of an object.
-fn find_of(pieces: &[Piece], object: u64) -> Option<usize>
-    ensures { IfSome result (λ at. at < length pieces.now) }
-{
-    for (at, piece) in pieces.iter().enumerate() {
-        if piece.object == object {
-            return Some(at);
-        }
-    }
-    None
-}
-
-/// How many pieces have this length.
-fn count_of(pieces: &[Piece], length: u64) -> u64 {
-    let mut number = 0;
+/// The front of a shortest piece with room for this many bytes: of that where the block came, if it is as short.
+pub(super) fn front_of_shortest(pieces: &[Piece], size: u64, came: Option<Piece>) -> Option<Piece> {
+    let mut shortest = u64::MAX;
+    let mut front = None;
     for piece in pieces {
-        if length_of(*piece) == length {
-            count(&mut number);
+        let room = length_of(piece);
+        let here = Some(front_of(*piece, size));
+        if room >= size && (room < shortest || room == shortest && here == came) {
+            shortest = room;
+            front = here;
         }
     }
-    number
+    front
 }
 
 /// The cases that must occur in the lists.
-const CASES: [&str; 6] = [
-    "a block of a free piece",
-    "one of several that are as short",
-    "a chunk",
-    "one larger than the one before",
+const CASES: [&str; 3] = [
+    "a chunk larger than the one before",
     "a chunk goes while others are held",
-    "two halves are joined",
+    "halves are joined",
 ];
 
 /// The size of a block for a request: the least power of two that is not below its size and its alignment.
-fn block_size(size: u64, align_mask: u64) -> u64 {
+pub(super) fn block_size(size: u64, align_mask: u64) -> u64 {
     let mut length = 1;
     for _ in 0..63 {
         if length < size || length <= align_mask {
@@ -111,8 +105,14 @@ fn block_size(size: u64, align_mask: u64) -> u64 {
 /// What is free, live and held by a plain list of each.
 #[derive(Drop)]
 struct Pieces {
+    alloc: Global,
+
+    /// What is free, by object, then by start.
     free: Vec<Piece>,
+
+    /// The live blocks, in the order in which they were granted.
     live: Vec<Piece>,
+
     chunks: Vec<Piece>,
 
     /// The size of the latest chunk that was made.
@@ -122,104 +122,31 @@ struct Pieces {
     asked: (u64, Option<u64>),
 
     /// How often each case occurred: rows of [`CASES`].
-    tally: [u64; 6],
+    tally: [u64; 3],
 }
 
 impl Pieces {
-    /// The length of the shortest free piece of at least this many bytes, if there is one.
-    fn shortest(&self, length: u64) -> Option<u64> {
-        let mut shortest = None;
-        for piece in &self.free {
-            let found = length_of(*piece);
-            match shortest {
-                Some(least) if least <= found => {}
-                _ if found < length => {}
-                _ => shortest = Some(found),
-            }
-        }
-        shortest
-    }
-
-    /// Takes the free piece of which a block is the front, and which must have this length.
-    fn take_front(&mut self, rt: &impl Abort, block: Piece, length: u64) -> Piece {
-        let ties = count_of(self.free.as_slice(), length);
-        let front = range_of(block.object, block.start, length);
-        let Some(at) = find(self.free.as_slice(), front) else {
-            return never_with(rt, "no shortest piece starts with", &(block, length));
-        };
-        count(&mut self.tally[0]);
-        if ties > 1 {
-            count(&mut self.tally[1]);
-        }
-        self.free.swap_remove(at)
+    /// Finds what is free.
+    fn find_free(&mut self) -> Done {
+        self.free = pieces_of(self.alloc, self.chunks.as_slice(), self.live.as_slice())?;
+        Ok(())
     }
 
     /// Begins the chunk of which a block is the front. It has twice the bytes of the block, or as many as the latest
     /// chunk where that is more.
-    fn begin(&mut self, rt: &impl Abort, block: Piece) -> Result<Piece, AllocError> {
-        let length = self.latest.max(length_of(block) << 1);
+    fn begin(&mut self, rt: &impl Abort, block: Piece) -> Done {
+        let length = self.latest.max(length_of(&block) << 1);
         count(&mut self.asked.0);
         self.asked.1 = Some(length);
         same_at(rt, "the start in a new chunk of", &block, &block.start, &0);
-        let known = find_of(self.chunks.as_slice(), block.object);
-        same_at(rt, "a chunk that was held has", &block, &known, &None);
-        let chunk = range_of(block.object, 0, length);
-        self.chunks.push(chunk)?;
-        count(&mut self.tally[2]);
+        let is_held = is_used(block.object, self.chunks.as_slice());
+        same_at(rt, "an object held before has", &block, &is_held, &false);
         if length > self.latest {
-            count(&mut self.tally[3]);
+            count(&mut self.tally[0]);
         }
         self.latest = length;
-        Ok(chunk)
-    }
-
-    /// Splits a piece by halves down to this length. All but the front is free.
-    fn split(&mut self, piece: Piece, length: u64) -> Done {
-        let mut front = piece;
-        for _ in 0..63 {
-            let half = length_of(front) >> 1;
-            if half >= length {
-                front = range_of(front.object, front.start, half);
-                self.free.push(other_half(front))?;
-            }
-        }
+        self.chunks.push(range_of(block.object, 0, length))?;
         Ok(())
-    }
-
-    /// Joins a range with its other half while that is free, and frees the result.
-    fn join(&mut self, block: Piece) -> Done {
-        let mut piece = block;
-        for _ in 0..63 {
-            let Some(at) = find(self.free.as_slice(), other_half(piece)) else {
-                break;
-            };
-            self.free.swap_remove(at);
-            count(&mut self.tally[5]);
-            piece = joined(piece);
-        }
-        self.free.push(piece)?;
-        Ok(())
-    }
-
-    /// Releases a chunk in which no block is live: it is one free piece.
-    fn let_go(&mut self, rt: &impl Abort, object: u64) {
-        let Some(at) = find_of(self.chunks.as_slice(), object) else {
-            return never_with(rt, "no chunk of the object", &object);
-        };
-        let whole = self.chunks.swap_remove(at);
-        let Some(at) = find(self.free.as_slice(), whole) else {
-            return never_with(rt, "not free as a whole:", &whole);
-        };
-        self.free.swap_remove(at);
-        if !self.chunks.is_empty() {
-            count(&mut self.tally[4]);
-        }
-    }
-
-    /// Sorts the free pieces by the name of their object, then by start.
-    fn sort(&mut self) {
-        self.free
-            .sort_unstable_by_key(|piece| (piece.object, piece.start));
     }
 }
 
@@ -249,27 +176,32 @@ impl Plain for Pieces {
             return never_with(rt, "a request:", &came);
         };
         let length = block_size(size, mask);
-        same_at(rt, "the size of", &block, &length_of(block), &length);
-        let piece = match self.shortest(length) {
-            Some(shortest) => self.take_front(rt, block, shortest),
+        same_at(rt, "the size of", &block, &length_of(&block), &length);
+        match front_of_shortest(self.free.as_slice(), length, came.ok()) {
             None => self.begin(rt, block)?,
-        };
-        self.split(piece, length)?;
+            Some(front) => same(rt, "a front of a shortest piece", &block, &front),
+        }
         self.live.push(block)?;
-        self.sort();
-        Ok(())
+        self.find_free()
     }
 
     // Its chunk is released where no other block in it is live.
     fn put_back(&mut self, rt: &impl Abort, at: usize) -> Done {
         holds(rt, at < self.live.len(), "no such block");
         let block = self.live.remove(at);
-        self.join(block)?;
-        if find_of(self.live.as_slice(), block.object).is_none() {
-            self.let_go(rt, block.object);
+        let free = self.free.len();
+        if is_used(block.object, self.live.as_slice()) {
+            self.find_free()?;
+            if self.free.len() <= free {
+                count(&mut self.tally[2]);
+            }
+            return Ok(());
         }
-        self.sort();
-        Ok(())
+        self.chunks.retain(|chunk| chunk.object != block.object);
+        if !self.chunks.is_empty() {
+            count(&mut self.tally[1]);
+        }
+        self.find_free()
     }
 
     fn clean(&mut self) -> Done {
@@ -453,12 +385,13 @@ impl Store for Buddies {
 #[test]
 fn drawn_calls_leave_what_plain_lists_say(rt: HostRuntime) -> Result<(), Fail> {
     let mut pieces = Pieces {
+        alloc: rt.alloc(),
         free: Vec::new(rt.alloc()),
         live: Vec::new(rt.alloc()),
         chunks: Vec::new(rt.alloc()),
         latest: FIRST,
         asked: (0, None),
-        tally: [0; 6],
+        tally: [0; 3],
     };
     try_lists::<Buddies>(&rt, rt.alloc(), &mut pieces, 7, LISTS, Keys::Own)?;
     came_often(&rt, &CASES, &pieces.tally, LISTS / 2 + 1);

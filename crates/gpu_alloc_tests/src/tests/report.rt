@@ -1,7 +1,8 @@
 //! A report of a small session as text, against values that were worked out by hand.
 
-use super::fit::open_over;
 use super::same::same;
+use super::sessions::open_over;
+use gpu_alloc::Sharing;
 use gpu_report::Report;
 use gpu_script_language::{open, parse};
 use gpu_sim::Sim;
@@ -78,7 +79,7 @@ fn a_session_with_fit_chunks_is_reported_as_worked_out(rt: HostRuntime) -> Resul
         return Err(Fail::from("bad properties"));
     }
     let device = Sim::new(alloc, script.setup.properties())?;
-    let mut session = open_over(alloc, script.setup.properties(), device)?;
+    let mut session = open_over(alloc, script.setup.properties(), device, Sharing::Fit)?;
     let ran = session.run(script.commands.as_slice()).is_ok();
     let report = Report::of_session(alloc, &session);
     drop(session.finish());

@@ -1,5 +1,4 @@
-//! Comparisons with a message. Tests call these, since the words of a failed comparison are slow to prove. Each crate
-//! of tests has this file: tests of two crates share no code.
+//! Comparisons with a message. Tests call these, since the words of a failed comparison are slow to prove.
 
 ghost use Rattle.std.specs.Prelude.{◌≡◌, ◌<◌, IsTrue};
 

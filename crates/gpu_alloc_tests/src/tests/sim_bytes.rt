@@ -3,21 +3,22 @@
 
 ghost use Rattle.std.specs.Prelude.{◌≡◌, ◌+◌, ◌≤◌, ◌<◌, IsTrue};
 
-use super::pair::At;
 use super::same::{holds, same, same_at};
 use super::sim::{Device, NONE, Plan};
 use Act::{Coherent, Flush, FlushTwo, Fresh, Invalidate, Put, Remap, See, Told, Write};
-use Cause::Host;
 use gpu_alloc_types::{
     AllocationFlags, MappedMemoryRange, MemoryDevice, MemoryObject, OutOfMemory,
 };
-use gpu_sim::{Cause, Question, Sim, SimMemory};
+use gpu_sim::{Question, Sim, SimMemory};
 use std::alloc::Global;
 use std::marker::Model;
 use std::process::Abort;
 use std::test::Fail;
 
 const SIZE: u64 = 8;
+
+/// What is shown, and the number of an act.
+type At = (&'static str, usize);
 
 /// What is wrong with a range that does not lie in the object.
 const OUTSIDE: &str = "a range outside the object";
@@ -237,7 +238,7 @@ const ACTS: [Act; 54] = [
     Flush(3, 2, Ok(())),
     ALL,
     See([0, 0, 0, 4, 5, 0, 0, 0]),
-    Fresh("a refused flush copies half", (Question::Flush, 1, Host)),
+    Fresh("a refused flush copies half", (Question::Flush, 1)),
     Put(1, [2, 3]),
     Put(3, [4, 5]),
     Flush(1, 7, REFUSED),
@@ -245,7 +246,7 @@ const ACTS: [Act; 54] = [
     See([0, 2, 3, 4, 0, 0, 0, 0]),
     Fresh(
         "a refused invalidate copies the first half",
-        (Question::Invalidate, 2, Host),
+        (Question::Invalidate, 2),
     ),
     Invalidate(7, 1, Ok(())),
     Invalidate(0, 7, REFUSED),
@@ -270,7 +271,7 @@ const ACTS: [Act; 54] = [
     See([0, 0, 0, 0, 0, 0, 9, 9]),
     Fresh(
         "the latest range is told, also of a refused question",
-        (Question::Invalidate, 1, Host),
+        (Question::Invalidate, 1),
     ),
     Told(0, 0, (1, 0, 8)),
     FlushTwo,

@@ -24,12 +24,8 @@ fn put(rt: &impl Abort, pool: &mut Pool, byte: u8) -> u64 {
 /// The device has eight such bytes in the buffer.
 fn has(rt: &impl Abort, pool: &mut Pool, key: u64, byte: u8) {
     let mut got = [0; 8];
-    same(
-        rt,
-        "a read of",
-        &(byte, pool.download(key, 0, &mut got)),
-        &(byte, Ok(())),
-    );
+    let came = (byte, pool.download(key, 0, &mut got));
+    same(rt, "a read of", &came, &(byte, Ok(())));
     same(rt, "bytes", &got, &[byte; 8]);
 }
 
@@ -56,12 +52,8 @@ fn ask_wrongly(rt: &impl Abort, pool: &mut Pool) {
     let key = put(rt, pool, 4);
     let mut got = [7; 8];
     let passing = pool.download(key, u64::MAX, &mut got);
-    same(
-        rt,
-        "a range past the end",
-        &passing,
-        &Err(StagingError::BadRange),
-    );
+    let refused = Err(StagingError::BadRange);
+    same(rt, "a range past the end", &passing, &refused);
     let unknown = pool.download(u64::MAX, 0, &mut got);
     same(rt, "no such key", &unknown, &Err(StagingError::UnknownKey));
     same(rt, "bytes of a refused read", &got, &[7; 8]);

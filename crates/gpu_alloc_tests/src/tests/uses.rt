@@ -93,12 +93,8 @@ fn cache_textures(rt: &impl Abort, cache: &mut Cache) {
     same(rt, "without the oldest", &found(cache), &kept);
     let asked = texture(rt, (1 << 20) + 1);
     let refused = cache.load(1, asked);
-    same(
-        rt,
-        "a refusal",
-        &refused,
-        &Err(AllocationError::OutOfDeviceMemory),
-    );
+    let wanted = Err(AllocationError::OutOfDeviceMemory);
+    same(rt, "a refusal", &refused, &wanted);
     same(rt, "after a refusal", &found(cache), &kept);
     same(rt, "whether it went", &cache.evict(3), &true);
     same(rt, "whether it went again", &cache.evict(3), &false);

@@ -1,16 +1,16 @@
-//! Lists of commands drawn from a fixed seed, with refusals that are drawn too. What each `Read` gives is compared with
-//! what was written, and what a script of the same list prints with the replies.
+//! Lists of commands drawn from a fixed seed, as texts of scripts, with refusals that are drawn too. What each `Read`
+//! gives is compared with what was written, by the numbers that were drawn, and what the script prints with the replies.
 
 mod printed;
 mod tally;
 
-use super::scripts;
+use super::scripts::{compare, good_script, open_session};
 use crate::tests::drawn::Chance;
 use crate::tests::same::{same, same_at};
-use gpu_alloc::{Dedicated, MapError, Request, UsageFlags};
+use gpu_alloc::MapError;
 use gpu_script_language::SimSession;
-use gpu_session::{Bytes, Command, Fault, Reply, values_of};
-use gpu_sim::{Question, Sim};
+use gpu_session::{Command, Reply, values_of};
+use gpu_sim::Question;
 use printed::printed;
 use std::alloc::{AllocError, Global};
 use std::process::Abort;
@@ -29,23 +29,24 @@ const NAMES: usize = 7;
 /// How many bytes are kept of each block: no command that is drawn moves a byte past them.
 const BLOCK: usize = 40;
 
-/// Each kind of command by its word, and how many numbers follow it.
-const KINDS: [(&str, usize); 15] = [
-    ("alloc", 5),
-    ("required", 5),
-    ("preferred", 5),
-    ("import", 5),
-    ("free", 1),
-    ("map", 3),
-    ("unmap", 1),
-    ("write", 2),
-    ("read", 3),
-    ("put", 2),
-    ("get", 3),
-    ("remaining", 1),
-    ("cleanup", 0),
-    ("ranges", 1),
-    ("counts", 0),
+/// Each kind of command by its word, how many numbers follow it, and the place of a kind that often follows on the same
+/// name: so a put is often followed by an unmap, a write and a read.
+const KINDS: [(&str, usize, usize); 15] = [
+    ("alloc", 5, 7),
+    ("required", 5, 7),
+    ("preferred", 5, 7),
+    ("import", 5, 7),
+    ("free", 1, 0),
+    ("map", 3, 9),
+    ("unmap", 1, 7),
+    ("write", 2, 8),
+    ("read", 3, 5),
+    ("put", 2, 6),
+    ("get", 3, 9),
+    ("remaining", 1, 7),
+    ("cleanup", 0, 7),
+    ("ranges", 1, 7),
+    ("counts", 0, 7),
 ];
 
 /// How often kinds are drawn, by their places in `KINDS`: those that move bytes the most.
@@ -54,15 +55,10 @@ const DRAWN: [usize; 32] = [
     14, 6,
 ];
 
-/// What often follows a kind, on the same name: so a put is often followed by an unmap, a write and a read.
-const NEXT: [usize; 15] = [7, 7, 7, 7, 0, 9, 7, 8, 5, 6, 9, 7, 7, 7, 7];
-
 /// A command as the word and the numbers of its line, and the bytes that follow them where it has any.
 #[derive(Drop)]
 struct Line {
-    place: usize,
     word: &'static str,
-    count: usize,
     numbers: [u64; 5],
     bytes: Vec<u8>,
 }
@@ -100,98 +96,46 @@ fn some_bytes(alloc: Global, chance: &mut Chance) -> Result<Vec<u8>, AllocError>
     Ok(bytes)
 }
 
-/// A command: two in three follow the last one, by its place in `KINDS` and its name.
-fn draw_line(
+/// Draws a list, and adds its lines to a script. Two in three commands follow from the last one, on the same name.
+fn draw_list(
     alloc: Global,
     chance: &mut Chance,
-    last: usize,
-    name: u64,
-) -> Result<Line, AllocError> {
-    let follows = chance.next() % 3 != 0;
-    let place = if follows {
-        NEXT[last % NEXT.len()]
-    } else {
-        DRAWN[(chance.next() % 32) as usize]
-    };
-    let (word, count) = KINDS[place % KINDS.len()];
-    let mut numbers = numbers_of(word, chance);
-    if follows {
-        numbers[0] = name;
-    }
-    Ok(Line {
-        place,
-        word,
-        count,
-        numbers,
-        bytes: some_bytes(alloc, chance)?,
-    })
-}
-
-/// A list of commands.
-fn draw_list(alloc: Global, chance: &mut Chance) -> Result<Vec<Line>, AllocError> {
+    text: &mut String,
+) -> Result<Vec<Line>, AllocError> {
     let mut lines = Vec::new(alloc);
-    let mut last = 0;
+    let mut place = 7;
     let mut name = 1;
     for _ in 0..COMMANDS {
-        let line = draw_line(alloc, chance, last, name)?;
-        last = line.place;
-        name = line.numbers[0];
+        let follows = chance.next() % 3 != 0;
+        if !follows {
+            place = DRAWN[(chance.next() % 32) as usize];
+        }
+        let (word, count, next) = KINDS[place % KINDS.len()];
+        let mut numbers = numbers_of(word, chance);
+        if follows {
+            numbers[0] = name;
+        }
+        name = numbers[0];
+        place = next;
+        let bytes = some_bytes(alloc, chance)?;
+        let line = Line {
+            word,
+            numbers,
+            bytes,
+        };
+        add_line(text, &line, count)?;
         lines.push(line)?;
     }
     Ok(lines)
 }
 
-/// Kinds of questions of which one is refused, with their words.
-const REFUSED: [(Question, &str); 6] = [
-    (Question::Flush, "flush"),
-    (Question::Flush, "flush"),
-    (Question::Invalidate, "invalidate"),
-    (Question::Invalidate, "invalidate"),
-    (Question::Map, "map"),
-    (Question::Allocate, "allocate"),
-];
-
-/// The setup of a list: its lines, and which question of a kind is refused.
-#[derive(Drop)]
-struct Plan {
-    text: String,
-    refused: Vec<(Question, u64)>,
-}
-
-/// Why a question is refused, by its number.
-fn cause_of(question: Question, nth: u64) -> &'static str {
-    match nth % 3 {
-        0 if question == Question::Map => "failed",
-        1 => "host",
-        _ => "device",
-    }
-}
-
-/// One type of non-coherent host-visible memory, and questions that are refused.
-fn draw_plan(alloc: Global, chance: &mut Chance) -> Result<Plan, AllocError> {
-    let mut text = String::new(alloc);
-    let mut refused = Vec::new(alloc);
-    text.push_str("heap 1048576\ntype 0 2\natom 16\n")?;
-    for (question, word) in &REFUSED {
-        let nth = chance.next() % 7 + 1;
-        writeln!(text, "refuse {word} {nth} {}", cause_of(*question, nth))?;
-        refused.push((*question, nth))?;
-    }
-    Ok(Plan { text, refused })
-}
-
-/// Whether bytes follow the numbers of a line.
-fn has_bytes(line: &Line) -> bool {
-    line.word == "write" || line.word == "put"
-}
-
-/// Adds a command's line to a script.
-fn add_line(text: &mut String, line: &Line) -> Result<(), AllocError> {
+/// Adds a command's line to a script. This many numbers follow its word.
+fn add_line(text: &mut String, line: &Line, count: usize) -> Result<(), AllocError> {
     text.push_str(line.word)?;
-    for number in line.numbers.iter().take(line.count) {
+    for number in line.numbers.iter().take(count) {
         write!(text, " {number}")?;
     }
-    if has_bytes(line) {
+    if line.word == "write" || line.word == "put" {
         add_bytes(text, line.bytes.as_slice())?;
     }
     text.push('\n')
@@ -199,106 +143,37 @@ fn add_line(text: &mut String, line: &Line) -> Result<(), AllocError> {
 
 /// Adds a field of bytes.
 fn add_bytes(text: &mut String, bytes: &[u8]) -> Result<(), AllocError> {
-    text.push(' ')?;
-    if bytes.is_empty() {
-        text.push('-')?;
-    }
+    text.push_str(if bytes.is_empty() { " -" } else { " " })?;
     for byte in bytes {
         write!(text, "{byte:02x}")?;
     }
     Ok(())
 }
 
-/// A number of a line as one of 32 bits.
-fn as_u32(number: u64) -> u32 {
-    (number % (1 << 32)) as u32
-}
+/// Kinds of questions of which one is refused, and the words of the line that says so.
+const REFUSED: [(Question, &str); 6] = [
+    (Question::Flush, "refuse flush"),
+    (Question::Flush, "refuse flush"),
+    (Question::Invalidate, "refuse invalidate"),
+    (Question::Invalidate, "refuse invalidate"),
+    (Question::Map, "refuse map"),
+    (Question::Allocate, "refuse allocate"),
+];
 
-/// The command of a line.
-fn command_of(alloc: Global, line: &Line) -> Result<Command, AllocError> {
-    let [first, offset, len, start, part] = line.numbers;
-    let name = as_u32(first);
-    Ok(match line.word {
-        "alloc" | "required" | "preferred" => asking(line.word, name, request_of(line)),
-        "import" => Command::Import {
-            name,
-            memory_type: as_u32(offset),
-            object_size: len,
-            offset: start,
-            size: part,
-        },
-        "free" => Command::Free { name },
-        "map" => Command::Map {
-            name,
-            offset,
-            size: len,
-        },
-        "unmap" => Command::Unmap { name },
-        "write" | "put" => moving(line.word, name, offset, bytes_of(alloc, line)?),
-        "read" => Command::Read { name, offset, len },
-        "get" => Command::Get { name, offset, len },
-        "remaining" => Command::SetRemaining { remaining: name },
-        "ranges" => Command::FreeRanges { memory_type: name },
-        "counts" => Command::Counts,
-        _ => Command::Cleanup,
-    })
-}
-
-/// What the numbers of a line ask for.
-fn request_of(line: &Line) -> Request {
-    let [_, size, align_mask, usage, memory_types] = line.numbers;
-    Request {
-        size,
-        align_mask,
-        usage: UsageFlags::from_bits_truncate((usage % 256) as u8),
-        memory_types: as_u32(memory_types),
+/// Begins a script with one type of non-coherent host-visible memory. Returns which question of each kind is refused.
+fn draw_setup(text: &mut String, chance: &mut Chance) -> Result<[u64; 6], AllocError> {
+    let mut refused = [0; 6];
+    text.push_str("heap 1048576\ntype 0 2\natom 16\n")?;
+    for ((question, words), nth) in REFUSED.iter().zip(&mut refused) {
+        *nth = chance.next() % 7 + 1;
+        let cause = match *nth % 3 {
+            0 if *question == Question::Map => "failed",
+            1 => "host",
+            _ => "device",
+        };
+        writeln!(text, "{words} {nth} {cause}")?;
     }
-}
-
-/// The command with this word that asks for a block.
-fn asking(word: &str, name: u32, request: Request) -> Command {
-    let dedicated = match word {
-        "required" => Dedicated::Required,
-        "preferred" => Dedicated::Preferred,
-        _ => return Command::Alloc { name, request },
-    };
-    Command::Dedicated {
-        name,
-        request,
-        dedicated,
-    }
-}
-
-/// The command with this word that brings bytes.
-fn moving(word: &str, name: u32, offset: u64, bytes: Bytes) -> Command {
-    if word == "write" {
-        Command::Write {
-            name,
-            offset,
-            bytes,
-        }
-    } else {
-        Command::Put {
-            name,
-            offset,
-            bytes,
-        }
-    }
-}
-
-/// The bytes of a line.
-fn bytes_of(alloc: Global, line: &Line) -> Result<Bytes, AllocError> {
-    let bytes = Vec::from_slice(alloc, line.bytes.as_slice())?;
-    Ok(Bytes::from_vec(bytes))
-}
-
-/// The commands of a list.
-fn commands_of(alloc: Global, lines: &[Line]) -> Result<Vec<Command>, AllocError> {
-    let mut commands = Vec::new(alloc);
-    for line in lines {
-        commands.push(command_of(alloc, line)?)?;
-    }
-    Ok(commands)
+    Ok(refused)
 }
 
 /// What was written to the blocks of each name, as a number for each byte. It has the bit `v` where the byte may have
@@ -357,15 +232,13 @@ impl Written {
 
     /// Whether each of these bytes, read from an offset on, is kept, and is one of its values where it has some.
     fn fits(&self, name: u64, offset: u64, bytes: &[u8]) -> bool {
-        let mut byte = offset;
-        for value in bytes {
+        for (place, value) in bytes.iter().enumerate() {
+            let byte = offset.wrapping_add(place as u64);
             let bits = self.bits(name, byte);
-            if byte >= BLOCK as u64
-                || bits != 0 && (*value >= 64 || bits >> (*value % 64) & 1 == 0)
-            {
+            let fits = bits == 0 || *value < 64 && bits >> (*value % 64) & 1 == 1;
+            if byte >= BLOCK as u64 || !fits {
                 return false;
             }
-            byte = byte.wrapping_add(1);
         }
         true
     }
@@ -404,7 +277,7 @@ fn may_have_moved(error: MapError) -> bool {
 /// After how many commands the possible values of each byte are compared.
 const PART: usize = 20;
 
-/// Compares each reply with what was written, and the possible values of each byte after each part of the list; counts
+/// Compares each reply with what was written, and the possible values of each byte after each part of the list. Marks
 /// what occurs.
 fn check_replies(
     rt: &impl Abort,
@@ -412,13 +285,13 @@ fn check_replies(
     lines: &[Line],
     commands: &[Command],
     replies: &[Reply],
+    printed: &str,
     tally: &mut Tally,
 ) -> Result<(), Fail> {
     let mut written = Written::new();
-    for (index, (line, reply)) in lines.iter().zip(replies).enumerate() {
-        let has_memory = !matches!(reply, Reply::Fault(Fault::NoMemory));
-        same(rt, "whether there is memory", &has_memory, &true);
-        tally.count(line, reply, &written);
+    let lines = lines.iter().zip(replies).zip(printed.lines());
+    for (index, ((line, reply), printed)) in lines.enumerate() {
+        tally.mark_reply(line, reply, printed, &written);
         let fits = written.after(line, reply);
         same(rt, "a read gives what was written", &fits, &true);
         if index % PART == PART - 1 {
@@ -430,17 +303,8 @@ fn check_replies(
     Ok(())
 }
 
-/// The values as bits.
-fn bits_of(values: &[u8]) -> u64 {
-    let mut bits = 0;
-    for value in values {
-        bits |= 1u64 << (*value % 64);
-    }
-    bits
-}
-
-/// Compares the possible values of each byte, from the commands and their replies, with what was written, and counts
-/// the bytes that have values.
+/// Compares the possible values of each byte, from the commands and their replies, with what was written, and marks
+/// bytes that have values.
 fn compare_told(
     rt: &impl Abort,
     alloc: Global,
@@ -451,11 +315,13 @@ fn compare_told(
 ) -> Result<(), AllocError> {
     for name in 0..NAMES as u32 {
         for byte in 0..BLOCK as u64 {
-            let told = values_of(alloc, commands, replies, name, byte)?;
+            let mut told = 0;
+            for value in values_of(alloc, commands, replies, name, byte)? {
+                told |= 1u64 << (value % 64);
+            }
             let bits = written.bits(u64::from(name), byte);
-            let came = bits_of(told.as_slice());
-            same_at(rt, "name and byte", &(name, byte), &came, &bits);
-            tally.count_byte(bits, "byte of one value", "byte of several values");
+            same_at(rt, "name and byte", &(name, byte), &told, &bits);
+            tally.mark_byte(bits, "byte of one value", "byte of several values");
         }
     }
     Ok(())
@@ -467,22 +333,23 @@ pub(super) fn session_of(
     alloc: Global,
     script: &str,
 ) -> Result<SimSession<Global>, Fail> {
-    let script = scripts::good_script(alloc, script)?;
-    Ok(scripts::open_session(rt, alloc, &script.setup)?)
+    let script = good_script(alloc, script)?;
+    Ok(open_session(rt, alloc, &script.setup)?)
 }
 
-/// The replies to a list, and what a script of it must print.
+/// The replies to the commands of a script, and what it must print.
 fn answers(
     rt: &impl Abort,
     alloc: Global,
-    plan: &Plan,
+    script: &str,
     commands: &[Command],
+    refused: [u64; 6],
     tally: &mut Tally,
 ) -> Result<(Vec<Reply>, String), Fail> {
-    let mut session = session_of(rt, alloc, plan.text.as_str())?;
+    let mut session = session_of(rt, alloc, script)?;
     let replies = session.run(commands);
     let device = session.finish();
-    tally.count_refused(plan, &device);
+    tally.mark_refused(refused, &device);
     let objects = device.objects();
     let asked = device.asked(Question::Allocate);
     drop(device);
@@ -498,21 +365,24 @@ fn try_list(
     chance: &mut Chance,
     tally: &mut Tally,
 ) -> Result<(), Fail> {
-    let plan = draw_plan(alloc, chance)?;
-    let lines = draw_list(alloc, chance)?;
-    let lines = lines.as_slice();
-    let commands = commands_of(alloc, lines)?;
-    let commands = commands.as_slice();
-    let (replies, expected) = answers(rt, alloc, &plan, commands, tally)?;
-    check_replies(rt, alloc, lines, commands, replies.as_slice(), tally)?;
-    let Plan {
-        text: mut script,
-        ..
-    } = plan;
-    for line in lines {
-        add_line(&mut script, line)?;
-    }
-    scripts::compare(rt, alloc, &[(script.as_str(), expected.as_str(), 0)]);
+    let mut text = String::new(alloc);
+    let refused = draw_setup(&mut text, chance)?;
+    let lines = draw_list(alloc, chance, &mut text)?;
+    let text = text.as_str();
+    let script = good_script(alloc, text)?;
+    let commands = script.commands.as_slice();
+    let (replies, printed) = answers(rt, alloc, text, commands, refused, tally)?;
+    let (lines, replies, printed) = (lines.as_slice(), replies.as_slice(), printed.as_str());
+    let count = commands.len();
+    let came = (lines.len(), replies.len(), printed.contains("NoMemory"));
+    same(
+        rt,
+        "lines, replies and a fault",
+        &came,
+        &(count, count, false),
+    );
+    check_replies(rt, alloc, lines, commands, replies, printed, tally)?;
+    compare(rt, alloc, &[(text, printed, 0)]);
     Ok(())
 }
 

@@ -1,36 +1,89 @@
 //! Host memory that is refused: to the program, and to single commands, each of whose requests is refused in turn.
 
-use super::scarce::{Outcome, Refusals, ScarceSession};
-use super::scripts::{good_script, ran};
+use super::questions::told;
+use super::scripts::{ended, good_script, open_session, ran};
 use crate::tests::same::{same, same_at};
-use gpu_script_language::print_reply;
+use gpu_alloc::AllocationError;
+use gpu_script_language::{SimSession, print_reply};
 use gpu_session::{Command, Fault, Reply};
 use gpu_sim::ScarceMemory;
 use std::alloc::{AllocError, Allocator, Global};
 use std::process::Abort;
 use std::test::Fail;
 
-/// Runs a command where `room` bytes are left. Where they are too few, what is held must be as before.
-fn outcome_in<A: Allocator + Copy>(
+/// How one command ended.
+#[derive(Clone, Copy, Debug, PartialEq, Eq)]
+enum Outcome {
+    /// It lacked no memory.
+    Served,
+
+    /// There was no place for its reply.
+    NothingRan,
+
+    /// The session lacked memory.
+    NoMemory,
+
+    /// The allocator or the device lacked memory.
+    Refused,
+}
+
+/// Which refusals a command meets: no place for its reply, no memory for the session, none for the allocator or the
+/// device.
+type Refusals = [bool; 3];
+
+/// The outcome of one command with these replies.
+fn outcome_of<A: Allocator>(replies: &Result<Vec<Reply<A>, A>, AllocError>) -> Outcome {
+    let Ok(replies) = replies else {
+        return Outcome::NothingRan;
+    };
+    match replies.as_slice() {
+        [Reply::Fault(Fault::NoMemory)] => Outcome::NoMemory,
+        [Reply::Refused(AllocationError::OutOfHostMemory)] => Outcome::Refused,
+        _ => Outcome::Served,
+    }
+}
+
+/// What is printed for replies, if there are any.
+fn printed<A: Allocator + Copy>(
+    alloc: Global,
+    host: A,
+    replies: &Result<Vec<Reply<A>, A>, AllocError>,
+) -> Result<String, AllocError> {
+    let mut text = String::new(host);
+    if let Ok(replies) = replies {
+        for reply in replies {
+            print_reply(&mut text, reply)?;
+        }
+    }
+    String::from_str(alloc, text.as_str())
+}
+
+/// Runs a command where `room` bytes are left. Where they are too few, what is held must be as before. Returns what is
+/// printed for its reply too.
+fn run_in<A: Allocator + Copy>(
     rt: &impl Abort,
     alloc: Global,
-    session: &mut ScarceSession<'_, A>,
+    memory: &ScarceMemory,
+    host: A,
+    session: &mut SimSession<A>,
     command: &[Command<A>],
     room: usize,
-) -> Result<Outcome, AllocError> {
-    let before = session.told(alloc)?;
-    session.leave(rt, room);
-    let outcome = session.outcome(command);
-    let after = session.told(alloc)?;
+) -> Result<(Outcome, String), AllocError> {
+    let before = told(alloc, host, session)?;
+    memory.leave(room)?;
+    let replies = session.run(command);
+    memory.lift();
+    let after = told(alloc, host, session)?;
+    let outcome = outcome_of(&replies);
     if outcome != Outcome::Served {
         same_at(rt, "held after", &outcome, &after, &before);
     }
-    Ok(outcome)
+    Ok((outcome, printed(alloc, host, &replies)?))
 }
 
 /// Runs the earlier commands with ample memory, and then one command where `room` bytes are left. At the end the device
 /// holds nothing.
-fn outcome_of<A: Allocator + Copy>(
+fn run_last<A: Allocator + Copy>(
     rt: &impl Abort,
     alloc: Global,
     memory: &ScarceMemory,
@@ -38,18 +91,20 @@ fn outcome_of<A: Allocator + Copy>(
     earlier: &str,
     command: &str,
     room: usize,
-) -> Result<Outcome, Fail> {
+) -> Result<(Outcome, String), Fail> {
     let earlier = good_script(host, earlier)?;
     let command = good_script(host, command)?;
-    let mut session = ScarceSession::new(rt, memory, host, &earlier)?;
+    let command = command.commands.as_slice();
+    let mut session = open_session(rt, host, &earlier.setup)?;
     let ran = session.run(earlier.commands.as_slice()).is_ok();
-    same(rt, "the earlier commands run", &ran, &true);
-    let outcome = outcome_in(rt, alloc, &mut session, command.commands.as_slice(), room);
-    session.end(rt);
+    let outcome = run_in(rt, alloc, memory, host, &mut session, command, room);
+    let (objects, _) = ended(session);
+    let came = (ran, objects);
+    same(rt, "earlier commands and objects", &came, &(true, 0));
     Ok(outcome?)
 }
 
-/// Which refusals a command meets, as more bytes are left until it is served.
+/// Which refusals a command meets, as more bytes are left until it is served. Its reply is then that with ample memory.
 fn refusals(
     rt: &impl Abort,
     alloc: Global,
@@ -57,14 +112,21 @@ fn refusals(
     command: &str,
 ) -> Result<Refusals, Fail> {
     let mut met = [false; 3];
+    let memory = ScarceMemory::new(alloc)?;
+    let (_, ample) = run_last(rt, alloc, &memory, memory.host(), earlier, command, 1 << 17)?;
     for room in 0..8192 {
         let memory = ScarceMemory::new(alloc)?;
         let host = memory.host();
-        let outcome = outcome_of(rt, alloc, &memory, host, earlier, command, room << 3)?;
-        if outcome == Outcome::Served {
-            return Ok(met);
+        let (outcome, came) = run_last(rt, alloc, &memory, host, earlier, command, room << 3)?;
+        match outcome {
+            Outcome::Served => {
+                same_at(rt, "the reply to", &command, &came, &ample);
+                return Ok(met);
+            }
+            Outcome::NothingRan => met[0] = true,
+            Outcome::NoMemory => met[1] = true,
+            Outcome::Refused => met[2] = true,
         }
-        outcome.mark(&mut met);
     }
     Err(Fail::from("never served"))
 }
@@ -75,11 +137,16 @@ const BASE: &str = "heap 1048576\ntype 0 1\n";
 /// A buddy block and a mapped object of its own are held.
 const HELD: &str = "heap 1048576\ntype 0 6\nalloc 1 64 0 2 1\nrequired 2 64 0 2 1\nmap 2 0 64\n";
 
+/// A block of a free list is held, and one of a buddy chunk beside it.
+const RUN: &str = "heap 1048576\ntype 0 1\nalloc 1 100 0 16 1\n";
+
+const RUN_AND_BUDDY: &str = "heap 1048576\ntype 0 1\nalloc 1 100 0 16 1\nalloc 2 100 0 0 1\n";
+
 /// Two heaps, and a ledger of each.
 const TWO_HEAPS: &str = "heap 1048576\nheap 1048576\ntype 0 1\n";
 
 /// Commands, and which refusals they meet. Those that take no memory only lack a place for their reply.
-const WANTS: [(&str, &str, Refusals); 18] = [
+const WANTS: [(&str, &str, Refusals); 20] = [
     (BASE, "required 1 100 0 0 1", [true, true, true]),
     (BASE, "preferred 1 1024 0 0 1", [true, true, true]),
     (BASE, "alloc 1 100 0 0 1", [true, true, true]),
@@ -88,6 +155,8 @@ const WANTS: [(&str, &str, Refusals); 18] = [
     (HELD, "read 1 0 64", [true, true, false]),
     (HELD, "get 2 0 64", [true, true, false]),
     (HELD, "ranges 0", [true, true, false]),
+    (RUN, "ranges 0", [true, true, false]),
+    (RUN_AND_BUDDY, "ranges 0", [true, true, false]),
     (HELD, "counts", [true, true, false]),
     (TWO_HEAPS, "counts", [true, true, false]),
     (HELD, "free 1", [true, false, false]),
@@ -122,58 +191,32 @@ fn lines_of(printed: &[u8]) -> usize {
     }
 }
 
-/// How a script ends for which few bytes are left.
-#[derive(Clone, Copy)]
-enum Ended {
-    /// The program had no memory of its own.
-    Wanting,
-
-    /// A command was refused memory.
-    Refused,
-
-    /// It printed the whole.
-    Whole,
-}
-
-/// How a script ends where `room` bytes are left. What it then prints is compared.
-fn ended_in(rt: &impl Abort, alloc: Global, whole: &[u8], room: usize) -> Result<Ended, Fail> {
-    let memory = ScarceMemory::new(alloc)?;
-    memory.leave(room)?;
-    let (status, printed) = ran(alloc, memory.host(), &mut SCRIPT.as_bytes());
-    let printed = printed.as_slice();
-    if printed == whole {
-        return Ok(Ended::Whole);
-    }
-    if status == 3 {
-        let wanted = "out of memory\n".as_bytes();
-        same_at(rt, "printed in", &room, &printed, &wanted);
-        return Ok(Ended::Wanting);
-    }
-    let ended = (status, lines_of(printed));
-    let wanted = (0, lines_of(whole));
-    same_at(rt, "status and lines in", &room, &ended, &wanted);
-    Ok(Ended::Refused)
-}
-
 /// Each request of the program's own for memory is refused in turn. Then it says only so, by its status too. Those that
 /// its commands make are answered by a line each, and the rest runs.
 #[test]
 fn a_program_without_memory_says_so_alone(rt: HostRuntime) -> Result<(), Fail> {
     let (status, whole) = ran(rt.alloc(), rt.alloc(), &mut SCRIPT.as_bytes());
     same(&rt, "the status with ample memory", &status, &0);
-    let mut wanting = 0u32;
-    let mut refused = 0u32;
+    let (mut wanting, mut refused) = (false, false);
     for room in 0..8192 {
-        match ended_in(&rt, rt.alloc(), whole.as_slice(), room << 3)? {
-            Ended::Wanting => wanting = wanting.saturating_add(1),
-            Ended::Refused => refused = refused.saturating_add(1),
-            Ended::Whole => {
-                let both = wanting > 0 && refused > 0;
-                let counts = (wanting, refused);
-                let what = "how often it had no memory and how often a command had none:";
-                same_at(&rt, what, &counts, &both, &true);
-                return Ok(());
-            }
+        let memory = ScarceMemory::new(rt.alloc())?;
+        memory.leave(room << 3)?;
+        let (status, printed) = ran(rt.alloc(), memory.host(), &mut SCRIPT.as_bytes());
+        if printed == whole {
+            let what = "whether it had no memory and whether a command had none";
+            same(&rt, what, &(wanting, refused), &(true, true));
+            return Ok(());
+        }
+        let printed = printed.as_slice();
+        if status == 3 {
+            wanting = true;
+            let wanted = "out of memory\n".as_bytes();
+            same_at(&rt, "printed in", &room, &printed, &wanted);
+        } else {
+            refused = true;
+            let ended = (status, lines_of(printed));
+            let wanted = (0, lines_of(whole.as_slice()));
+            same_at(&rt, "status and lines in", &room, &ended, &wanted);
         }
     }
     Err(Fail::from("never printed whole"))

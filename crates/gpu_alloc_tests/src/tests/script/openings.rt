@@ -1,13 +1,41 @@
 //! Each request for host memory of an opening refused in turn.
 
-use super::scarce::ScarceSession;
-use super::scripts::{good_script, halves};
+ghost use Rattle.std.specs.Prelude.{◌≡◌, IfOk, IfErr};
+ghost use Rattle.gpu_alloc_types.specs.Properties.{IsUsable};
+ghost use Rattle.gpu_script_language.specs.Setup.{offered};
+
+use super::scripts::{are_usable, ended, good_script, halves};
 use super::whole::{BYTES, OBJECTS};
 use crate::tests::same::same_at;
-use gpu_sim::ScarceMemory;
-use std::alloc::{Allocator, Global};
+use gpu_script_language::{Setup, SimSession};
+use gpu_session::{Session, SessionOpenError};
+use gpu_sim::{ScarceMemory, Sim};
+use std::alloc::{AllocError, Allocator, Global};
 use std::process::Abort;
 use std::test::Fail;
+
+/// The device that a script describes, which refuses nothing.
+fn device_of<A: Allocator + Copy>(host: A, setup: &Setup<A>) -> Result<Sim<A>, AllocError>
+    ensures { IfOk result (λ device. device.properties ≡ offered setup.now) }
+{
+    Sim::new(host, setup.properties())
+}
+
+/// A session over it, or the device where the session lacks memory.
+fn open_over<A: Allocator + Copy>(
+    host: A,
+    setup: &Setup<A>,
+    device: Sim<A>,
+) -> Result<SimSession<A>, Sim<A>>
+    requires usable { IsUsable (offered setup.now) }
+    requires same { device.properties ≡ offered setup.now }
+    ensures { IfErr result (λ back. back ≡ device) }
+{
+    match Session::new(host, setup.config, setup.properties(), device) {
+        Ok(session) => Ok(session),
+        Err(SessionOpenError { device }) => Err(device),
+    }
+}
 
 /// Opens a session over a script's device where `room` bytes are left, and runs its commands. Where its memory is
 /// missing, the device comes back, and serves with ample memory. At the end it holds nothing. Returns whether those
@@ -20,11 +48,26 @@ fn open_script<A: Allocator + Copy>(
     room: usize,
 ) -> Result<bool, Fail> {
     let script = good_script(host, text)?;
-    let (mut session, enough) = ScarceSession::in_room(rt, memory, host, &script, room)?;
-    let ran = session.run(script.commands.as_slice()).is_ok();
-    session.end(rt);
-    same_at(rt, "the commands run after", &room, &ran, &true);
-    Ok(enough)
+    are_usable(rt, &script.setup);
+    let device = device_of(host, &script.setup)?;
+    memory.leave(room)?;
+    let opened = open_over(host, &script.setup, device);
+    memory.lift();
+    let enough = opened.is_ok();
+    let opened = match opened {
+        Ok(session) => Ok(session),
+        Err(device) => open_over(host, &script.setup, device),
+    };
+    match opened {
+        Ok(mut session) => {
+            let ran = session.run(script.commands.as_slice()).is_ok();
+            let (objects, _) = ended(session);
+            let what = "whether the commands run, and objects at the end, after";
+            same_at(rt, what, &room, &(ran, objects), &(true, 0));
+            Ok(enough)
+        }
+        Err(_) => Err(Fail::from("refused with ample memory")),
+    }
 }
 
 /// How often a session over a script's device lacked its memory: never at first, where more bytes are left than it

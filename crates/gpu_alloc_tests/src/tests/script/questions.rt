@@ -2,12 +2,11 @@
 //! changes nothing, and at the end nothing is held.
 
 use super::lists::session_of;
-use super::scripts::{compare, good_script, halves};
+use super::scripts::{compare, ended, good_script, halves};
 use super::whole::BYTES;
 use crate::tests::same::{holds, same, same_at};
 use gpu_script_language::{SimSession, print_reply};
 use gpu_session::{Command, Reply};
-use gpu_sim::Question;
 use std::alloc::{AllocError, Allocator, Global};
 use std::process::Abort;
 use std::test::Fail;
@@ -76,13 +75,8 @@ fn compare_told(rt: &impl Abort, reply: &Reply, before: &[String], after: &[Stri
             let other = if *memory_type == 0 { 1 } else { 0 };
             let held = of_type(before, other);
             holds(rt, held.is_some(), "a type of which nothing is told");
-            same_at(
-                rt,
-                "what is held of type",
-                &other,
-                &of_type(after, other),
-                &held,
-            );
+            let now = of_type(after, other);
+            same_at(rt, "what is held of type", &other, &now, &held);
         }
         Reply::Done => (),
         _ => same(rt, "held after a refusal or a question", &after, &before),
@@ -118,9 +112,7 @@ fn printed_apart(rt: &impl Abort, alloc: Global, text: &str) -> Result<String, F
     let mut printed = String::new(alloc);
     let commands = script.commands.as_slice();
     let ran = run_apart(rt, alloc, &mut session, commands, &mut printed);
-    let device = session.finish();
-    let (objects, allocations) = (device.objects(), device.asked(Question::Allocate));
-    drop(device);
+    let (objects, allocations) = ended(session);
     ran?;
     writeln!(printed, "end objects {objects} allocations {allocations}")?;
     Ok(printed)

@@ -5,6 +5,7 @@ ghost use Rattle.gpu_script_language.specs.Setup.{offered};
 
 use crate::tests::same::{holds, same_at};
 use gpu_script_language::{Script, Setup, SimSession, open, parse, run_script};
+use gpu_sim::Question;
 use std::alloc::{AllocError, Allocator, Global};
 use std::io::Read;
 use std::process::Abort;
@@ -62,6 +63,12 @@ pub(super) fn open_session<A: Allocator + Copy>(
 ) -> Result<SimSession<A>, AllocError> {
     are_usable(rt, setup);
     open(alloc, setup)
+}
+
+/// Ends a session. Returns how many objects its device then holds, and how often it was asked to allocate.
+pub(super) fn ended<A: Allocator + Copy>(session: SimSession<A>) -> (usize, u64) {
+    let device = session.finish();
+    (device.objects(), device.asked(Question::Allocate))
 }
 
 /// The script in valid lines.

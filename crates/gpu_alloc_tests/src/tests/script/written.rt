@@ -15,12 +15,10 @@ type Told = (u32, u64, &'static [u8]);
 
 /// What a table says of a byte.
 fn row_of(rows: &[Told], name: u32, byte: u64) -> &'static [u8] {
-    for (of, at, values) in rows {
-        if *of == name && *at == byte {
-            return values;
-        }
+    match rows.iter().find(|row| (row.0, row.1) == (name, byte)) {
+        Some((_, _, values)) => values,
+        None => &[],
     }
-    &[]
 }
 
 /// The replies to commands that a new session by a script's setup runs as two lists: up to a place, and from it on.

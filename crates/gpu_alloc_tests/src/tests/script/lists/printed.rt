@@ -3,18 +3,8 @@
 
 use super::add_bytes;
 use crate::tests::script::memory::FAULTS;
-use gpu_session::{Fault, Reply};
+use gpu_session::Reply;
 use std::alloc::{AllocError, Global};
-
-/// The line of a fault.
-fn fault_line(fault: Fault) -> &'static str {
-    for (of, line) in &FAULTS {
-        if *of == fault {
-            return line;
-        }
-    }
-    ""
-}
 
 /// Adds the line of a reply.
 fn add_reply(text: &mut String, reply: &Reply) -> Result<(), AllocError> {
@@ -57,7 +47,10 @@ fn add_reply(text: &mut String, reply: &Reply) -> Result<(), AllocError> {
             }
             Ok(())
         }
-        Reply::Fault(fault) => text.push_str(fault_line(*fault)),
+        Reply::Fault(fault) => match FAULTS.iter().find(|(of, _)| of == fault) {
+            Some((_, line)) => text.push_str(line),
+            None => Ok(()),
+        },
     }
 }
 

@@ -20,7 +20,7 @@ new-requires-2-clause-atom c = refl
 pub invariant_of-result : goal.invariant_of-result
 invariant_of-result c =
     let none = map.len-empty nat_cmp Chunk in
-    rw (c.in-Ok.ensures.opened, c.in_ok-device.ensures, c.offer.ensures, c.new-in-Ok.ensures) (
+    rw (c.in-Ok.ensures.opened, c.in_ok-device.ensures, c.offer.ensures.types, c.new-in-Ok.ensures) (
       record {
         known = omega arith;
         same = refl;

@@ -9,7 +9,7 @@ use Rattle.gpu_alloc_tests.proofs.tests.runs.Listed.by_atoms.Goals as goal
 pub invariant_of-result : goal.invariant_of-result
 invariant_of-result c =
     let none = map.len-empty nat_cmp Chunk in
-    rw (c.new-allocator.ensures.opened, c.in_ok-device.ensures, c.offer.ensures, c.new-2.ensures) (
+    rw (c.new-allocator.ensures.opened, c.in_ok-device.ensures, c.offer.ensures.types, c.new-2.ensures) (
       record {
         known = omega arith;
         same = refl;
