@@ -2,8 +2,10 @@
 //! held and what is free is compared with a plain model. What other drawn lists share stands here too: the numbers, and
 //! how often each case came.
 
-ghost use Rattle.std.specs.Prelude.{◌<◌};
+ghost use Rattle.std.specs.Prelude.{◌≤◌, ◌<◌, ◌+◌, ◌^◌, IsTrue};
+ghost use Rattle.std.specs.Int.{is_power_of_two};
 ghost use Rattle.gpu_alloc.specs.AlignMasks.{IsAlignMask};
+ghost use Rattle.gpu_alloc.specs.FreeSpace.{IsMultipleOf};
 
 use super::same::{holds, same, same_at};
 use gpu_alloc::heap::Heap;
@@ -57,6 +59,16 @@ fn mask_of(order: u32) -> u64
 {
     align_masks_of_powers();
     (1 << order) - 1
+}
+
+/// The mask of the atom of a store: of one byte, or of 64. Whole atoms fill a first chunk and a largest one.
+pub(super) fn atom_mask(by_atoms: bool) -> u64
+    ensures power { IsTrue (is_power_of_two (result + 1)) }
+    ensures bound { result + 1 ≤ 2 ^ 62 }
+    ensures starting { IsMultipleOf (result + 1) 8192 }
+    ensures largest { IsMultipleOf (result + 1) 32768 }
+{
+    if by_atoms { 63 } else { 0 }
 }
 
 /// One more.

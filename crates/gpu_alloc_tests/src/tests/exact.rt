@@ -1,12 +1,8 @@
 //! Drawn lists of calls of the allocator of exact runs.
 
-ghost use Rattle.std.specs.Prelude.{◌≤◌, ◌<◌, ◌+◌, ◌^◌, IsTrue};
-ghost use Rattle.std.specs.Int.{is_power_of_two};
-ghost use Rattle.gpu_alloc.specs.AlignMasks.{IsAlignMask};
-ghost use Rattle.gpu_alloc.specs.FreeSpace.{IsMultipleOf};
 ghost use Rattle.gpu_alloc.specs.Steps.{Begins};
 
-use super::drawn::{Came, Done, Keys, State, Store, range_of, state_of};
+use super::drawn::{Came, Done, Keys, State, Store, atom_mask, range_of, state_of};
 use super::lists::{FIRST, LARGEST, MOST, Range, Rule, try_runs};
 use super::offers::{LOCAL, offer};
 use super::same::holds;
@@ -52,23 +48,6 @@ impl Model for Exact {
 }
 
 impl Exact {
-    /// One by atoms of the mask plus one.
-    fn by_atoms(alloc: Global, atom_mask: u64) -> Result<Exact, Fail>
-        requires atom { IsTrue (is_power_of_two (atom_mask + 1)) }
-        requires atom_bound { atom_mask + 1 ≤ 2 ^ 62 }
-        requires starting { IsMultipleOf (atom_mask + 1) 8192 }
-        requires largest { IsMultipleOf (atom_mask + 1) 32768 }
-    {
-        let device = Sim::new(alloc, offer(&[LOCAL], 1))?;
-        let allocator = FitAllocator::new(alloc, FIRST, LARGEST, 0, LOCAL.props, atom_mask);
-        Ok(Exact {
-            allocator,
-            device,
-            heap: Heap::new(1 << 20),
-            remaining: MOST,
-        })
-    }
-
     /// Finds a block under its own key, and returns it under this one, if any. Counts nothing.
     fn put_back<L: Ledger>(
         &mut self,
@@ -101,11 +80,15 @@ impl Store for Exact {
     type Block = FitBlock<SimMemory>;
 
     fn new(alloc: Global, by_atoms: bool) -> Result<Exact, Fail> {
-        if by_atoms {
-            Exact::by_atoms(alloc, 63)
-        } else {
-            Exact::by_atoms(alloc, 0)
-        }
+        let atom_mask = atom_mask(by_atoms);
+        let device = Sim::new(alloc, offer(&[LOCAL], 1))?;
+        let allocator = FitAllocator::new(alloc, FIRST, LARGEST, 0, LOCAL.props, atom_mask);
+        Ok(Exact {
+            allocator,
+            device,
+            heap: Heap::new(1 << 20),
+            remaining: MOST,
+        })
     }
 
     fn refuse(&mut self, nth: u64) -> Done {

@@ -1,11 +1,6 @@
 //! Drawn lists of calls of the free-list allocator.
 
-ghost use Rattle.std.specs.Prelude.{◌≤◌, ◌<◌, ◌+◌, ◌^◌, IsTrue};
-ghost use Rattle.std.specs.Int.{is_power_of_two};
-ghost use Rattle.gpu_alloc.specs.AlignMasks.{IsAlignMask};
-ghost use Rattle.gpu_alloc.specs.FreeSpace.{IsMultipleOf};
-
-use super::drawn::{Came, Done, Keys, State, Store, range_of, state_of};
+use super::drawn::{Came, Done, Keys, State, Store, atom_mask, range_of, state_of};
 use super::lists::{FIRST, LARGEST, MOST, Range, Rule, try_runs};
 use super::offers::{LOCAL, offer};
 use super::same::{holds, same_at};
@@ -49,14 +44,11 @@ impl Model for Listed {
         (IsSoundListing c.allocator × ((c.allocator).final_chunk ≡ 32768)))) };
 }
 
-impl Listed {
-    /// One by atoms of the mask plus one.
-    fn by_atoms(alloc: Global, atom_mask: u64) -> Result<Listed, Fail>
-        requires atom { IsTrue (is_power_of_two (atom_mask + 1)) }
-        requires atom_bound { atom_mask + 1 ≤ 2 ^ 62 }
-        requires starting { IsMultipleOf (atom_mask + 1) 8192 }
-        requires largest { IsMultipleOf (atom_mask + 1) 32768 }
-    {
+impl Store for Listed {
+    type Block = FreeListBlock<SimMemory>;
+
+    fn new(alloc: Global, by_atoms: bool) -> Result<Listed, Fail> {
+        let atom_mask = atom_mask(by_atoms);
         let device = Sim::new(alloc, offer(&[LOCAL], 1))?;
         let allocator = FreeListAllocator::new(alloc, FIRST, LARGEST, 0, LOCAL.props, atom_mask);
         Ok(Listed {
@@ -65,18 +57,6 @@ impl Listed {
             heap: Heap::new(1 << 20),
             remaining: MOST,
         })
-    }
-}
-
-impl Store for Listed {
-    type Block = FreeListBlock<SimMemory>;
-
-    fn new(alloc: Global, by_atoms: bool) -> Result<Listed, Fail> {
-        if by_atoms {
-            Listed::by_atoms(alloc, 63)
-        } else {
-            Listed::by_atoms(alloc, 0)
-        }
     }
 
     fn refuse(&mut self, nth: u64) -> Done {

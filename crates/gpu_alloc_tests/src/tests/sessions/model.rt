@@ -439,8 +439,8 @@ impl Model {
         }
     }
 
-    /// The chunks of a memory type that are shared that way: how many there are, how many blocks are live in them, of how many bytes, and
-    /// how many bytes are free.
+    /// The chunks of a memory type that are shared that way: how many there are, how many blocks are live in them, of
+    /// how many bytes, and how many bytes are free.
     pub(super) fn sums(&self, memory_type: u32) -> (u64, u64, u128, u128) {
         let (mut chunks, mut blocks, mut bytes, mut live) = (0, 0, 0u128, 0u128);
         for held in &self.held {

@@ -1,7 +1,7 @@
 //! What occurs in lists of commands, so that a test fails where something is missing.
 
-use super::{KINDS, Line, NAMES, REFUSED, Written};
-use crate::tests::same::same_at;
+use super::{Line, NAMES, REFUSED, Written};
+use crate::tests::drawn::{came_often, count};
 use gpu_alloc::MapError;
 use gpu_session::Reply;
 use gpu_sim::Sim;
@@ -11,8 +11,23 @@ use std::process::Abort;
 /// How a line begins that is printed for a command without an effect.
 const IDLE: [&str; 5] = ["refused", "fault", "unmapped no", "bytes -", "ranges none"];
 
-/// What must occur in the lists, apart from each kind of command with an effect.
-const CASES: [&str; 14] = [
+/// What must occur in the lists: each kind of command with an effect, and these cases.
+const CASES: [&str; 29] = [
+    "alloc",
+    "required",
+    "preferred",
+    "import",
+    "free",
+    "map",
+    "unmap",
+    "write",
+    "read",
+    "put",
+    "get",
+    "remaining",
+    "cleanup",
+    "ranges",
+    "counts",
     "refused",
     "refuse flush",
     "refuse invalidate",
@@ -29,14 +44,11 @@ const CASES: [&str; 14] = [
     "read of an import",
 ];
 
-/// How many things must occur.
-const ALL: usize = KINDS.len() + CASES.len();
-
 /// What occurred in the lists.
 #[derive(Drop)]
 pub(super) struct Tally {
-    /// Whether each kind of command had an effect, by the places of `KINDS`, and then whether each case occurred.
-    met: [bool; ALL],
+    /// How often each kind of command had an effect and each case occurred: rows of [`CASES`].
+    met: [u64; 29],
 
     /// Which case a read of the block of each name is, if any.
     reads: [&'static str; NAMES],
@@ -46,16 +58,17 @@ impl Tally {
     /// Nothing occurred.
     pub(super) fn new() -> Tally {
         Tally {
-            met: [false; ALL],
+            met: [0; 29],
             reads: [""; NAMES],
         }
     }
 
     /// Marks a kind of command or a case.
     fn mark(&mut self, name: &str) {
-        let names = KINDS.iter().map(|kind| kind.0).chain(CASES);
-        for (met, of) in self.met.iter_mut().zip(names) {
-            *met |= of == name;
+        for (times, case) in self.met.iter_mut().zip(&CASES) {
+            if *case == name {
+                count(times);
+            }
         }
     }
 
@@ -123,10 +136,7 @@ impl Tally {
 
     /// Each thing must have occurred.
     pub(super) fn has_all(&self, rt: &impl Abort) {
-        let names = KINDS.iter().map(|kind| kind.0).chain(CASES);
-        for (met, name) in self.met.iter().zip(names) {
-            same_at(rt, "whether it occurs:", &name, met, &true);
-        }
+        came_often(rt, &CASES, &self.met, 1);
     }
 }
 

@@ -1,22 +1,19 @@
-use Rattle.std.proofs.Common.{refl}
+use Rattle.std.proofs.Common.{refl, subst, arith}
+use Rattle.std.specs.FinMap as map
+use Rattle.std.specs.Ordering.{nat_cmp}
+use Rattle.gpu_alloc.specs.Chunks.{Chunk}
+use Rattle.gpu_alloc.specs.FreeListSound.{IsSoundListing}
+use Rattle.gpu_alloc_tests.proofs.EmptyMaps.{nothing_added}
 use Rattle.gpu_alloc_tests.proofs.tests.runs.ListedStore.new.Goals as goal
 
-pub by_atoms-requires-clause-atom : goal.by_atoms-requires-clause-atom
-unfolding lib.Count.ones
-by_atoms-requires-clause-atom c = refl
-
-pub by_atoms-requires-clause-starting : goal.by_atoms-requires-clause-starting
-by_atoms-requires-clause-starting c = (128, refl)
-
-pub by_atoms-requires-clause-largest : goal.by_atoms-requires-clause-largest
-by_atoms-requires-clause-largest c = (512, refl)
-
-pub by_atoms-requires-else-by_atoms-clause-atom : goal.by_atoms-requires-else-by_atoms-clause-atom
-unfolding lib.Count.ones
-by_atoms-requires-else-by_atoms-clause-atom c = refl
-
-pub by_atoms-requires-else-by_atoms-clause-starting : goal.by_atoms-requires-else-by_atoms-clause-starting
-by_atoms-requires-else-by_atoms-clause-starting c = (8192, refl)
-
-pub by_atoms-requires-else-by_atoms-clause-largest : goal.by_atoms-requires-else-by_atoms-clause-largest
-by_atoms-requires-else-by_atoms-clause-largest c = (32768, refl)
+pub invariant_of-result : goal.invariant_of-result
+invariant_of-result c =
+    let none = map.len-empty nat_cmp Chunk in
+    rw (c.new-allocator.ensures.opened, c.in_ok-device.ensures, c.offer.ensures.types, c.new-2.ensures) (
+      record {
+        known = omega arith;
+        same = refl;
+        holds = λ key. rw (map.get-empty {K = _} {X = Chunk} nat_cmp key) tt;
+      },
+      (record { ledger = omega (arith, nothing_added (λ (chunk : Chunk). chunk.size)); objects = omega (arith, none) }, (omega (arith, none), (subst IsSoundListing c.new-allocator.ensures.opened c.new-allocator.ensures.sound, refl))),
+    )
