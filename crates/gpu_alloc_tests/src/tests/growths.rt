@@ -2,6 +2,7 @@
 //! as before. The calls of blocks, the returns, the cleanup and the end take no memory.
 
 use super::bench::{Bench, Held, close, leave_nothing};
+use super::drawn::count;
 use super::offers::{are_usable, offer};
 use super::same::{holds, same};
 use gpu_alloc::{
@@ -175,31 +176,49 @@ fn open<'a>(
     GpuAllocator::new(memory, Config::i_am_potato(), offered)
 }
 
-/// Whether an allocator can be opened where this many bytes are left. It is then ended.
-fn is_opened_in(rt: &impl Abort, alloc: Global, room: usize) -> Result<bool, Fail> {
+/// Whether an allocator can be opened where this many bytes are left. It is then ended. Returns how many bytes may be
+/// left next, too.
+fn is_opened_in(
+    rt: &impl Abort,
+    alloc: Global,
+    room: usize,
+) -> Result<(bool, Option<usize>), Fail> {
     let memory = ScarceMemory::new(alloc)?;
     memory.leave(room)?;
-    match open(rt, memory.host()) {
+    let opened = open(rt, memory.host());
+    memory.lift();
+    let less = memory.less_room(room);
+    match opened {
         Ok(allocator) => {
             close(rt, allocator);
-            Ok(true)
+            Ok((true, less))
         }
         Err(error) => {
             same(rt, "a refusal", &error, &AllocationError::OutOfHostMemory);
-            Ok(false)
+            Ok((false, less))
         }
     }
 }
 
+/// None is refused at first, and then each request is, the last one first.
 #[test]
 fn each_growth_of_an_opening_is_refused_in_turn(rt: HostRuntime) -> Result<(), Fail> {
-    let mut refused = 0u32;
-    for room in 0..4096 {
-        if is_opened_in(&rt, rt.alloc(), room << 3)? {
-            holds(&rt, refused > 0, "none was refused");
-            return Ok(());
+    let mut refused = 0;
+    let mut room = 1 << 17;
+    for _ in 0..4096 {
+        let (is_opened, less) = is_opened_in(&rt, rt.alloc(), room)?;
+        if is_opened {
+            same(&rt, "refused in more bytes", &refused, &0);
+        } else {
+            count(&mut refused);
         }
-        refused = refused.saturating_add(1);
+        match less {
+            Some(less) => room = less,
+            None => {
+                holds(&rt, refused > 0, "none was refused");
+                return Ok(());
+            }
+        }
     }
-    Err(Fail::from("never opened"))
+    Err(Fail::from("requests without end"))
 }

@@ -26,7 +26,7 @@ use std::process::Abort;
 use std::test::Fail;
 
 /// How many lists are drawn.
-const LISTS: u64 = 48;
+const LISTS: u64 = 24;
 
 /// How many commands a list has, before those that return what is left.
 const COMMANDS: u32 = 96;

@@ -274,11 +274,8 @@ fn may_have_moved(error: MapError) -> bool {
     error != MapError::AlreadyMapped && error != MapError::MapFailed
 }
 
-/// After how many commands the possible values of each byte are compared.
-const PART: usize = 20;
-
-/// Compares each reply with what was written, and the possible values of each byte after each part of the list. Marks
-/// what occurs.
+/// Compares each reply with what was written, and after the command at the place `part` the possible values of each byte.
+/// Marks what occurs.
 fn check_replies(
     rt: &impl Abort,
     alloc: Global,
@@ -286,6 +283,7 @@ fn check_replies(
     commands: &[Command],
     replies: &[Reply],
     printed: &str,
+    part: usize,
     tally: &mut Tally,
 ) -> Result<(), Fail> {
     let mut written = Written::new();
@@ -294,7 +292,7 @@ fn check_replies(
         tally.mark_reply(line, reply, printed, &written);
         let fits = written.after(line, reply);
         same(rt, "a read gives what was written", &fits, &true);
-        if index % PART == PART - 1 {
+        if index == part {
             let commands = commands.get(..=index).unwrap_or(&[]);
             let replies = replies.get(..=index).unwrap_or(&[]);
             compare_told(rt, alloc, commands, replies, &written, tally)?;
@@ -358,11 +356,13 @@ fn answers(
     Ok((replies, text))
 }
 
-/// Draws a list, and runs it by a session and as a script.
+/// Draws a list, and runs it by a session and as a script. The possible values of each byte are compared after its
+/// command at the place `part`.
 fn try_list(
     rt: &impl Abort,
     alloc: Global,
     chance: &mut Chance,
+    part: usize,
     tally: &mut Tally,
 ) -> Result<(), Fail> {
     let mut text = String::new(alloc);
@@ -381,7 +381,7 @@ fn try_list(
         &came,
         &(count, count, false),
     );
-    check_replies(rt, alloc, lines, commands, replies, printed, tally)?;
+    check_replies(rt, alloc, lines, commands, replies, printed, part, tally)?;
     compare(rt, alloc, &[(text, printed, 0)]);
     Ok(())
 }
@@ -390,8 +390,9 @@ fn try_list(
 fn reads_of_drawn_lists_give_what_was_written(rt: HostRuntime) -> Result<(), Fail> {
     let mut chance = Chance { state: 20 };
     let mut tally = Tally::new();
-    for _ in 0..LISTS {
-        try_list(&rt, rt.alloc(), &mut chance, &mut tally)?;
+    for nth in 0..LISTS {
+        let part = (nth % COMMANDS) as usize;
+        try_list(&rt, rt.alloc(), &mut chance, part, &mut tally)?;
     }
     tally.has_all(&rt);
     Ok(())

@@ -2,6 +2,7 @@
 
 use super::questions::told;
 use super::scripts::{ended, good_script, open_session, ran};
+use crate::tests::drawn::count;
 use crate::tests::same::{same, same_at};
 use gpu_alloc::AllocationError;
 use gpu_script_language::{SimSession, print_reply};
@@ -26,6 +27,9 @@ enum Outcome {
     /// The allocator or the device lacked memory.
     Refused,
 }
+
+/// More bytes than a command or a script here takes.
+const MUCH: usize = 1 << 17;
 
 /// Which refusals a command meets: no place for its reply, no memory for the session, none for the allocator or the
 /// device.
@@ -104,7 +108,8 @@ fn run_last<A: Allocator + Copy>(
     Ok(outcome?)
 }
 
-/// Which refusals a command meets, as more bytes are left until it is served. Its reply is then that with ample memory.
+/// Which refusals a command meets: none at first, where more bytes are left than it takes, and then one at each of its
+/// requests, the last one first. Where it is served, its reply is that with ample memory.
 fn refusals(
     rt: &impl Abort,
     alloc: Global,
@@ -113,22 +118,24 @@ fn refusals(
 ) -> Result<Refusals, Fail> {
     let mut met = [false; 3];
     let memory = ScarceMemory::new(alloc)?;
-    let (_, ample) = run_last(rt, alloc, &memory, memory.host(), earlier, command, 1 << 17)?;
-    for room in 0..8192 {
+    let (_, ample) = run_last(rt, alloc, &memory, memory.host(), earlier, command, MUCH)?;
+    let mut room = MUCH;
+    for _ in 0..4096 {
         let memory = ScarceMemory::new(alloc)?;
         let host = memory.host();
-        let (outcome, came) = run_last(rt, alloc, &memory, host, earlier, command, room << 3)?;
+        let (outcome, came) = run_last(rt, alloc, &memory, host, earlier, command, room)?;
         match outcome {
-            Outcome::Served => {
-                same_at(rt, "the reply to", &command, &came, &ample);
-                return Ok(met);
-            }
+            Outcome::Served => same_at(rt, "the reply to", &command, &came, &ample),
             Outcome::NothingRan => met[0] = true,
             Outcome::NoMemory => met[1] = true,
             Outcome::Refused => met[2] = true,
         }
+        match memory.less_room(room) {
+            Some(less) => room = less,
+            None => return Ok(met),
+        }
     }
-    Err(Fail::from("never served"))
+    Err(Fail::from("requests without end"))
 }
 
 /// Nothing is held.
@@ -191,35 +198,51 @@ fn lines_of(printed: &[u8]) -> usize {
     }
 }
 
-/// Each request of the program's own for memory is refused in turn. Then it says only so, by its status too. Those that
-/// its commands make are answered by a line each, and the rest runs.
+/// Compares what the program prints where memory is missing: only that it is, by its status too, or a line for each
+/// command. Returns whether the program's own memory is missing.
+fn compare_ended(rt: &impl Abort, room: usize, status: u8, printed: &[u8], whole: &[u8]) -> bool {
+    if status == 3 {
+        let wanted = "out of memory\n".as_bytes();
+        same_at(rt, "printed in", &room, &printed, &wanted);
+        return true;
+    }
+    let ended = (status, lines_of(printed));
+    let wanted = (0, lines_of(whole));
+    same_at(rt, "status and lines in", &room, &ended, &wanted);
+    false
+}
+
+/// Each request of the program's own for memory is refused in turn, the last one first. Then it says only so, by its
+/// status too. Those that its commands make are answered by a line each, and the rest runs.
 #[test]
 fn a_program_without_memory_says_so_alone(rt: HostRuntime) -> Result<(), Fail> {
     let (status, whole) = ran(rt.alloc(), rt.alloc(), &mut SCRIPT.as_bytes());
     same(&rt, "the status with ample memory", &status, &0);
-    let (mut wanting, mut refused) = (false, false);
-    for room in 0..8192 {
+    let (mut wanting, mut refused) = (0, 0);
+    let mut room = MUCH;
+    for _ in 0..4096 {
         let memory = ScarceMemory::new(rt.alloc())?;
-        memory.leave(room << 3)?;
+        memory.leave(room)?;
         let (status, printed) = ran(rt.alloc(), memory.host(), &mut SCRIPT.as_bytes());
+        memory.lift();
         if printed == whole {
-            let what = "whether it had no memory and whether a command had none";
-            same(&rt, what, &(wanting, refused), &(true, true));
-            return Ok(());
-        }
-        let printed = printed.as_slice();
-        if status == 3 {
-            wanting = true;
-            let wanted = "out of memory\n".as_bytes();
-            same_at(&rt, "printed in", &room, &printed, &wanted);
+            let before = (wanting, refused);
+            same_at(&rt, "whole in less than", &room, &before, &(0, 0));
+        } else if compare_ended(&rt, room, status, printed.as_slice(), whole.as_slice()) {
+            count(&mut wanting);
         } else {
-            refused = true;
-            let ended = (status, lines_of(printed));
-            let wanted = (0, lines_of(whole.as_slice()));
-            same_at(&rt, "status and lines in", &room, &ended, &wanted);
+            count(&mut refused);
+        }
+        match memory.less_room(room) {
+            Some(less) => room = less,
+            None => {
+                let what = "whether it had no memory and whether a command had none";
+                same(&rt, what, &(wanting > 0, refused > 0), &(true, true));
+                return Ok(());
+            }
         }
     }
-    Err(Fail::from("never printed whole"))
+    Err(Fail::from("requests without end"))
 }
 
 /// The text of each fault.

@@ -205,7 +205,13 @@ impl Model {
         let mut gaps = Vec::new(self.alloc);
         for held in &self.held {
             if held.memory_type == memory_type && (way == None || way == Some(held.way)) {
-                let (chunk, live) = ([held.range], self.live.as_slice());
+                let mut live = Vec::new(self.alloc);
+                for block in &self.live {
+                    if block.object == held.range.object {
+                        live.push(*block)?;
+                    }
+                }
+                let (chunk, live) = ([held.range], live.as_slice());
                 let free = match held.way {
                     Way::Buddy => pieces_of(self.alloc, &chunk, live)?,
                     Way::Own | Way::Fit | Way::List => runs_of(self.alloc, &chunk, live)?,
