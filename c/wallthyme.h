@@ -38,8 +38,10 @@
  *   the first call of a request (or of wt_map) until its last call has returned and the object stands under its name in
  *   your table. Hold it too from wt_free or wt_cleanup until you have freed what wt_gone reports. Two allocators share
  *   nothing but the device.
- * - The library takes memory by malloc, realloc and free. A program that replaces one of them replaces all three. No
- *   call is made from a signal handler, nor in a child process between fork and exec.
+ * - The library takes memory by malloc, realloc and free, which align to 16 bytes and return null on failure. A program
+ *   that replaces one of them replaces all three. No call is made from a signal handler, nor in a child process between
+ *   fork and exec.
+ * - wt_open takes less than 96 KiB of the thread's stack, and each other call less than 12.
  *
  * What else to know:
  * - An object whose name wt_gone reports counts as free already. Free it before you make another one, or the device may
@@ -72,6 +74,10 @@
 
 #include <stddef.h>
 #include <stdint.h>
+
+#if UINTPTR_MAX < 0xffffffffffffffffu
+#error "wallthyme.h is for platforms with 64-bit pointers"
+#endif
 
 #ifdef __cplusplus
 extern "C" {

@@ -10,6 +10,13 @@ compile_error!(
      `cd c && make` and `make install` it, for pkg-config to find. (To check or document without it: set DOCS_RS=1.)"
 );
 
+#[cfg(all(wallthyme_no_target, not(doc)))]
+compile_error!(concat!(
+    "There is no library for ",
+    env!("WALLTHYME_TARGET"),
+    ", only for x86_64-unknown-linux-gnu and aarch64-unknown-linux-gnu. (To check or document without it: set DOCS_RS=1.)"
+));
+
 mod allocator;
 mod block;
 mod config;

@@ -232,7 +232,7 @@ fn texts() {
     for (error, text) in &texts {
         assert_eq!(error.to_string(), *text);
     }
-    if std::fs::exists(concat!(env!("CARGO_MANIFEST_DIR"), "/lib/libwallthyme.a")).unwrap() {
+    if std::fs::exists(concat!(env!("CARGO_MANIFEST_DIR"), "/lib")).unwrap() {
         return println!("left out: that the proved program prints them too. A released archive has no texts of that");
     }
     let proved = concat!(env!("CARGO_MANIFEST_DIR"), "/../crates/gpu_alloc_base/src/error.rt");

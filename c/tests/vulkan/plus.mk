@@ -42,19 +42,19 @@ DISCARDS = (echo '\#include "wallthyme.hpp"'; echo 'int f(wallthyme::Allocator &
 
 # Blocks that are live at the end are printed in a debug build, and not in a release build.
 check-plus-programs: $(addprefix $(VULKAN_PROGRAMS)/,plus plus_end plus_end_release $(if $(VULKAN_HPP),plus_hpp))
-	@$(VULKAN_PROGRAMS)/plus
-	@$(VULKAN_PROGRAMS)/plus_end > $(VULKAN_PROGRAMS)/plus_end.wanted 2> $(VULKAN_PROGRAMS)/plus_end.printed
+	@$(RUN) $(VULKAN_PROGRAMS)/plus
+	@$(RUN) $(VULKAN_PROGRAMS)/plus_end > $(VULKAN_PROGRAMS)/plus_end.wanted 2> $(VULKAN_PROGRAMS)/plus_end.printed
 	@cmp $(VULKAN_PROGRAMS)/plus_end.wanted $(VULKAN_PROGRAMS)/plus_end.printed
-	@test -z "$$($(VULKAN_PROGRAMS)/plus_end_release 2>&1 > /dev/null)" || { \
+	@test -z "$$($(RUN) $(VULKAN_PROGRAMS)/plus_end_release 2>&1 > /dev/null)" || { \
 	    echo 'FAILED: a release build prints the blocks that are live at the end' >&2; exit 1; }
 	@echo 'plus_end: blocks that are live at the end are printed, and in a release build not'
 	@test "$$( $(DISCARDS) )" = 2 || { echo 'FAILED: what is warned of is not what is discarded' >&2; exit 1; }
-	@$(if $(VULKAN_HPP),$(VULKAN_PROGRAMS)/plus_hpp,$(if $(SANITIZE),:,echo \
+	@$(if $(VULKAN_HPP),$(RUN) $(VULKAN_PROGRAMS)/plus_hpp,$(if $(SANITIZE),:,echo \
 	    'vulkan/plus_hpp: left out, since vulkan.hpp is not installed'))
 
 # The test has an operator new of its own, which valgrind is not to replace.
 check-plus-valgrind: check-plus-programs
-	@if [ -n '$(SANITIZE)' ] || ! command -v valgrind > /dev/null; then :; \
+	@if [ -n '$(SANITIZE)$(RUN)' ] || ! command -v valgrind > /dev/null; then :; \
 	else $(VALGRIND) --soname-synonyms=somalloc=nouserintercepts $(VULKAN_PROGRAMS)/plus > /dev/null \
 	    && echo 'vulkan/plus under valgrind'; fi
 
@@ -72,7 +72,7 @@ $(TSAN)/plus: $(addprefix tests/vulkan/,plus.cc stub.c ordered.c) wallthyme_vulk
 
 check-plus-threads: check-plus-programs
 	@mkdir -p $(TSAN)
-	@if [ -n '$(SANITIZE)' ]; then :; \
+	@if [ -n '$(SANITIZE)$(RUN)' ]; then :; \
 	elif ! echo 'int main() { return 0; }' | $(CXX) -fsanitize=thread -x c++ - -o $(TSAN)/probe 2> /dev/null \
 	    || ! $(TSAN)/probe; then \
 	    echo 'vulkan/plus under the thread sanitizer: left out, since $(CXX) does not have it here'; \
