@@ -9,7 +9,7 @@
 
 /* The value of the row of this number; WT_LAYOUT_END where there is none. It is no call for users, so wallthyme.h does
  * not declare it. */
-uint32_t wt_layout(uint32_t number);
+WT_API uint32_t wt_layout(uint32_t number);
 
 #define WT_LAYOUT_END UINT32_MAX
 

@@ -79,6 +79,14 @@
 #error "wallthyme.h is for platforms with 64-bit pointers"
 #endif
 
+/* What each call is declared with. On Windows a program that links the DLLs may define WT_DLL, which spares each call a
+   jump; one that links the static libraries must not. */
+#if defined(_WIN32) && defined(WT_DLL)
+#define WT_API __declspec(dllimport)
+#else
+#define WT_API
+#endif
+
 #ifdef __cplusplus
 extern "C" {
 #endif
@@ -350,16 +358,16 @@ typedef struct wt_type_statistics {
 } wt_type_statistics;
 
 /* The library's version: WT_VERSION of the header that it was built with. */
-uint32_t wt_version(void);
+WT_API uint32_t wt_version(void);
 
 /* Opens a closed allocator for a device that offers these.
    WT_ALREADY_OPEN, WT_BAD_PROPERTIES, WT_OUT_OF_HOST_MEMORY: it is unchanged. */
-uint32_t wt_open(wt_allocator *a, const wt_memory_type *types, size_t types_len, const uint64_t *heap_sizes,
-                 size_t heaps_len, const wt_limits *limits, const wt_config *config);
+WT_API uint32_t wt_open(wt_allocator *a, const wt_memory_type *types, size_t types_len, const uint64_t *heap_sizes,
+                        size_t heaps_len, const wt_limits *limits, const wt_config *config);
 
 /* Closes it, and frees all of its memory (tested under valgrind, since no contract can say so).
    WT_NOT_OPEN, WT_STILL_HELD, WT_UNREAD_NAMES: it is unchanged. */
-uint32_t wt_close(wt_allocator *a);
+WT_API uint32_t wt_close(wt_allocator *a);
 
 /* Allocates a block.
    WT_OK: *block says where it lies. Where it is fresh, its object was made by the last WT_GRANTED answer to WT_ALLOCATE
@@ -376,35 +384,35 @@ uint32_t wt_close(wt_allocator *a);
    count, and WT_OUT_OF_DEVICE_MEMORY means that the size is over the limit.
    Of several misuses the first in this order is reported: closed, usage, dedicated, flags, an answer, and then the
    others. */
-uint32_t wt_alloc(wt_allocator *a, const wt_request *request, const wt_question *asked, size_t asked_len,
-                  wt_block *block, wt_question *question);
+WT_API uint32_t wt_alloc(wt_allocator *a, const wt_request *request, const wt_question *asked, size_t asked_len,
+                         wt_block *block, wt_question *question);
 
 /* Imports a range of the caller's own object as a block. The object has object_size bytes and is not mapped. It is the
    allocator's from then on, under the name block->object, and wt_gone reports it once the block is freed. Its heap
    counts the block's size for it, not the object's.
    WT_NOT_OPEN, WT_BAD_MEMORY_TYPE, WT_BAD_SIZE, WT_BAD_RANGE, WT_BAD_IMPORT_END, WT_NO_REMAINING,
    WT_OUT_OF_HOST_MEMORY: nothing is changed, and the object stays the caller's. */
-uint32_t wt_import(wt_allocator *a, uint32_t memory_type, uint64_t object_size, uint64_t offset, uint64_t size,
-                   wt_block *block);
+WT_API uint32_t wt_import(wt_allocator *a, uint32_t memory_type, uint64_t object_size, uint64_t offset, uint64_t size,
+                          wt_block *block);
 
 /* Reports again where a block lies. WT_NOT_OPEN, WT_UNKNOWN_KEY. */
-uint32_t wt_block_of(wt_allocator *a, uint64_t key, wt_block *block);
+WT_API uint32_t wt_block_of(wt_allocator *a, uint64_t key, wt_block *block);
 
 /* Sets the caller's value of a block (wt_block.user), and changes nothing else. WT_NOT_OPEN, WT_UNKNOWN_KEY. */
-uint32_t wt_set_user(wt_allocator *a, uint64_t key, uint64_t user);
+WT_API uint32_t wt_set_user(wt_allocator *a, uint64_t key, uint64_t user);
 
 /* Walks the live blocks, in the order of their keys' places. It writes as many as there are and as fit in room. *count
    is how many it wrote; where that is less than room, there are no more. after is 0 for the first call, and then the
    key of the last block written. Only its place counts (the lower 32 bits of a key); its block may have been freed
    meanwhile. A walk without other calls between writes each live block exactly once. A walk with calls between writes
    each block that lived all along exactly once. With room 0 nothing is written. WT_NOT_OPEN. */
-uint32_t wt_blocks(wt_allocator *a, uint64_t after, wt_block *blocks, size_t room, size_t *count);
+WT_API uint32_t wt_blocks(wt_allocator *a, uint64_t after, wt_block *blocks, size_t room, size_t *count);
 
 /* The memory types that would serve a request with this usage and these permitted types, the best one first, as many as
    fit in room: for imports and for objects that the program makes. *count is how many there are in all, at most 32, and
    may be 0. WT_NOT_OPEN, WT_BAD_USAGE, WT_NO_DEVICE_ADDRESS, WT_OUT_OF_HOST_MEMORY. */
-uint32_t wt_candidates(wt_allocator *a, uint32_t usage, uint32_t memory_types, uint32_t *types, size_t room,
-                       size_t *count);
+WT_API uint32_t wt_candidates(wt_allocator *a, uint32_t usage, uint32_t memory_types, uint32_t *types, size_t room,
+                              size_t *count);
 
 /* Maps size bytes of a block from offset on, counted from its start.
    WT_OK: *mapped says where they lie in the object. A block of a shared object needs no question, as the object was
@@ -413,37 +421,37 @@ uint32_t wt_candidates(wt_allocator *a, uint32_t usage, uint32_t memory_types, u
    WT_NOT_OPEN, WT_UNKNOWN_KEY, WT_BAD_SIZE, WT_BAD_RANGE, WT_NON_HOST_VISIBLE, WT_ALREADY_MAPPED, WT_BAD_ANSWER,
    WT_OTHER_QUESTION, and the device's answers: nothing is changed, and what was mapped for it is the caller's to
    unmap. */
-uint32_t wt_map(wt_allocator *a, uint64_t key, uint64_t offset, uint64_t size, const wt_question *asked,
-                size_t asked_len, wt_range *mapped, wt_question *question);
+WT_API uint32_t wt_map(wt_allocator *a, uint64_t key, uint64_t offset, uint64_t size, const wt_question *asked,
+                       size_t asked_len, wt_range *mapped, wt_question *question);
 
 /* Unmaps a block. *object is the name of the object to unmap (vkUnmapMemory), or 0 where nothing must be unmapped: the
    block was not mapped, or its object is shared and stays mapped. WT_NOT_OPEN, WT_UNKNOWN_KEY. */
-uint32_t wt_unmap(wt_allocator *a, uint64_t key, uint64_t *object);
+WT_API uint32_t wt_unmap(wt_allocator *a, uint64_t key, uint64_t *object);
 
 /* The range to flush after the host wrote size bytes of a block from offset on, or to invalidate before it reads them:
    whole atoms, cut at the block's end. Its size is 0 where no flush is needed: the memory is coherent, or size is 0.
    The range of an import may begin before the block, by less than an atom. WT_NOT_OPEN, WT_UNKNOWN_KEY, WT_BAD_RANGE,
    WT_NON_HOST_VISIBLE. */
-uint32_t wt_range_of(wt_allocator *a, uint64_t key, uint64_t offset, uint64_t size, wt_range *range);
+WT_API uint32_t wt_range_of(wt_allocator *a, uint64_t key, uint64_t offset, uint64_t size, wt_range *range);
 
 /* Frees a block, mapped or not. The device must be done with it. Its object is released with it where no other block is
    in it. Only one chunk of a free list, and one fit chunk of a memory type, wait for wt_cleanup. wt_gone reports what
    is released. The key is invalid from then on. WT_NOT_OPEN, WT_UNKNOWN_KEY. */
-uint32_t wt_free(wt_allocator *a, uint64_t key);
+WT_API uint32_t wt_free(wt_allocator *a, uint64_t key);
 
 /* Releases the last unused chunk of each free list, and of each memory type's fit chunks, too; wt_gone reports them. No
    object is then held without a live block. WT_NOT_OPEN. */
-uint32_t wt_cleanup(wt_allocator *a);
+WT_API uint32_t wt_cleanup(wt_allocator *a);
 
 /* Reads names of released objects, which are the caller's to free (vkFreeMemory): as many as there are and as fit in
    room. *count is how many. Each is read once, in no particular order; the others wait. WT_NOT_OPEN. */
-uint32_t wt_gone(wt_allocator *a, uint64_t *names, size_t room, size_t *count);
+WT_API uint32_t wt_gone(wt_allocator *a, uint64_t *names, size_t room, size_t *count);
 
 /* How many blocks, unread names and objects there are. WT_NOT_OPEN. */
-uint32_t wt_count(wt_allocator *a, wt_counts *counts);
+WT_API uint32_t wt_count(wt_allocator *a, wt_counts *counts);
 
 /* What is held of a heap, and what may still be asked of it. WT_NOT_OPEN, WT_BAD_HEAP. */
-uint32_t wt_heap(wt_allocator *a, uint32_t heap, wt_heap_counts *counts);
+WT_API uint32_t wt_heap(wt_allocator *a, uint32_t heap, wt_heap_counts *counts);
 
 /* Sets a heap's limit, in bytes. From now on no question asks for more of the heap than the limit leaves, given all
    that is held of it: a memory type whose heap has too little left is passed over, not asked. Use it with what
@@ -452,25 +460,25 @@ uint32_t wt_heap(wt_allocator *a, uint32_t heap, wt_heap_counts *counts);
    nothing away: blocks stay, and free bytes of held objects are given out. Imports count, and are never refused for it.
    When an object is made, and how large a shared one is, still depends on the heap's size: no smaller one is tried.
    WT_NOT_OPEN, WT_BAD_HEAP. */
-uint32_t wt_set_heap_limit(wt_allocator *a, uint32_t heap, uint64_t limit);
+WT_API uint32_t wt_set_heap_limit(wt_allocator *a, uint32_t heap, uint64_t limit);
 
 /* Sets how many more objects may be held, on top of those that are. WT_NOT_OPEN, WT_TOO_MANY_REMAINING. */
-uint32_t wt_set_remaining(wt_allocator *a, uint32_t remaining);
+WT_API uint32_t wt_set_remaining(wt_allocator *a, uint32_t remaining);
 
 /* The free ranges of a memory type's shared objects, sorted by object and offset: from index first on, as many as fit
    in room. *count is how many there are in all. WT_NOT_OPEN, WT_BAD_MEMORY_TYPE, WT_OUT_OF_HOST_MEMORY. */
-uint32_t wt_free_ranges(wt_allocator *a, uint32_t memory_type, size_t first, wt_range *ranges, size_t room,
-                        size_t *count);
+WT_API uint32_t wt_free_ranges(wt_allocator *a, uint32_t memory_type, size_t first, wt_range *ranges, size_t room,
+                               size_t *count);
 
 /* What is held of a memory type, by what it is held for. Like wt_report, it takes memory and time for all that is held.
    WT_NOT_OPEN, WT_BAD_MEMORY_TYPE, WT_OUT_OF_HOST_MEMORY. */
-uint32_t wt_statistics(wt_allocator *a, uint32_t memory_type, wt_type_statistics *statistics);
+WT_API uint32_t wt_statistics(wt_allocator *a, uint32_t memory_type, wt_type_statistics *statistics);
 
 /* A report of all that is held, as JSON: heaps, memory types, sums by type and kind, and each object with its live
    blocks (by key and user) and free ranges. scripts/picture of the repository draws it. At most room bytes are written,
    from the start of the text, without a terminating 0. *length is the length of the whole text, so a call with room 0
    returns how much room is needed. WT_NOT_OPEN, WT_OUT_OF_HOST_MEMORY. */
-uint32_t wt_report(wt_allocator *a, char *text, size_t room, size_t *length);
+WT_API uint32_t wt_report(wt_allocator *a, char *text, size_t room, size_t *length);
 
 /* What a status means, in a line without a full stop. */
 static inline const char *wt_text(uint32_t status) {

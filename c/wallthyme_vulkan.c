@@ -1,3 +1,7 @@
+/* The calls are here, and not in a DLL, whatever WT_DLL says. */
+#ifndef WTV_API
+#define WTV_API
+#endif
 #include "wallthyme_vulkan.h"
 
 #include <inttypes.h>

@@ -47,6 +47,12 @@
 #include "wallthyme.h"
 #include <vulkan/vulkan.h>
 
+/* As WT_API. A program that has wallthyme_vulkan.c among its sources and links wallthyme.dll with WT_DLL defines it as
+   nothing, and a build of wallthyme-vulkan.dll as what exports. */
+#ifndef WTV_API
+#define WTV_API WT_API
+#endif
+
 #ifdef __cplusplus
 extern "C" {
 #endif
@@ -160,13 +166,13 @@ typedef struct wtv_range {
    - the device's properties are not valid in Vulkan (an atom or a granularity that is not a power of two);
    - config has a sharing that is neither WT_BUDDY nor WT_FIT;
    - header and library have different versions. */
-VkResult wtv_create(const wtv_create_info *info, wtv_allocator **allocator);
+WTV_API VkResult wtv_create(const wtv_create_info *info, wtv_allocator **allocator);
 
 /* Frees all memory objects, and the allocator itself; null does nothing. Where blocks are live it frees nothing, and
    lists them: VK_ERROR_VALIDATION_FAILED_EXT, *count is their number, and live has the first of them, at most room. So
    check its result: the VkDevice must not be destroyed before it succeeds. live may be null where room is 0, and count
    may be null. */
-VkResult wtv_destroy(wtv_allocator *a, wtv_block *live, size_t room, size_t *count);
+WTV_API VkResult wtv_destroy(wtv_allocator *a, wtv_block *live, size_t room, size_t *count);
 
 /* The configuration of an allocator that is given none. H is the size of the largest device-local heap (of the largest
    heap, where none is device-local). U is H / 1024, rounded down to a power of two, at least 64 KiB and at most 8 MiB.
@@ -174,7 +180,7 @@ VkResult wtv_destroy(wtv_allocator *a, wtv_block *live, size_t room, size_t *cou
    and from 16 U on for transient ones). Free lists' chunks grow from U to 16 U. From 8 GiB on this is
    WT_CONFIG_PROTOTYPING with WT_FIT. With sharing set to WT_BUDDY, there are buddy chunks from U on, with blocks of at
    least 1 KiB, and objects of their own from 4 U on. */
-void wtv_default_config(const VkPhysicalDeviceMemoryProperties *memory, wt_config *config);
+WTV_API void wtv_default_config(const VkPhysicalDeviceMemoryProperties *memory, wt_config *config);
 
 /* ---- Buffers and images. ---- */
 
@@ -191,37 +197,37 @@ void wtv_default_config(const VkPhysicalDeviceMemoryProperties *memory, wt_confi
    There is no second try with WT_REQUIRED or WT_HELD_ONLY.
    After an error whatever was made is destroyed. Where the bind is refused, the block is freed as by wtv_free: an
    unused chunk of transient blocks, or an unused fit chunk, may stay. */
-VkResult wtv_create_buffer(wtv_allocator *a, const VkBufferCreateInfo *info, const wtv_request *request,
-                           VkBuffer *buffer, wtv_allocation *allocation, wtv_block *block);
+WTV_API VkResult wtv_create_buffer(wtv_allocator *a, const VkBufferCreateInfo *info, const wtv_request *request,
+                                   VkBuffer *buffer, wtv_allocation *allocation, wtv_block *block);
 
 /* The same for an image. Not for sparse or disjoint images (VK_ERROR_FEATURE_NOT_PRESENT). */
-VkResult wtv_create_image(wtv_allocator *a, const VkImageCreateInfo *info, const wtv_request *request, VkImage *image,
-                          wtv_allocation *allocation, wtv_block *block);
+WTV_API VkResult wtv_create_image(wtv_allocator *a, const VkImageCreateInfo *info, const wtv_request *request,
+                                  VkImage *image, wtv_allocation *allocation, wtv_block *block);
 
 /* Destroys a buffer or an image, and frees its block. The device must be done with it. A null handle with allocation 0
    does nothing. It is destroyed with wtv_create_info.callbacks: where the program created it itself, it did so with
    compatible ones, or with none where those are null (VUID-vkDestroyBuffer-buffer-00923, -00924,
    VUID-vkDestroyImage-image-01001, -01002). VK_ERROR_VALIDATION_FAILED_EXT: the allocation is unknown, and nothing is
    destroyed. */
-VkResult wtv_destroy_buffer(wtv_allocator *a, VkBuffer buffer, wtv_allocation allocation);
-VkResult wtv_destroy_image(wtv_allocator *a, VkImage image, wtv_allocation allocation);
+WTV_API VkResult wtv_destroy_buffer(wtv_allocator *a, VkBuffer buffer, wtv_allocation allocation);
+WTV_API VkResult wtv_destroy_image(wtv_allocator *a, VkImage image, wtv_allocation allocation);
 
 /* ---- Blocks. ---- */
 
 /* Allocates a block for given requirements; nothing is bound to it. Errors, and a second try, are as for
    wtv_create_buffer. */
-VkResult wtv_allocate(wtv_allocator *a, const VkMemoryRequirements *requirements, const wtv_request *request,
-                      wtv_allocation *allocation, wtv_block *block);
+WTV_API VkResult wtv_allocate(wtv_allocator *a, const VkMemoryRequirements *requirements, const wtv_request *request,
+                              wtv_allocation *allocation, wtv_block *block);
 
 /* Allocates a block for the program's own buffer or image, and binds it. For an image whose tiling is not linear the
    request has WT_OPTIMAL, and for a buffer whose address is used WT_USAGE_DEVICE_ADDRESS. What cannot be served, and
    which errors end a request, is as for wtv_create_buffer and wtv_create_image, but that no flag of the resource is
    checked. Where the bind is refused, the block is freed as by wtv_free: an unused chunk of transient blocks, or an
    unused fit chunk, may stay. The resource stays the program's. */
-VkResult wtv_allocate_for_buffer(wtv_allocator *a, VkBuffer buffer, const wtv_request *request,
-                                 wtv_allocation *allocation, wtv_block *block);
-VkResult wtv_allocate_for_image(wtv_allocator *a, VkImage image, const wtv_request *request,
-                                wtv_allocation *allocation, wtv_block *block);
+WTV_API VkResult wtv_allocate_for_buffer(wtv_allocator *a, VkBuffer buffer, const wtv_request *request,
+                                         wtv_allocation *allocation, wtv_block *block);
+WTV_API VkResult wtv_allocate_for_image(wtv_allocator *a, VkImage image, const wtv_request *request,
+                                        wtv_allocation *allocation, wtv_block *block);
 
 /* Binds a buffer or an image to a block, from offset on. An image whose tiling is not linear wants a block with
    WT_OPTIMAL, and any other resource one without. Several resources may lie in a block, one after the other or at once.
@@ -232,41 +238,41 @@ VkResult wtv_allocate_for_image(wtv_allocator *a, VkImage image, const wtv_reque
    and nothing checks.
    VK_ERROR_VALIDATION_FAILED_EXT: offset is at or behind the requested bytes (wtv_block.asked), or the object was made
    for another resource, or for this one and offset is not 0. Any other error is the driver's. */
-VkResult wtv_bind_buffer(wtv_allocator *a, wtv_allocation allocation, VkDeviceSize offset, VkBuffer buffer);
-VkResult wtv_bind_image(wtv_allocator *a, wtv_allocation allocation, VkDeviceSize offset, VkImage image);
+WTV_API VkResult wtv_bind_buffer(wtv_allocator *a, wtv_allocation allocation, VkDeviceSize offset, VkBuffer buffer);
+WTV_API VkResult wtv_bind_image(wtv_allocator *a, wtv_allocation allocation, VkDeviceSize offset, VkImage image);
 
 /* Frees a block, mapped or not. The device must be done with it, and what was bound to it destroyed. 0 does nothing.
    Its memory object is freed with it where no other block needs it. Of each memory type one unused chunk of transient
    blocks, and one unused fit chunk (WT_FIT), stay until wtv_cleanup. */
-VkResult wtv_free(wtv_allocator *a, wtv_allocation allocation);
+WTV_API VkResult wtv_free(wtv_allocator *a, wtv_allocation allocation);
 
 /* Imports a range of the program's own memory object as a block. The object has object_size bytes, is not mapped, and
    belongs to the allocator from then on, which frees it with wtv_create_info.callbacks: the program made it with
    compatible ones, or with none where those are null. On an error it stays the program's. wtv_candidates writes the
    memory types that serve a usage, the best one first, at most 32, and their number. */
-VkResult wtv_import(wtv_allocator *a, VkDeviceMemory memory, uint32_t memory_type, VkDeviceSize object_size,
-                    VkDeviceSize offset, VkDeviceSize size, wtv_allocation *allocation, wtv_block *block);
-VkResult wtv_candidates(wtv_allocator *a, uint32_t usage, uint32_t memory_type_bits, uint32_t types[32],
-                        uint32_t *count);
+WTV_API VkResult wtv_import(wtv_allocator *a, VkDeviceMemory memory, uint32_t memory_type, VkDeviceSize object_size,
+                            VkDeviceSize offset, VkDeviceSize size, wtv_allocation *allocation, wtv_block *block);
+WTV_API VkResult wtv_candidates(wtv_allocator *a, uint32_t usage, uint32_t memory_type_bits, uint32_t types[32],
+                                uint32_t *count);
 
 /* Reports a block. */
-VkResult wtv_block_of(wtv_allocator *a, wtv_allocation allocation, wtv_block *block);
+WTV_API VkResult wtv_block_of(wtv_allocator *a, wtv_allocation allocation, wtv_block *block);
 
 /* Writes the live blocks, in the order of their places, as many as fit in room. *count is how many it wrote; where that
    is less than room, there are no more. after is 0, or the allocation of the last block that the call before wrote. How
    many are live in all says wtv_count. */
-VkResult wtv_blocks(wtv_allocator *a, wtv_allocation after, wtv_block *blocks, size_t room, size_t *count);
+WTV_API VkResult wtv_blocks(wtv_allocator *a, wtv_allocation after, wtv_block *blocks, size_t room, size_t *count);
 
 /* Sets the program's own value of a block. */
-VkResult wtv_set_user(wtv_allocator *a, wtv_allocation allocation, uint64_t user);
+WTV_API VkResult wtv_set_user(wtv_allocator *a, wtv_allocation allocation, uint64_t user);
 
 /* ---- The host's side. ---- */
 
 /* Maps a block: *bytes is its first byte. Calls nest: each wtv_map needs its wtv_unmap, and the pointer is the same.
    VK_ERROR_MEMORY_MAP_FAILED: the memory is not host-visible, or the driver refused. Unmapping flushes nothing.
    wtv_unmap of a block that is not mapped is refused. */
-VkResult wtv_map(wtv_allocator *a, wtv_allocation allocation, void **bytes);
-VkResult wtv_unmap(wtv_allocator *a, wtv_allocation allocation);
+WTV_API VkResult wtv_map(wtv_allocator *a, wtv_allocation allocation, void **bytes);
+WTV_API VkResult wtv_unmap(wtv_allocator *a, wtv_allocation allocation);
 
 /* wtv_write copies size bytes into a block, from offset on, and flushes them. wtv_read invalidates them and copies them
    out. The memory must be host-visible: ask for WT_USAGE_UPLOAD, WT_USAGE_DOWNLOAD or WT_USAGE_HOST_ACCESS. With
@@ -274,13 +280,14 @@ VkResult wtv_unmap(wtv_allocator *a, wtv_allocation allocation);
    may lie past those that were requested (wtv_block.asked), up to the block's end. After an error of a flush each byte
    is the old one or the new one. The lock is held once before the bytes are copied, and once after that where something
    is flushed or unmapped then: the block must not be freed until the call has returned. */
-VkResult wtv_write(wtv_allocator *a, wtv_allocation allocation, VkDeviceSize offset, const void *bytes, size_t size);
-VkResult wtv_read(wtv_allocator *a, wtv_allocation allocation, VkDeviceSize offset, void *bytes, size_t size);
+WTV_API VkResult wtv_write(wtv_allocator *a, wtv_allocation allocation, VkDeviceSize offset, const void *bytes,
+                           size_t size);
+WTV_API VkResult wtv_read(wtv_allocator *a, wtv_allocation allocation, VkDeviceSize offset, void *bytes, size_t size);
 
 /* Flushes or invalidates ranges of mapped blocks, in at most one call of the driver, or none where all of their memory
    is coherent. VK_ERROR_VALIDATION_FAILED_EXT: a block is not mapped. */
-VkResult wtv_flush(wtv_allocator *a, const wtv_range *ranges, size_t count);
-VkResult wtv_invalidate(wtv_allocator *a, const wtv_range *ranges, size_t count);
+WTV_API VkResult wtv_flush(wtv_allocator *a, const wtv_range *ranges, size_t count);
+WTV_API VkResult wtv_invalidate(wtv_allocator *a, const wtv_range *ranges, size_t count);
 
 /* ---- How much is held. ---- */
 
@@ -289,25 +296,25 @@ VkResult wtv_invalidate(wtv_allocator *a, const wtv_range *ranges, size_t count)
    once a frame. A limit below what is held refuses new objects and frees nothing. VK_ERROR_EXTENSION_NOT_PRESENT:
    without WTV_CREATE_MEMORY_BUDGET, or where the driver fills in no budget, for instance because it lacks the
    extension. */
-VkResult wtv_update_budget(wtv_allocator *a);
+WTV_API VkResult wtv_update_budget(wtv_allocator *a);
 
 /* wtv_set_heap_limit sets one heap's limit by hand; a value at or above the heap's size removes it. wtv_heap reports
    what is held of a heap, and its limit. */
-VkResult wtv_set_heap_limit(wtv_allocator *a, uint32_t heap, VkDeviceSize limit);
-VkResult wtv_heap(wtv_allocator *a, uint32_t heap, wt_heap_counts *counts);
+WTV_API VkResult wtv_set_heap_limit(wtv_allocator *a, uint32_t heap, VkDeviceSize limit);
+WTV_API VkResult wtv_heap(wtv_allocator *a, uint32_t heap, wt_heap_counts *counts);
 
 /* How many blocks and objects there are; and the sums of one memory type. */
-VkResult wtv_count(wtv_allocator *a, wt_counts *counts);
-VkResult wtv_statistics(wtv_allocator *a, uint32_t memory_type, wt_type_statistics *statistics);
+WTV_API VkResult wtv_count(wtv_allocator *a, wt_counts *counts);
+WTV_API VkResult wtv_statistics(wtv_allocator *a, uint32_t memory_type, wt_type_statistics *statistics);
 
 /* All that is held, as JSON that ends in a 0: the sums of each heap and memory type, or a report that also has each
    object, which scripts/picture of the repository draws. *text is the program's, which frees it with wtv_free_text. */
-VkResult wtv_statistics_text(wtv_allocator *a, char **text);
-VkResult wtv_report_text(wtv_allocator *a, char **text);
-void wtv_free_text(char *text);
+WTV_API VkResult wtv_statistics_text(wtv_allocator *a, char **text);
+WTV_API VkResult wtv_report_text(wtv_allocator *a, char **text);
+WTV_API void wtv_free_text(char *text);
 
 /* Frees the memory objects that no block needs. */
-VkResult wtv_cleanup(wtv_allocator *a);
+WTV_API VkResult wtv_cleanup(wtv_allocator *a);
 
 /* What a result of these calls means, in a line without a full stop. */
 static inline const char *wtv_text(VkResult result) {

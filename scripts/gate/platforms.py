@@ -119,7 +119,7 @@ def names_of(nm, file, *words):
 
 def exports(headers=HEADERS):
     """The names of the calls that the headers declare."""
-    found = {name for header in headers for name in re.findall(r"^uint32_t (wt_\w+)\(", read(header), re.M)}
+    found = {name for header in headers for name in re.findall(r"^WT_API .*?\b(wt_\w+)\(", read(header), re.M)}
     if "wt_open" not in found:
         raise Stopped(FAILED, f"{', '.join(headers)} declare no calls")
     return found
