@@ -5,16 +5,25 @@
 #include "wallthyme_vulkan.h"
 
 #include <inttypes.h>
-#include <pthread.h>
 #include <stdarg.h>
 #include <stdbool.h>
 #include <stdio.h>
 #include <stdlib.h>
 #include <string.h>
+#ifdef _WIN32
+#ifndef WIN32_LEAN_AND_MEAN
+#define WIN32_LEAN_AND_MEAN
+#endif
+#include <windows.h>
+#else
+#include <pthread.h>
+#endif
 
 /* A function that a call seldom comes to stands apart: the call itself then saves fewer registers. */
-#ifdef __GNUC__
+#if defined(__GNUC__)
 #define SELDOM __attribute__((noinline))
+#elif defined(_MSC_VER)
+#define SELDOM __declspec(noinline)
 #else
 #define SELDOM
 #endif
@@ -102,6 +111,55 @@ static void take_out(table *t, uint64_t key)
     t->count--;
 }
 
+/* ---- The lock: on Windows its slim one, which is never refused and has no end, and elsewhere that of POSIX. ---- */
+
+#ifdef _WIN32
+typedef SRWLOCK mutex;
+
+static inline bool mutex_begin(mutex *m)
+{
+    InitializeSRWLock(m);
+    return true;
+}
+
+static inline void mutex_end(mutex *m)
+{
+    (void)m;
+}
+
+static inline void mutex_enter(mutex *m)
+{
+    AcquireSRWLockExclusive(m);
+}
+
+static inline void mutex_leave(mutex *m)
+{
+    ReleaseSRWLockExclusive(m);
+}
+#else
+typedef pthread_mutex_t mutex;
+
+static inline bool mutex_begin(mutex *m)
+{
+    return pthread_mutex_init(m, NULL) == 0;
+}
+
+static inline void mutex_end(mutex *m)
+{
+    pthread_mutex_destroy(m);
+}
+
+static inline void mutex_enter(mutex *m)
+{
+    pthread_mutex_lock(m);
+}
+
+static inline void mutex_leave(mutex *m)
+{
+    pthread_mutex_unlock(m);
+}
+#endif
+
 /* ---- The allocator. ---- */
 
 /* A memory object. */
@@ -124,7 +182,7 @@ struct wtv_allocator {
     VkAllocationCallbacks copied_callbacks;
     uint32_t known_types; /* bit i: memory type i has no property that wallthyme does not know */
     bool has_lock, has_budget, has_dedicated;
-    pthread_mutex_t lock;
+    mutex lock;
     table objects;  /* by their names, as pointers */
     table mappings; /* how often a block is mapped, by its key */
 };
@@ -132,13 +190,13 @@ struct wtv_allocator {
 static inline void enter(wtv_allocator *a)
 {
     if (a->has_lock)
-        pthread_mutex_lock(&a->lock);
+        mutex_enter(&a->lock);
 }
 
 static inline void leave(wtv_allocator *a)
 {
     if (a->has_lock)
-        pthread_mutex_unlock(&a->lock);
+        mutex_leave(&a->lock);
 }
 
 static SELDOM VkResult error_of(uint32_t status)
@@ -464,7 +522,8 @@ static VkMemoryRequirements requirements_of(const wtv_allocator *a, const work *
     return needs.memoryRequirements;
 }
 
-static VkResult bind(const wtv_allocator *a, const work *w, VkDeviceMemory memory, VkDeviceSize offset)
+/* (bind is a name of windows.h.) */
+static VkResult bind_to(const wtv_allocator *a, const work *w, VkDeviceMemory memory, VkDeviceSize offset)
 {
     return w->buffer != VK_NULL_HANDLE ? a->call.bind_buffer_memory(a->device, w->buffer, memory, offset)
                                        : a->call.bind_image_memory(a->device, w->image, memory, offset);
@@ -480,7 +539,7 @@ static VkResult allocate_and_bind(wtv_allocator *a, work *w, wtv_request wish, w
     VkResult result = allocate(a, &needs, &wish, w, &key, &block);
     if (result != VK_SUCCESS)
         return result;
-    result = bind(a, w, block.memory, block.offset);
+    result = bind_to(a, w, block.memory, block.offset);
     if (result != VK_SUCCESS) {
         wtv_free(a, key);
         return result;
@@ -661,7 +720,7 @@ static VkResult bind_within(wtv_allocator *a, const work *w, wtv_allocation allo
     if (result == VK_SUCCESS)
         memory = held->memory;
     leave(a);
-    return result == VK_SUCCESS ? bind(a, w, memory, block.offset + offset) : result;
+    return result == VK_SUCCESS ? bind_to(a, w, memory, block.offset + offset) : result;
 }
 
 VkResult wtv_bind_buffer(wtv_allocator *a, wtv_allocation allocation, VkDeviceSize offset, VkBuffer buffer)
@@ -1341,11 +1400,11 @@ static VkResult open_all(wtv_allocator *a, const wtv_create_info *info)
     if (a->has_budget && !is_enabled(info, WTV_CREATE_PROPERTIES2))
         return VK_ERROR_INITIALIZATION_FAILED;
     a->has_lock = (info->flags & WTV_CREATE_NO_LOCK) == 0;
-    if (a->has_lock && pthread_mutex_init(&a->lock, NULL) != 0)
+    if (a->has_lock && !mutex_begin(&a->lock))
         return VK_ERROR_OUT_OF_HOST_MEMORY;
     VkResult result = open_core(a, info);
     if (result != VK_SUCCESS && a->has_lock)
-        pthread_mutex_destroy(&a->lock);
+        mutex_end(&a->lock);
     return result;
 }
 
@@ -1403,7 +1462,7 @@ VkResult wtv_destroy(wtv_allocator *a, wtv_block *live, size_t room, size_t *cou
     wt_close(&a->core);
     leave(a);
     if (a->has_lock)
-        pthread_mutex_destroy(&a->lock);
+        mutex_end(&a->lock);
     free(a->objects.slots);
     free(a->mappings.slots);
     free(a);
