@@ -46,7 +46,7 @@
 #include <string>
 #endif
 
-#if __cplusplus >= 201703L
+#if __cplusplus >= 201703L || (defined(_MSVC_LANG) && _MSVC_LANG >= 201703L)
 #define WALLTHYME_NODISCARD [[nodiscard]]
 #elif defined(__GNUC__)
 #define WALLTHYME_NODISCARD __attribute__((warn_unused_result))
