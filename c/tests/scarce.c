@@ -12,7 +12,9 @@ void *__wrap_malloc(size_t size);
 void *__wrap_calloc(size_t count, size_t size);
 void *__wrap_realloc(void *old, size_t size);
 
-static long served_before; /* how many requests are served before one is refused, or below 0 where none is */
+/* How many requests are served before one is refused, or below 0 where none is, as before main: on Windows what starts
+   the program takes memory too. */
+static long served_before = -1;
 static int is_all_refused;
 static unsigned refusals;
 

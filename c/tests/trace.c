@@ -7,6 +7,11 @@
 #include "common.h"
 #include "layout.h"
 
+#ifdef _WIN32
+#include <fcntl.h>
+#include <io.h>
+#endif
+
 enum { MOST = 400, FEW = 16 };
 
 /* Every shared object has pages of this many bytes. */
@@ -151,6 +156,9 @@ static void step(void) {
 int main(int argc, char **argv) {
     wt_limits limits = device_limits(48, 1);
     expect(argc == 4, "trace SEED STEPS buddy|fit");
+#ifdef _WIN32 /* which would end each line in two bytes */
+    expect(_setmode(_fileno(stdout), _O_BINARY) != -1, "there is no output as it is");
+#endif
     seed_draws(strtoul(argv[1], NULL, 10));
     limits.buffer_image_granularity = page;
     open_device(&allocator, &limits, sharing_named(argv[3]));

@@ -3,9 +3,13 @@
  * and each request for memory of this side's. */
 #include "stub.h"
 
-#include <pthread.h>
 #include <stdarg.h>
 #include <string.h>
+#ifdef _WIN32
+#include <windows.h>
+#else
+#include <pthread.h>
+#endif
 
 /* ---- What the linker puts in place of the functions for memory, of the lock's, and of four of the library's. ---- */
 
@@ -24,7 +28,7 @@ static uint32_t other_version;
    and copies of the program's bytes, and how many of them were made under the lock. Volatile: to the compiler, a memcpy
    does not read it. */
 static volatile struct {
-    pthread_mutex_t *lock;
+    const void *lock; /* of Windows' locks each counts: they have no start that is seen, and the tests have no other */
     bool is_held;
     const char *bytes;
     void (*during)(void); /* what another thread does while they are copied, or null */
@@ -82,6 +86,20 @@ WRAP(void *, memcpy, (void *to, const void *from, size_t size))
     return __real_memcpy(to, from, size);
 }
 
+#ifdef _WIN32
+WRAP(void, AcquireSRWLockExclusive, (SRWLOCK *lock))
+{
+    __real_AcquireSRWLockExclusive(lock);
+    seen_of_lock.holds++;
+    seen_of_lock.is_held = true;
+}
+
+WRAP(void, ReleaseSRWLockExclusive, (SRWLOCK *lock))
+{
+    seen_of_lock.is_held = false;
+    __real_ReleaseSRWLockExclusive(lock);
+}
+#else
 WRAP(int, pthread_mutex_init, (pthread_mutex_t *lock, const pthread_mutexattr_t *attributes))
 {
     seen_of_lock.lock = lock;
@@ -104,6 +122,7 @@ WRAP(int, pthread_mutex_unlock, (pthread_mutex_t *lock))
         seen_of_lock.is_held = false;
     return __real_pthread_mutex_unlock(lock);
 }
+#endif
 
 WRAP(uint32_t, wt_version, (void))
 {
@@ -733,7 +752,9 @@ SPOIL(ask_for_budgets, info->flags |= WTV_CREATE_MEMORY_BUDGET)
 SPOIL(say_a_variant, info->api_version |= 1u << 29)
 SPOIL(say_a_higher_version, info->api_version = VK_MAKE_API_VERSION(0, 1, 4, 0))
 SPOIL(say_no_version, info->api_version = 1)
+#ifndef _WIN32 /* whose lock is never refused */
 SPOIL(refuse_lock, is_lock_refused = true)
+#endif
 SPOIL(change_version, other_version = WT_VERSION + 0x100)
 SPOIL(change_last_number, other_version = WT_VERSION + 1)
 
@@ -758,7 +779,9 @@ static const creation creations[] = {
     {"an atom of 3 bytes", UNFIT, .atom = 3},
     {"pages of 3 bytes", UNFIT, .page = 3},
     {"neither buddy nor fit chunks", UNFIT, .spoil = share_in_a_third_way},
+#ifndef _WIN32
     {"no lock", VK_ERROR_OUT_OF_HOST_MEMORY, .spoil = refuse_lock},
+#endif
     {"another version of the library", UNFIT, .spoil = change_version},
     {"a version that differs in its last number", VK_SUCCESS, .spoil = change_last_number},
     {"1.0", VK_SUCCESS, .api_version = VK_API_VERSION_1_0},
@@ -1889,6 +1912,7 @@ static void run_configs(void)
 
 int main(void)
 {
+    live_memory = 0; /* what started the program may hold some */
     for (size_t i = 0; i < LENGTH(rows); i++)
         run_row(&rows[i]);
     run_unknown();
