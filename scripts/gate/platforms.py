@@ -1,7 +1,7 @@
 """The platforms for which the library is made, and how the modules that scripts/modules keeps become it.
 
-On each of them `make -C c` links, tests and installs it, by that platform's tools and the words from here. On x86-64
-Linux it needs none of them.
+On Linux `make -C c` links, tests and installs it, by that platform's tools and the words from here; on x86-64 it needs
+none of them. For Windows the module is retargeted (retargeted.py), and c/tests/portable tests what comes.
 """
 import dataclasses
 import os
@@ -17,8 +17,9 @@ from proved import ROOT
 # What the library may want of others, and the headers that declare all it has.
 WANTED = {"malloc", "realloc", "free", "memcpy", "memmove", "memset", "__udivti3"}
 HEADERS = f"{ROOT}/c/wallthyme.h", f"{ROOT}/c/layout.h"
-# The numbers by which ELF files name processors.
+# The numbers by which files name processors: those of ELF, and the objects of Windows.
 MACHINES = {62: "x86_64", 183: "aarch64"}
+WINDOWS_MACHINES = {0x8664: "x86_64", 0xaa64: "aarch64"}
 # What the Makefile calls its tools, and what they are called.
 TOOLS = {"CC": "gcc", "CXX": "g++", "AR": "ar", "LD": "ld", "NM": "nm", "OBJCOPY": "objcopy"}
 # Its object over malloc. (The text names no target; the module's own words name it by its triple.)
@@ -39,6 +40,9 @@ class Platform:
     least: str = ""
     edits: str = "none"
     never_run: str = ""
+    # Of a platform to which the module is retargeted: how clang names it, and its system.
+    triple: str = ""
+    system: str = "linux"
 
     @property
     def build(self):
@@ -90,22 +94,33 @@ ARM64 = Platform(
     "aarch64-unknown-linux-gnu", "aarch64-linux-gnu", "aarch64", "aarch64-linux-gnu-",
     ("qemu-aarch64", "-L", "/usr/aarch64-linux-gnu"), "ARMv8-A",
     never_run="on such a processor itself; over a Vulkan driver; the Rust crate")
+WINDOWS = Platform(
+    "x86_64-pc-windows-gnu", "x86_64-windows", "x86_64", "x86_64-w64-mingw32-", ("/usr/lib/wine/wine64",),
+    triple="x86_64-w64-windows-gnu", system="windows")
 PLATFORMS = {each.target: each for each in (X86_64, ARM64)}
+# Those whose tests run here and for which no archive is made yet.
+TESTED_ALONE = {WINDOWS.target: WINDOWS}
 
 
-def platform(target):
+def platform(target, among=PLATFORMS):
     """The platform of a target."""
-    if target not in PLATFORMS:
-        raise Stopped(USAGE, f"there is no library for {target}, only for {', '.join(PLATFORMS)}")
-    return PLATFORMS[target]
+    if target not in among:
+        raise Stopped(USAGE, f"there is no library for {target}, only for {', '.join(among)}")
+    return among[target]
 
 
 def machine_of(content):
     """The processor of an ELF file, or of the first object in an archive; nothing where it is neither."""
-    at = content.find(b"\x7fELF", 0, 4096)
-    if not content.startswith((b"\x7fELF", b"!<arch>\n")) or at < 0:
-        return None
-    return MACHINES.get(int.from_bytes(content[at + 18:at + 20], "little"), "another processor")
+    if content.startswith(b"!<arch>\n"):
+        at = 8
+        # (lists of names come first; each part stands behind 60 bytes that say what it is called and its length)
+        while content[at:at + 16].strip() in (b"/", b"//"):
+            length = int(content[at + 48:at + 58])
+            at += 60 + length + length % 2
+        content = content[at + 60:]
+    is_elf = content.startswith(b"\x7fELF")
+    number = int.from_bytes(content[18:20] if is_elf else content[:2], "little")
+    return (MACHINES if is_elf else WINDOWS_MACHINES).get(number)
 
 
 def names_of(nm, file, *words):
@@ -125,13 +140,13 @@ def exports(headers=HEADERS):
     return found
 
 
-def hold_to_lists(nm, library, processor, declared, *words):
+def hold_to_lists(nm, library, processor, declared, *words, wanted=WANTED):
     """Holds a library to its processor, to what it may want of others, and to the calls that are declared."""
     with open(library, "rb") as file:
         found = machine_of(file.read())
     if found != processor:
         raise Stopped(FAILED, f"{library} is for {found or 'no processor'}, and not for {processor}")
-    foreign = names_of(nm, library, *words, "-u") - WANTED
+    foreign = names_of(nm, library, *words, "-u") - wanted
     if foreign:
         raise Stopped(FAILED, f"{library} wants {', '.join(sorted(foreign))}")
     differ = names_of(nm, library, *words, "-g", "--defined-only") ^ declared

@@ -5,15 +5,18 @@ import hashlib
 import os
 import subprocess
 
-from captured import capture, kept
+from captured import capture, kept, tool
 from edits import read
 from ending import FAILED, Stopped
-from platforms import X86_64, exports, hold_to_lists
+from platforms import WANTED, X86_64, exports, hold_to_lists
 from proved import OUT, ROOT, say, sources
+from retargeted import compile_for
 
 # What is tested beside the library, and what drawn calls print.
 FOLDERS = "c", "examples"
 TRACE = "tests/trace.log"
+# What Windows' compilers call for a large stack.
+PROBES = {"___chkstk_ms", "__chkstk"}
 # Lines of `make check` that are not kept: what was made, and what another run would count otherwise.
 NOT_KEPT = "made ", "size: "
 # The most lines that are shown of what failed.
@@ -58,10 +61,36 @@ def emulated(platform):
     return said.splitlines()[0]
 
 
+def test_retargeted(platform):
+    """Makes a static library of the module, retargeted, holds it to its lists and runs all tests that go there."""
+    edits = compile_for(platform, platform.build)
+    library = f"{platform.build}/libwallthyme.a"
+    tool("llvm-ar", "rcD", library, f"{platform.build}/wallthyme.o")
+    hold_to_lists(f"{platform.tools}nm", library, platform.processor, exports(), wanted=WANTED | PROBES)
+    headers = f"{platform.build}/headers"
+    os.mkdir(headers)
+    for name in ("vulkan", "vk_video"):
+        os.symlink(f"/usr/include/{name}", f"{headers}/{name}")
+    words = [f"{ROOT}/c/tests/portable", library, f"{platform.build}/tests", f"CC={platform.cc}",
+             f"CXX={platform.cxx}-posix", f"RUN={platform.emulator[0]}", "LINK=-static", f"VULKAN={headers}",
+             "WITHOUT=stack:Windows has no such stacks"]
+    env = {**os.environ, "WINEDEBUG": "-all", "WINEPREFIX": f"{platform.build}/wine"}
+    # (a server that stays for a minute, or each of some hundred programs would start its own)
+    server = platform.emulator[0].replace("wine64", "wineserver64")
+    subprocess.run([server, "-p60"], env=env, stdin=subprocess.DEVNULL, capture_output=True)
+    ran = subprocess.run(words, env=env, stdin=subprocess.DEVNULL, stdout=subprocess.PIPE, text=True, errors="replace")
+    if ran.returncode:
+        raise Stopped(FAILED, f"the tests for {platform.target} ended with status {ran.returncode}\n{ran.stdout[-3000:]}")
+    return [f"under {emulated(platform)}", *(f"edit of the module: {line}" for line in edits), *ran.stdout.splitlines(),
+            compare_traces(platform)]
+
+
 def test(platform):
     """Makes the library of its module, holds it to its lists and runs all tests. Returns a line for each."""
     if not kept():
         say(f"the modules are kept in {os.path.relpath(capture(), ROOT)}")
+    if platform.triple:
+        return test_retargeted(platform)
     platform.make_heap()
     make(platform, "all")
     nm = f"{platform.tools}nm"
