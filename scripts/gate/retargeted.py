@@ -10,9 +10,8 @@ import shutil
 from captured import MODULES, OBJECT, WORDS, module_of, tool
 from edits import read
 from ending import NOT_BUILT, Stopped
-from proved import ROOT
+from platforms import HEAP
 
-HEAP = f"{ROOT}/c/heap.ll"
 # The words by which clang reads a module and leaves it as it is.
 AS_IT_IS = ("-x", "ir", "-emit-llvm", "-O0", "-Xclang", "-disable-llvm-passes", "--no-default-config",
             "-Wno-override-module")
@@ -43,8 +42,7 @@ def retargeted(text, system):
 
 def words_of(given, folder):
     """The kit's words of the call that compiled a module, for another target."""
-    left = iter(read(f"{given.modules}/{WORDS}").splitlines())
-    for word in left:
+    for word in read(f"{given.modules}/{WORDS}").splitlines():
         if word.startswith("--target="):
             yield f"--target={given.triple}"
         elif word in MODULES:

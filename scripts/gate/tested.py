@@ -75,9 +75,6 @@ def test_retargeted(platform):
              f"CXX={platform.cxx}-posix", f"RUN={platform.emulator[0]}", "LINK=-static", f"VULKAN={headers}",
              "WITHOUT=stack:Windows has no such stacks"]
     env = {**os.environ, "WINEDEBUG": "-all", "WINEPREFIX": f"{platform.build}/wine"}
-    # (a server that stays for a minute, or each of some hundred programs would start its own)
-    server = platform.emulator[0].replace("wine64", "wineserver64")
-    subprocess.run([server, "-p60"], env=env, stdin=subprocess.DEVNULL, capture_output=True)
     ran = subprocess.run(words, env=env, stdin=subprocess.DEVNULL, stdout=subprocess.PIPE, text=True, errors="replace")
     if ran.returncode:
         raise Stopped(FAILED, f"the tests for {platform.target} ended with status {ran.returncode}\n{ran.stdout[-3000:]}")

@@ -122,12 +122,12 @@ class Trial:
     def libraries(self):
         """Each library is for its platform, wants what it may of others, and has the calls that its header declares."""
         declared = exports((self.stage / "include/wallthyme.h", self.stage / "rust/lib/layout.h"))
-        shared = (self.stage / "lib").resolve() / os.readlink(self.stage / "lib/libwallthyme.so")
+        shared = (self.stage / "lib/libwallthyme.so").resolve()
         nm = f"{self.given.tools}nm"
         if not self.has("what the libraries want and have", nm):
             return
         hold_to_lists(nm, str(self.archive), self.given.processor, declared)
-        hold_to_lists(nm, str(shared.resolve()), self.given.processor, declared, "-D")
+        hold_to_lists(nm, str(shared), self.given.processor, declared, "-D")
         for each in PLATFORMS.values():
             inside = self.stage / f"rust/lib/{each.target}/libwallthyme.a"
             if inside.exists() and self.has(f"what the Rust crate's library for {each.target} wants", f"{each.tools}nm"):
