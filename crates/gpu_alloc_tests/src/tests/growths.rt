@@ -203,19 +203,21 @@ fn is_opened_in(
 /// None is refused at first, and then each request is, the last one first.
 #[test]
 fn each_growth_of_an_opening_is_refused_in_turn(rt: HostRuntime) -> Result<(), Fail> {
-    let mut refused = 0;
+    let (mut opened, mut refused) = (0, 0);
     let mut room = 1 << 17;
     for _ in 0..4096 {
         let (is_opened, less) = is_opened_in(&rt, rt.alloc(), room)?;
         if is_opened {
             same(&rt, "refused in more bytes", &refused, &0);
+            count(&mut opened);
         } else {
             count(&mut refused);
         }
         match less {
             Some(less) => room = less,
             None => {
-                holds(&rt, refused > 0, "none was refused");
+                let came = (opened > 0, refused > 0);
+                same(&rt, "opened and refused", &came, &(true, true));
                 return Ok(());
             }
         }

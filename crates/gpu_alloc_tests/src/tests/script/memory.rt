@@ -118,7 +118,8 @@ fn refusals(
 ) -> Result<Refusals, Fail> {
     let mut met = [false; 3];
     let memory = ScarceMemory::new(alloc)?;
-    let (_, ample) = run_last(rt, alloc, &memory, memory.host(), earlier, command, MUCH)?;
+    let (first, ample) = run_last(rt, alloc, &memory, memory.host(), earlier, command, MUCH)?;
+    same_at(rt, "with ample memory", &command, &first, &Outcome::Served);
     let mut room = MUCH;
     for _ in 0..4096 {
         let memory = ScarceMemory::new(alloc)?;
@@ -218,7 +219,7 @@ fn compare_ended(rt: &impl Abort, room: usize, status: u8, printed: &[u8], whole
 fn a_program_without_memory_says_so_alone(rt: HostRuntime) -> Result<(), Fail> {
     let (status, whole) = ran(rt.alloc(), rt.alloc(), &mut SCRIPT.as_bytes());
     same(&rt, "the status with ample memory", &status, &0);
-    let (mut wanting, mut refused) = (0, 0);
+    let (mut served, mut wanting, mut refused) = (0, 0, 0);
     let mut room = MUCH;
     for _ in 0..4096 {
         let memory = ScarceMemory::new(rt.alloc())?;
@@ -228,6 +229,7 @@ fn a_program_without_memory_says_so_alone(rt: HostRuntime) -> Result<(), Fail> {
         if printed == whole {
             let before = (wanting, refused);
             same_at(&rt, "whole in less than", &room, &before, &(0, 0));
+            count(&mut served);
         } else if compare_ended(&rt, room, status, printed.as_slice(), whole.as_slice()) {
             count(&mut wanting);
         } else {
@@ -236,8 +238,9 @@ fn a_program_without_memory_says_so_alone(rt: HostRuntime) -> Result<(), Fail> {
         match memory.less_room(room) {
             Some(less) => room = less,
             None => {
-                let what = "whether it had no memory and whether a command had none";
-                same(&rt, what, &(wanting > 0, refused > 0), &(true, true));
+                let what = "whether all had memory, it had none, and a command had none";
+                let came = (served > 0, wanting > 0, refused > 0);
+                same(&rt, what, &came, &(true, true, true));
                 return Ok(());
             }
         }
