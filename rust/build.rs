@@ -52,6 +52,7 @@ fn main() {
     }
     let target = env::var("TARGET").unwrap_or_default();
     println!("cargo:rustc-env=WALLTHYME_TARGET={target}");
+    println!("cargo:rustc-env=WALLTHYME_TARGETS={}", LIBRARIES.map(|library| library.target).join(", "));
     let documents = env::var_os("DOCS_RS").is_some();
     let Some(library) = LIBRARIES.iter().find(|library| library.target == target) else {
         if !documents {

@@ -14,7 +14,9 @@ compile_error!(
 compile_error!(concat!(
     "There is no library for ",
     env!("WALLTHYME_TARGET"),
-    ", only for x86_64-unknown-linux-gnu and aarch64-unknown-linux-gnu. (To check or document without it: set DOCS_RS=1.)"
+    ", only for ",
+    env!("WALLTHYME_TARGETS"),
+    ". (To check or document without it: set DOCS_RS=1.)"
 ));
 
 mod allocator;

@@ -92,6 +92,8 @@ impl Script {
         let folder = row("cargo:rustc-link-search=native=");
         assert_eq!(folder.is_some(), said.contains("cargo:rustc-link-lib=static=wallthyme"));
         assert_eq!(row("cargo:rustc-env=WALLTHYME_TARGET=").as_deref(), Some(target));
+        let targets = OBJECTS.map(|(target, ..)| target).join(", ");
+        assert_eq!(row("cargo:rustc-env=WALLTHYME_TARGETS="), Some(targets));
         (folder, row("cargo:rustc-cfg="))
     }
 
