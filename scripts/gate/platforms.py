@@ -1,48 +1,68 @@
-"""The platforms for which the library is made, and how the modules that scripts/modules keeps become it.
+"""The platforms for which the library is made.
 
 On Linux `make -C c` links, tests and installs it, by that platform's tools and the words from here; on x86-64 it needs
-none of them. For Windows the module is retargeted (retargeted.py), and c/tests/portable tests what comes.
+none of them. For the others the module that scripts/modules keeps is retargeted (retargeted.py), and made.py makes
+libraries of what comes.
 """
 import dataclasses
 import os
-import re
 import shutil
-import subprocess
 
 from captured import ARCHIVE, place, tool
-from edits import read
-from ending import FAILED, USAGE, Stopped
+from ending import USAGE, Stopped
 from proved import ROOT
 
-# What the library may want of others, and the headers that declare all it has.
-WANTED = {"malloc", "realloc", "free", "memcpy", "memmove", "memset", "__udivti3"}
-HEADERS = f"{ROOT}/c/wallthyme.h", f"{ROOT}/c/layout.h"
-# The numbers by which files name processors: those of ELF, and the objects of Windows.
-MACHINES = {62: "x86_64", 183: "aarch64"}
-WINDOWS_MACHINES = {0x8664: "x86_64", 0xaa64: "aarch64"}
 # What the Makefile calls its tools, and what they are called.
 TOOLS = {"CC": "gcc", "CXX": "g++", "AR": "ar", "LD": "ld", "NM": "nm", "OBJCOPY": "objcopy"}
-# Its object over malloc. (The text names no target; the module's own words name it by its triple.)
+# Of mingw's others are needed, and Debian has its compilers twice: these have the threads of C++.
+TOOLS_OF_WINDOWS = {"CC": "gcc-posix", "CXX": "g++-posix", "AR": "ar", "NM": "nm", "OBJCOPY": "objcopy",
+                    "OBJDUMP": "objdump", "DLLTOOL": "dlltool"}
+# The library's object over malloc. (The text names no target; the module's own words name it by its triple.)
 HEAP = f"{ROOT}/c/heap.ll"
 HEAP_WORDS = ("-O2", "-fPIC", "-fno-ident", "-Wno-override-module", "-x", "ir", "-c", HEAP, "-o")
 
 
 @dataclasses.dataclass(frozen=True)
-class Platform:
-    """A platform by its target, as Rust names it, and by the name that archives have. Which module it is made of; how
-    its tools begin; the words that start its programs; and what its PROVENANCE says."""
+class Library:
+    """A static library by its target, as Rust names it; how clang names that, where the module is retargeted to it; and
+    the library's file."""
 
     target: str
+    triple: str = ""
+    file: str = "libwallthyme.a"
+
+
+@dataclasses.dataclass(frozen=True)
+class Platform:
+    """A platform by the name that archives have, with its static libraries, the first of which names it. Which module it
+    is made of; its system, as CMake names it; how its tools begin; the words that start its programs; and what its
+    PROVENANCE says."""
+
     name: str
     processor: str
+    libraries: tuple
+    system: str = "Linux"
     tools: str = ""
     emulator: tuple = ()
     least: str = ""
-    edits: str = "none"
     never_run: str = ""
-    # Of a platform to which the module is retargeted: how clang names it, and its system.
-    triple: str = ""
-    system: str = "linux"
+
+    @property
+    def target(self):
+        return self.libraries[0].target
+
+    @property
+    def is_retargeted(self):
+        return bool(self.libraries[0].triple)
+
+    @property
+    def is_windows(self):
+        return self.system == "Windows"
+
+    @property
+    def runs(self):
+        """Whether its programs run here."""
+        return not self.is_retargeted or bool(self.emulator)
 
     @property
     def build(self):
@@ -54,33 +74,36 @@ class Platform:
         """What is kept of its module."""
         return f"{place()}/{self.processor}"
 
-    @property
-    def cc(self):
-        return f"{self.tools}gcc" if self.tools else "cc"
-
-    @property
-    def cxx(self):
-        return f"{self.tools}g++" if self.tools else "c++"
-
-    @property
-    def cmake(self):
-        """The words by which CMake builds for it."""
+    def tool(self, name):
+        """The command that the Makefile calls so."""
         if not self.tools:
-            return ()
-        return ("-DCMAKE_SYSTEM_NAME=Linux", f"-DCMAKE_SYSTEM_PROCESSOR={self.processor}",
-                f"-DCMAKE_C_COMPILER={self.cc}")
+            return {"CC": "cc", "CXX": "c++"}.get(name, TOOLS[name])
+        return f"{self.tools}{(TOOLS_OF_WINDOWS if self.is_windows else TOOLS)[name]}"
+
+    @property
+    def archive(self):
+        """What its archives end with."""
+        return f"-{self.name}.{'zip' if self.is_windows else 'tar.gz'}"
+
+    def toolchain(self):
+        """The toolchain file by which CMake builds for it; nothing for this machine."""
+        if not self.tools:
+            return ""
+        rows = (("SYSTEM_NAME", self.system), ("SYSTEM_PROCESSOR", self.processor), ("C_COMPILER", self.tool("CC")))
+        return "".join(f"set(CMAKE_{name} {value})\n" for name, value in rows)
 
     def missing(self):
-        """The first of its tools that is not there, if one is not."""
-        names = [f"{self.tools}{name}" for name in TOOLS.values()] if self.tools else [self.cc]
-        found = (name for name in ["make", *names, *self.emulator[:1]] if not shutil.which(name))
-        return next(found, None)
+        """The first of its tools that is not there, if one is not. What is built alone needs none."""
+        needed = ["make", self.tool("CC")] if not self.is_retargeted else []
+        if self.tools:
+            needed += map(self.tool, TOOLS_OF_WINDOWS if self.is_windows else TOOLS)
+        return next((name for name in (*needed, *self.emulator[:1]) if not shutil.which(name)), None)
 
     def words(self):
         """What `make` needs to know, beside what it is to make."""
         words = {"BUILD": os.path.relpath(self.build, f"{ROOT}/c"), "WALLTHYME_ARCHIVE": f"{self.modules}/{ARCHIVE}"}
         if self.tools:
-            words |= {name: f"{self.tools}{tool}" for name, tool in TOOLS.items()}
+            words |= {name: self.tool(name) for name in TOOLS}
             words |= {"HEAP": f"{self.build}/heap.o", "RUN": " ".join(self.emulator)}
         return [f"{name}={value}" for name, value in words.items()]
 
@@ -89,66 +112,34 @@ class Platform:
         tool("clang", f"--target={self.target}", *HEAP_WORDS, f"{self.build}/heap.o")
 
 
-X86_64 = Platform("x86_64-unknown-linux-gnu", "x86_64-linux-gnu", "x86_64")
+X86_64 = Platform("x86_64-linux-gnu", "x86_64", (Library("x86_64-unknown-linux-gnu"),))
 ARM64 = Platform(
-    "aarch64-unknown-linux-gnu", "aarch64-linux-gnu", "aarch64", "aarch64-linux-gnu-",
-    ("qemu-aarch64", "-L", "/usr/aarch64-linux-gnu"), "ARMv8-A",
+    "aarch64-linux-gnu", "aarch64", (Library("aarch64-unknown-linux-gnu"),), tools="aarch64-linux-gnu-",
+    emulator=("qemu-aarch64", "-L", "/usr/aarch64-linux-gnu"), least="ARMv8-A",
     never_run="on such a processor itself; over a Vulkan driver; the Rust crate")
 WINDOWS = Platform(
-    "x86_64-pc-windows-gnu", "x86_64-windows", "x86_64", "x86_64-w64-mingw32-", ("/usr/lib/wine/wine64",),
-    triple="x86_64-w64-windows-gnu", system="windows")
-PLATFORMS = {each.target: each for each in (X86_64, ARM64)}
-# Those whose tests run here and for which no archive is made yet.
-TESTED_ALONE = {WINDOWS.target: WINDOWS}
+    "x86_64-windows", "x86_64", (Library("x86_64-pc-windows-gnu", "x86_64-w64-windows-gnu"),
+                                 Library("x86_64-pc-windows-msvc", "x86_64-pc-windows-msvc", "wallthyme.lib")),
+    "Windows", "x86_64-w64-mingw32-", ("/usr/lib/wine/wine64",), "x86-64-v2",
+    never_run="on Windows itself; by MSVC's compiler and linker; the Rust crate")
+# Those that are built here, and run nowhere here.
+MACOS_ARM64 = Platform(
+    "aarch64-macos", "aarch64", (Library("aarch64-apple-darwin", "arm64-apple-macos11"),), "Darwin", least="ARMv8-A")
+MACOS_X86_64 = Platform(
+    "x86_64-macos", "x86_64", (Library("x86_64-apple-darwin", "x86_64-apple-macos10.13"),), "Darwin", least="x86-64-v2")
+ANDROID = Platform(
+    "aarch64-android", "aarch64", (Library("aarch64-linux-android", "aarch64-linux-android24"),), "Android",
+    least="ARMv8-A")
+WINDOWS_ARM64 = Platform(
+    "aarch64-windows", "aarch64",
+    (Library("aarch64-pc-windows-msvc", "aarch64-pc-windows-msvc", "wallthyme.lib"),), "Windows", least="ARMv8-A")
+PLATFORMS = X86_64, ARM64, WINDOWS, MACOS_ARM64, MACOS_X86_64, ANDROID, WINDOWS_ARM64
 
 
-def platform(target, among=PLATFORMS):
+def platform(target):
     """The platform of a target."""
-    if target not in among:
-        raise Stopped(USAGE, f"there is no library for {target}, only for {', '.join(among)}")
-    return among[target]
-
-
-def machine_of(content):
-    """The processor of an ELF file, or of the first object in an archive; nothing where it is neither."""
-    if content.startswith(b"!<arch>\n"):
-        at = 8
-        # (lists of names come first; each part stands behind 60 bytes that say what it is called and its length)
-        while content[at:at + 16].strip() in (b"/", b"//"):
-            length = int(content[at + 48:at + 58])
-            at += 60 + length + length % 2
-        content = content[at + 60:]
-    is_elf = content.startswith(b"\x7fELF")
-    number = int.from_bytes(content[18:20] if is_elf else content[:2], "little")
-    return (MACHINES if is_elf else WINDOWS_MACHINES).get(number)
-
-
-def names_of(nm, file, *words):
-    """The names that `nm` tells of a file."""
-    ran = subprocess.run([nm, *words, file], stdin=subprocess.DEVNULL, capture_output=True, text=True)
-    if ran.returncode:
-        raise Stopped(FAILED, f"{nm} cannot read {file}: {ran.stderr.strip()}")
-    # (what is weak may stay absent, and a version's own name is absolute)
-    return {name.split("@")[0] for kind, name in re.findall(r" (\w) (\S+)$", ran.stdout, re.M) if kind not in "wvA"}
-
-
-def exports(headers=HEADERS):
-    """The names of the calls that the headers declare."""
-    found = {name for header in headers for name in re.findall(r"^WT_API .*?\b(wt_\w+)\(", read(header), re.M)}
-    if "wt_open" not in found:
-        raise Stopped(FAILED, f"{', '.join(headers)} declare no calls")
-    return found
-
-
-def hold_to_lists(nm, library, processor, declared, *words, wanted=WANTED):
-    """Holds a library to its processor, to what it may want of others, and to the calls that are declared."""
-    with open(library, "rb") as file:
-        found = machine_of(file.read())
-    if found != processor:
-        raise Stopped(FAILED, f"{library} is for {found or 'no processor'}, and not for {processor}")
-    foreign = names_of(nm, library, *words, "-u") - wanted
-    if foreign:
-        raise Stopped(FAILED, f"{library} wants {', '.join(sorted(foreign))}")
-    differ = names_of(nm, library, *words, "-g", "--defined-only") ^ declared
-    if differ:
-        raise Stopped(FAILED, f"{library} and the headers differ in {', '.join(sorted(differ))}")
+    for each in PLATFORMS:
+        if target in (library.target for library in each.libraries):
+            return each
+    known = ", ".join(library.target for each in PLATFORMS for library in each.libraries)
+    raise Stopped(USAGE, f"there is no library for {target}, only for {known}")

@@ -1,4 +1,5 @@
 """How scripts/release tries an archive: from its own folder, by what its pages say."""
+import contextlib
 import gzip
 import hashlib
 import io
@@ -9,16 +10,21 @@ import shutil
 import subprocess
 import tarfile
 import tempfile
+import zipfile
 
 import proved
-from platforms import PLATFORMS, X86_64, exports, hold_to_lists
+from inspected import exports, hold_dll, hold_to_lists, hold_to_machine
+from platforms import ANDROID, PLATFORMS, WINDOWS, X86_64
+from wine import display, windows
 
 ROOT = pathlib.Path(proved.ROOT)
 SUMS = "SHA256SUMS"
-PLUS = """#include <wallthyme.h>
+PLUS = """#include <cstdio>
+#include <wallthyme.h>
 int main() {
     wt_allocator a = {0, nullptr};
-    return wt_close(&a) == WT_NOT_OPEN && wt_version() == WT_VERSION ? 0 : 1;
+    std::printf("%06x %06x", WT_VERSION, wt_version());
+    return wt_close(&a) == WT_NOT_OPEN ? 0 : 1;
 }
 """
 CMAKE = """cmake_minimum_required(VERSION 3.13)
@@ -28,14 +34,17 @@ foreach(kind static shared)
     add_executable(by_${kind} EXAMPLE)
     target_link_libraries(by_${kind} wallthyme::${kind})
 endforeach()
+DLLS(by_shared)
 """
 CMAKE_VULKAN = """cmake_minimum_required(VERSION 3.13)
 project(tried C)
 find_package(wallthyme NUMBER REQUIRED)
 foreach(kind static shared)
     add_executable(over_${kind} SOURCES)
-    target_link_libraries(over_${kind} wallthyme::vulkan_${kind} vulkan)
+    target_compile_options(over_${kind} PRIVATE FLAGS)
+    target_link_libraries(over_${kind} wallthyme::vulkan_${kind} LOADER)
 endforeach()
+DLLS(over_shared)
 """
 CARGO = """[package]
 name = "project"
@@ -81,12 +90,12 @@ class Trial:
 
     def __init__(self, given, stage, room):
         self.given, self.stage, self.room, self.example = given, stage, room, stage / "examples/example.c"
-        self.by_path, self.archive = f"-I{stage}/include", stage / "lib/libwallthyme.a"
+        self.by_path, self.number = f"-I{stage}/include", stage.name.split("-")[1]
         home = room / "home"
         home.mkdir()
         folders = [each for each in os.environ["PATH"].split(os.pathsep)
                    if not (pathlib.Path(each) / "rt").exists() and not pathlib.Path(each).is_relative_to(ROOT)]
-        for needed in (given.cc, *given.emulator[:1]):
+        for needed in (given.tool("CC"), *given.emulator[:1]) if given.runs else ():
             if not shutil.which(needed, path=os.pathsep.join(folders)):
                 raise Stops(f"there is no {needed}")
         self.env = {
@@ -113,61 +122,137 @@ class Trial:
         (self.room / name).parent.mkdir(parents=True, exist_ok=True)
         (self.room / name).write_text(text, "utf-8")
 
+    def starts(self, program, **env):
+        """What a program prints that was built in the room."""
+        return self.run(*self.given.emulator, self.room / f"{program}{'.exe' if self.given.is_windows else ''}", **env)
+
     def greets(self, how, program, **env):
         """Runs a program of the first use."""
-        if self.run(*self.given.emulator, self.room / program, **env) != "hello block\n":
+        if self.starts(program, **env) != "hello block\n":
             raise Stops(f"the first use, built {how}, prints something else")
         say(f"the first use runs, built {how}")
 
+    def lay_dlls(self, folder):
+        """Copies the DLLs to where programs of Windows find them, beside themselves."""
+        if self.given.is_windows:
+            for dll in (self.stage / "bin").iterdir():
+                shutil.copy(dll, self.room / folder)
+
+    # ---- The libraries ----
+
+    def hold(self, each, library, file, declared):
+        """Holds a static library to its lists, or to its processor alone where nothing here reads its names."""
+        nm = each.tool("NM") if each.runs or each is ANDROID else "llvm-nm"
+        hold_to_machine(file, each.processor, each.system)
+        if self.has(f"what the library for {library.target} wants and has", nm):
+            hold_to_lists(str(file), each.processor, declared, nm=nm, system=each.system)
+            say(f"the library for {library.target} has the {len(declared)} calls of the header, and wants what it may")
+
     def libraries(self):
         """Each library is for its platform, wants what it may of others, and has the calls that its header declares."""
-        declared = exports((self.stage / "include/wallthyme.h", self.stage / "rust/lib/layout.h"))
+        given, declared = self.given, exports((self.stage / "include/wallthyme.h", self.stage / "rust/lib/layout.h"))
+        for library in given.libraries:
+            self.hold(given, library, self.stage / f"lib/{library.file}", declared)
+        # (those of the Rust crate)
+        for each in PLATFORMS:
+            for library in each.libraries:
+                inside = self.stage / f"rust/lib/{library.target}/{library.file}"
+                if inside.exists():
+                    self.hold(each, library, inside, declared)
         shared = (self.stage / "lib/libwallthyme.so").resolve()
-        nm = f"{self.given.tools}nm"
-        if not self.has("what the libraries want and have", nm):
-            return
-        hold_to_lists(nm, str(self.archive), self.given.processor, declared)
-        hold_to_lists(nm, str(shared), self.given.processor, declared, "-D")
-        for each in PLATFORMS.values():
-            inside = self.stage / f"rust/lib/{each.target}/libwallthyme.a"
-            if inside.exists() and self.has(f"what the Rust crate's library for {each.target} wants", f"{each.tools}nm"):
-                hold_to_lists(f"{each.tools}nm", str(inside), each.processor, declared)
-        say(f"the libraries are for {self.given.processor}, and have the {len(declared)} calls of the header")
+        if shared.exists() and self.has("what the shared object wants and has", given.tool("NM")):
+            hold_to_lists(str(shared), given.processor, declared, "-D", nm=given.tool("NM"))
+        if (self.stage / "bin").exists() and self.has("what the DLLs want and have", given.tool("OBJDUMP")):
+            hold_dll(self.stage / "bin/wallthyme.dll", given.processor, declared, given.tool("OBJDUMP"))
+            side = self.stage / "bin/wallthyme-vulkan.dll"
+            if side.exists():
+                names = exports([self.stage / "include/wallthyme_vulkan.h"], "WTV_API")
+                hold_dll(side, given.processor, names, given.tool("OBJDUMP"), "wallthyme.dll")
+        say(f"the libraries are for {given.processor}, {given.system}")
+
+    # ---- The first use ----
+
+    def links(self):
+        """How a program is built with each library, by the page: what that is called, and its words."""
+        lib = self.stage / "lib"
+        yield "by the archive's name", [lib / "libwallthyme.a"]
+        if self.given.is_windows:
+            yield "with the DLL", ["-DWT_DLL", lib / "wallthyme.dll.lib"]
+            # (what probes the stack is called otherwise by MSVC)
+            yield "with the library for MSVC", [lib / "wallthyme.lib", "-Wl,--defsym,__chkstk=___chkstk_ms"]
 
     def by_name(self):
-        self.run(self.given.cc, "-std=c99", self.by_path, self.example, self.archive, "-o", "by_name")
-        self.greets("by the archive's name", "by_name")
+        self.lay_dlls(".")
+        for how, words in self.links():
+            self.run(self.given.tool("CC"), "-std=c99", self.by_path, self.example, *words, "-o", "by_name")
+            self.greets(how, "by_name")
 
     def by_pkg_config(self):
-        if self.has("the first use by pkg-config", "pkg-config"):
+        if not self.given.is_windows and self.has("the first use by pkg-config", "pkg-config"):
             found = {"PKG_CONFIG_PATH": f"{self.stage}/lib/pkgconfig"}
             flags = self.run("pkg-config", "--cflags", "--libs", "wallthyme", **found).split()
-            self.run(self.given.cc, "-std=c99", self.example, *flags, "-o", "by_pkg_config")
+            self.run(self.given.tool("CC"), "-std=c99", self.example, *flags, "-o", "by_pkg_config")
             self.greets("by pkg-config", "by_pkg_config", LD_LIBRARY_PATH=f"{self.stage}/lib")
 
+    def configure(self, folder, text, given, **values):
+        """Configures a project by CMake, for a platform. What copies the DLLs are the page's words."""
+        page = (self.stage / "README.md").read_text("utf-8")
+        dlls = re.search(r"^if\(WIN32\).*?^endif\(\)$", page, re.M | re.S)[0]
+        text = re.sub(r"^DLLS\((\w+)\)$", lambda found: re.sub(r"\bprogram\b", found[1], dlls), text, flags=re.M)
+        for name, value in values.items():
+            text = text.replace(name.upper(), str(value))
+        self.write(f"{folder}/CMakeLists.txt", text.replace("NUMBER", self.number))
+        self.write(f"{folder}/platform.cmake", given.toolchain())
+        words = [f"-DCMAKE_TOOLCHAIN_FILE={self.room}/{folder}/platform.cmake"] if given.tools else []
+        self.run("cmake", "-S", folder, "-B", f"{folder}/built", f"-DCMAKE_PREFIX_PATH={self.stage}", *words)
+
     def by_cmake(self):
-        if self.has("the first use by CMake", "cmake"):
-            number = self.stage.name.split("-")[1]
-            self.write("CMakeLists.txt", CMAKE.replace("EXAMPLE", str(self.example)).replace("NUMBER", number))
-            self.run("cmake", "-S", ".", "-B", "cmake", f"-DCMAKE_PREFIX_PATH={self.stage}", *self.given.cmake)
-            self.run("cmake", "--build", "cmake")
-            for kind in ("static", "shared"):
-                self.greets(f"by CMake, {kind}", f"cmake/by_{kind}")
+        if not self.has("the first use by CMake", "cmake"):
+            return
+        self.configure("cmake", CMAKE, self.given, example=self.example)
+        self.run("cmake", "--build", "cmake/built")
+        for kind in ("static", "shared"):
+            self.greets(f"by CMake, {kind}", f"cmake/built/by_{kind}")
+        other = WINDOWS if self.given is X86_64 else X86_64
+        if other.missing():
+            return say(f"left out: that CMake refuses it for another system, since {other.missing()} is not there")
+        try:
+            self.configure("refused", CMAKE, other, example=self.example)
+        except Stops as refusal:
+            if f"({self.given.system}, {self.given.processor})" not in str(refusal):
+                raise
+            return say(f"CMake refuses it for {other.name}")
+        raise Stops(f"CMake takes it for {other.name}")
 
     def as_cxx(self):
-        if self.has("the header as C++", self.given.cxx):
+        if self.has("the header as C++", self.given.tool("CXX")):
             self.write("plus.cc", PLUS)
             strict = ("-std=c++11", "-Wall", "-Wextra", "-Wpedantic", "-Werror")
-            self.run(self.given.cxx, *strict, self.by_path, "plus.cc", self.archive, "-o", "plus")
-            self.run(*self.given.emulator, self.room / "plus")
-            say("the header compiles as C++11, and its program runs")
+            for how, words in self.links():
+                self.run(self.given.tool("CXX"), *strict, self.by_path, "plus.cc", *words, "-o", "plus")
+                header, library = self.starts("plus").split()
+                if header != library:
+                    raise Stops(f"the header is of version {header}, and the library, built {how}, of {library}")
+                say(f"the header compiles as C++11, and its program runs, built {how}")
+
+    # ---- Over Vulkan ----
+
+    def vulkan_headers(self):
+        """The word by which a compiler for another system finds Vulkan's headers alone."""
+        self.write("headers/what", "the system's headers of Vulkan\n")
+        for name in ("vulkan", "vk_video"):
+            (self.room / f"headers/{name}").symlink_to(f"/usr/include/{name}")
+        return f"-I{self.room}/headers"
 
     def over_vulkan(self):
         """The examples over Vulkan, and the first of them by what pkg-config and CMake find."""
-        if self.given is not X86_64:
-            return say(f"left out: what is over Vulkan, since no loader of Vulkan is there for {self.given.name}")
-        if not self.has("what is over Vulkan", "make", "pkg-config") or not self.finds("vulkan", "what is over Vulkan"):
+        what = "what is over Vulkan"
+        if self.given.system == "Linux" and self.given is not X86_64:
+            return say(f"left out: {what}, since no loader of Vulkan is there for {self.given.name}")
+        if not self.has(what, "make", "pkg-config") or not self.finds("vulkan", what):
             return
+        if self.given.is_windows:
+            return self.over_vulkan_on_windows()
         self.run("make", "-C", self.stage / "examples/vulkan", f"OUT={self.room}/vulkan")
         say("the example over Vulkan builds; that it runs is for scripts/gate/vulkan")
         if self.finds("libpng", "the triangle"):
@@ -175,18 +260,53 @@ class Trial:
             say("the triangle builds, in C and in C++")
         if not (self.stage / "lib/libwallthyme-vulkan.a").exists():
             return say("left out: the library of the Vulkan side, since it was not built")
-        sources = [self.stage / f"examples/vulkan/{name}.c" for name in ("main", "first_use", "device")]
         found = {"PKG_CONFIG_PATH": f"{self.stage}/lib/pkgconfig"}
         flags = self.run("pkg-config", "--cflags", "--libs", "wallthyme-vulkan", **found).split()
-        self.run("cc", "-std=c99", *sources, *flags, "-lvulkan", "-o", "vulkan_by_pkg_config")
+        self.run("cc", "-std=c99", *self.sources(), *flags, "-lvulkan", "-o", "vulkan_by_pkg_config")
         say("the example over Vulkan builds by pkg-config")
         if self.has("the example over Vulkan by CMake", "cmake"):
-            number = self.stage.name.split("-")[1]
-            names = " ".join(map(str, sources))
-            self.write("over/CMakeLists.txt", CMAKE_VULKAN.replace("SOURCES", names).replace("NUMBER", number))
-            self.run("cmake", "-S", "over", "-B", "over/built", f"-DCMAKE_PREFIX_PATH={self.stage}")
-            self.run("cmake", "--build", "over/built")
-            say("the example over Vulkan builds by CMake, static and shared")
+            self.build_over_vulkan("vulkan")
+
+    def sources(self):
+        return [self.stage / f"examples/vulkan/{name}.c" for name in ("main", "first_use", "device")]
+
+    def build_over_vulkan(self, loader, flags=""):
+        self.configure("over", CMAKE_VULKAN, self.given, sources=" ".join(map(str, self.sources())), loader=loader,
+                       flags=flags)
+        self.run("cmake", "--build", "over/built")
+        say("the example over Vulkan builds by CMake, static and shared")
+
+    def over_vulkan_on_windows(self):
+        """The examples, by vulkan-1.dll. They run where wine has a Vulkan driver."""
+        given, headers = self.given, self.vulkan_headers()
+        for name in ("vulkan", "triangle"):
+            self.run("make", "-C", self.stage / f"examples/{name}", f"OUT={self.room}/{name}", f"CC={given.tool('CC')}",
+                     f"CXX={given.tool('CXX')}", f"CFLAGS=-O2 {headers}")
+        say("the example over Vulkan and the triangle, in C and in C++, build by mingw")
+        if self.has("the example over Vulkan by CMake", "cmake"):
+            self.build_over_vulkan(self.room / "vulkan/libvulkan-1.a", headers)
+        try:
+            self.starts("vulkan/first_use")
+        except Stops as refusal:
+            if "vkCreateInstance" not in str(refusal):
+                raise
+            return say("left out: that they run, since wine has no Vulkan driver here")
+        for kind in ("static", "shared") if (self.room / "over").exists() else ():
+            self.starts(f"over/built/over_{kind}")
+        say("the example over Vulkan runs over wine's Vulkan driver")
+        for name in ("triangle", "triangle_plus"):
+            self.draws(name)
+
+    def draws(self, program):
+        """Runs a triangle's program, whose picture has to be that of its geometry."""
+        self.starts(f"triangle/{program}")
+        if self.finds("libpng", "whether the triangle's picture is right"):
+            # (the program that compares is the repository's)
+            check = f"{self.room}/check/check"
+            run("make", "-s", "-C", ROOT / "c/tests/driver", f"OUT={self.room}/check", check)
+            self.run(check, self.room / "triangle.png")
+            say(f"{program} runs over wine's Vulkan driver, and draws what its geometry gives")
+        (self.room / "triangle.png").unlink()
 
     def finds(self, name, what):
         """Whether pkg-config finds a library of the system's; says what is left out where not."""
@@ -225,27 +345,37 @@ def compare(stage):
 
 def platform_of(stage):
     """The platform of an unpacked archive, by its name."""
-    for each in PLATFORMS.values():
+    for each in PLATFORMS:
         if stage.name.endswith(f"-{each.name}"):
             return each
-    raise Stops(f"{stage.name} is for no platform of {', '.join(each.name for each in PLATFORMS.values())}")
+    raise Stops(f"{stage.name} is for no platform of {', '.join(each.name for each in PLATFORMS)}")
 
 
 def check_stage(stage, room):
     """Compares the files of an unpacked archive with their list, and tries it."""
     compare(stage)
-    trial = Trial(platform_of(stage), stage, room)
-    for part in (trial.libraries, trial.by_name, trial.by_pkg_config, trial.by_cmake, trial.as_cxx, trial.over_vulkan,
-                 trial.rust):
-        part()
+    given = platform_of(stage)
+    trial = Trial(given, stage, room)
+    trial.libraries()
+    if not given.runs:
+        return say(f"never run here: what is for {given.name}")
+    with contextlib.ExitStack() as stack:
+        if given.is_windows:
+            trial.env |= stack.enter_context(windows(given.emulator, room, stack.enter_context(display())))
+        for part in (trial.by_name, trial.by_pkg_config, trial.by_cmake, trial.as_cxx, trial.over_vulkan, trial.rust):
+            part()
 
 
 def unpack(file, room):
     """Unpacks an archive. Answers its folder."""
     # (all of it is read first, so that its own sum is compared too)
-    content = gzip.decompress(pathlib.Path(file).read_bytes())
-    with tarfile.open(fileobj=io.BytesIO(content)) as archive:
-        archive.extractall(room, **({"filter": "data"} if hasattr(tarfile, "data_filter") else {}))
+    content = pathlib.Path(file).read_bytes()
+    if str(file).endswith(".zip"):
+        with zipfile.ZipFile(io.BytesIO(content)) as archive:
+            archive.extractall(room)
+    else:
+        with tarfile.open(fileobj=io.BytesIO(gzip.decompress(content))) as archive:
+            archive.extractall(room, **({"filter": "data"} if hasattr(tarfile, "data_filter") else {}))
     [stage] = room.iterdir()
     return stage
 
