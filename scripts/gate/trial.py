@@ -34,6 +34,7 @@ foreach(kind static shared)
     add_executable(by_${kind} EXAMPLE)
     target_link_libraries(by_${kind} wallthyme::${kind})
 endforeach()
+DLLS(by_static)
 DLLS(by_shared)
 """
 CMAKE_VULKAN = """cmake_minimum_required(VERSION 3.13)
@@ -44,6 +45,7 @@ foreach(kind static shared)
     target_compile_options(over_${kind} PRIVATE FLAGS)
     target_link_libraries(over_${kind} wallthyme::vulkan_${kind} LOADER)
 endforeach()
+DLLS(over_static)
 DLLS(over_shared)
 """
 CARGO = """[package]
