@@ -63,7 +63,7 @@ def inspect(given):
     for library in given.libraries:
         file = f"{given.build}/{library.file}"
         hold_to_lists(file, given.processor, exports(), nm="llvm-nm", system=given.system, said=nm_of_kit)
-        yield (f"{library.file} for {library.target}: the {len(exports())} calls of the header, nothing wanted but what is "
+        yield (f"{library.file} for {library.target}: the {len(exports())} calls of the headers, nothing wanted but what is "
                f"listed; sections {' '.join(sections_of(given, library.file))}")
 
 
@@ -117,5 +117,5 @@ def make_all(given):
     lines = [f"edit of the module: {line}" for line in dict.fromkeys(edits)] + list(inspect(given))
     if given.tools:
         make_dlls(given)
-        lines.append(f"{DLL}: the {len(exports())} calls of the header")
+        lines.append(f"{DLL}: the {len(exports())} calls of the headers")
     return lines

@@ -148,7 +148,7 @@ class Trial:
         hold_to_machine(file, each.processor, each.system)
         if self.has(f"what the library for {library.target} wants and has", nm):
             hold_to_lists(str(file), each.processor, declared, nm=nm, system=each.system)
-            say(f"the library for {library.target} has the {len(declared)} calls of the header, and wants what it may")
+            say(f"the library for {library.target} has the {len(declared)} calls of the headers, and wants what it may")
 
     def libraries(self):
         """Each library is for its platform, wants what it may of others, and has the calls that its header declares."""
