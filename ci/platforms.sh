@@ -10,6 +10,11 @@
 # It compares the archive's files with their sums, builds and runs the first use, and runs c/tests/portable over the
 # library. What drawn calls print has to have the sum that PROVENANCE has from x86-64 Linux.
 set -euo pipefail
+if [ ! -f "${1:-}" ]; then
+    awk 'NR > 1 && !/^#/ { exit } NR > 1 { sub(/^# ?/, ""); print }' "$0" >&2
+    echo "There is no archive '${1:-}'." >&2
+    exit 2
+fi
 archive=$(realpath "$1")
 vulkan=${2:+$(realpath "$2")}
 cd "$(dirname "${BASH_SOURCE[0]}")/.."
