@@ -20,9 +20,9 @@ WHOLE = ("-Wl,--whole-archive", "libwallthyme.a", "-Wl,--no-whole-archive")
 SIDE_DLL, SIDE_IMPORTS, SIDE = "wallthyme-vulkan.dll", "wallthyme-vulkan.dll.lib", "libwallthyme-vulkan.a"
 # The sections that objects have here: code, constants, what unwinds them, and lists of the linker's. Those that a program
 # writes are empty, but for the byte of c/heap.ll to which a refusal points.
-SECTIONS = {".text", ".rodata", ".rdata", ".data.rel.ro", ".eh_frame", ".xdata", ".pdata", ".rela", ".note", ".symtab",
-            ".strtab", ".shstrtab", ".llvm_addrsig", "__text", "__const", "__literal8", "__literal16", "__compact_unwind",
-            "__eh_frame"}
+SECTIONS = {".text", ".rodata", ".rdata", ".data.rel.ro", ".eh_frame", ".xdata", ".pdata", ".rela", ".note", ".comment",
+            ".symtab", ".strtab", ".shstrtab", ".llvm_addrsig", "__text", "__const", "__literal4", "__literal8",
+            "__literal16", "__compact_unwind", "__eh_frame"}
 WRITTEN, MOST_WRITTEN = {".data", ".bss", "__data", "__bss"}, 16
 
 
