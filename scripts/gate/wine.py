@@ -4,6 +4,8 @@ import os
 import shutil
 import subprocess
 
+from ending import NOT_BUILT, Stopped
+
 # No program of wine's asks a person, or loads what it would have to fetch.
 QUIET = {"WINEDEBUG": "-all", "WINEDLLOVERRIDES": "mscoree,mshtml="}
 # The most seconds that starting and ending take.
@@ -39,8 +41,11 @@ def windows(emulator, folder, shown=None):
     how = {"env": {**os.environ, **added}, "stdin": subprocess.DEVNULL, "stdout": subprocess.DEVNULL,
            "stderr": subprocess.DEVNULL, "timeout": LONGEST}
     server = f"{os.path.dirname(emulator[0])}/wineserver64"
-    for words in ([*emulator, "wineboot", "--init"], [server, "-w"], [server, "-p"], [*emulator, "cmd", "/c", "exit"]):
-        subprocess.run(words, check=True, **how)
+    try:
+        for words in ([*emulator, "wineboot", "--init"], [server, "-w"], [server, "-p"], [*emulator, "cmd", "/c", "exit"]):
+            subprocess.run(words, check=True, **how)
+    except subprocess.SubprocessError as error:
+        raise Stopped(NOT_BUILT, f"wine does not start: {error}")
     try:
         yield added
     finally:
