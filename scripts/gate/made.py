@@ -1,5 +1,5 @@
 """The files of a platform to which the module is retargeted: static libraries, and for Windows x64 DLLs and the Vulkan
-side too. Each is held to its lists."""
+side too. The libraries and the DLLs are held to their lists."""
 import os
 import re
 import shutil

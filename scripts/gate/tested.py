@@ -147,14 +147,20 @@ def is_there(platform, line):
     return False
 
 
-def tested(platform):
-    """What passed of exactly these sources and tests, which are run where they were not."""
+def passed_before(platform):
+    """What passed of exactly these sources and tests, where the files that were made are still those; else nothing."""
     place = record(platform)
     lines = read(place).splitlines() if os.path.isfile(place) else []
-    if not lines or not all(is_there(platform, line) for line in lines if line.startswith(MADE)):
+    return lines if all(is_there(platform, line) for line in lines if line.startswith(MADE)) else []
+
+
+def tested(platform):
+    """What passed of exactly these sources and tests, which are run where they were not."""
+    lines = passed_before(platform)
+    if not lines:
         lines = test(platform)
         for old in glob.glob(f"{OUT}/tested-{platform.target}-*"):
             os.remove(old)
-        with open(place, "w", encoding="utf-8") as file:
+        with open(record(platform), "w", encoding="utf-8") as file:
             file.write("".join(f"{line}\n" for line in lines))
     return lines
