@@ -1,12 +1,13 @@
 -- The atom of a memory type, by its properties, and the grain of its fit chunks.
-use Rattle.std.proofs.Common.{◌≡◌, ℕ, ◌+◌, ◌-◌, ◌*◌, ◌^◌, ◌<◌, Bool, true, false, cond, not, ◌==◌, IsTrue, max, refl, sym, ◌∙◌, ap, subst, arith, inl, inr}
+use Rattle.std.proofs.Common.{◌≡◌, ℕ, ◌+◌, ◌-◌, ◌*◌, ◌%◌, ◌^◌, ◌<◌, Bool, true, false, cond, not, ◌==◌, IsTrue, max, refl, sym, ◌∙◌, ap, subst, arith, inl, inr}
 use Rattle.std.proofs.lemmas.Bool.{cases_eq}
 use Rattle.std.proofs.lemmas.Bool.Decides.{nat_tests}
-use Rattle.std.proofs.lemmas.Nat.{pow_pos}
+use Rattle.std.proofs.lemmas.Nat.{and_mask, div-add-mod', pow_pos}
 use Rattle.std.proofs.lemmas.Nat.Bits.{and_pow}
 use Rattle.std.specs.Int.{bit_at, is_power_of_two}
 use Rattle.std.specs.Int.Bits.{bit_and}
 use Rattle.gpu_alloc_types.specs.Flags.{has_bit, has_all_bits}
+use Rattle.gpu_alloc_base.specs.Sizes.{down}
 use Rattle.gpu_alloc_base.proofs.PowersOfTwo.{bit_of_power, greater_power, power_of_bit}
 
 -- a mask of one bit
@@ -44,3 +45,10 @@ grain_power atom g power is =
 
 pub one_more : (n : ℕ) → IsTrue (is_power_of_two n) → n - 1 + 1 ≡ n
 one_more n power = let k = power_of_bit n power in omega (arith, k.1, pow_pos k.0)
+
+-- the greatest multiple of a power of two, by its mask
+pub down_by_mask : (x n : ℕ) → IsTrue (is_power_of_two n) → x - bit_and x (n - 1) ≡ down x n
+down_by_mask x n power =
+    let k = power_of_bit n power in
+    let low : bit_and x (n - 1) ≡ x % n = ap (λ m. bit_and x (m - 1)) k.1 ∙ and_mask x k.0 ∙ ap (λ m. x % m) (sym k.1) in
+    omega (arith, low, div-add-mod' x n)

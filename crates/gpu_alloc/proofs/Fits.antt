@@ -1,5 +1,6 @@
 -- Each memory type's allocator of fit chunks, as the whole allocator's state tells of it.
 pub mod Answers
+pub mod Choices
 pub mod Going
 pub mod Grains
 pub mod Grants

@@ -4,12 +4,14 @@ use Rattle.std.specs.FinMap as map
 use Rattle.gpu_alloc_types.specs.Properties.{heap_size, atom_of, is_host_visible}
 use Rattle.gpu_alloc_block.specs.declared.block.Kind.TheVariants.{FitChunk}
 use Rattle.gpu_alloc.specs.declared.request.Request.{Request}
-use Rattle.gpu_alloc_base.specs.FreeRuns.{AreFree, IsListPlace}
+use Rattle.gpu_alloc_base.specs.FreeRuns.{AreFree, IsListPlace, tail_start}
 use Rattle.gpu_alloc_base.specs.FreeSpace.{IsMultipleOf}
 use Rattle.gpu_alloc.specs.FreeBytes.{IsFreeByte}
 use Rattle.gpu_alloc_base.specs.NewChunk.{ChunkQuestion, flags_of}
 use Rattle.gpu_alloc_base.specs.Sizes.{up, down, starting_size, final_size, grown_chunk, doubled_chunk}
 use Rattle.gpu_alloc_base.specs.declared.config.Config.{Config}
+use Rattle.gpu_alloc_base.specs.declared.region.FreeListRegion.{FreeListRegion}
+use Rattle.gpu_alloc_fits.specs.Choice.{IsChosenRun}
 use Rattle.gpu_alloc_block.specs.State.{HeldObject, Span, Block, TypeState, State, granted_block}
 
 -- The grain of fit chunks, in bytes: 256, or the atom where that is larger. Fit chunks have whole grains, and blocks in
@@ -84,13 +86,25 @@ pub record IsFitChunk (s : State) (t object : ℕ) : Type 0 where
 abbrev pub HasFitPlace : State → ℕ → ℕ → ℕ → Type 0
 HasFitPlace s t size alignment = (object start : ℕ) × IsListPlace (IsFreeByte s t FitChunk) size alignment object start
 
--- the span has exactly this size, starts at a multiple of the alignment, and each byte of it is free: so it lies in one
--- free run
+-- how many bytes an object counts, 0 where none is held
+abbrev pub counted_of : Option HeldObject → ℕ
+counted_of None = 0
+counted_of (Some object) = object.counted
+
+abbrev pub object_bytes : State → ℕ → ℕ
+object_bytes s object = counted_of (map.get s.held object)
+
+-- the span has exactly this size, starts at a multiple of the alignment, and each byte of it is free: it is the last such
+-- one in the free run that is chosen, whose chunk is the object
 pub record IsInFreeRun (s : State) (t size alignment : ℕ) (span : Span) : Type 0 where
   pub exact : span.size ≡ size
   pub aligned : IsMultipleOf alignment span.offset
   pub chunk : IsFitChunk s t span.object
   pub free : AreFree (IsFreeByte s t FitChunk) span.object span.offset (span.offset + span.size)
+  pub run : FreeListRegion
+  pub in_chunk : run.chunk ≡ span.object
+  pub start : span.offset ≡ tail_start size alignment run.end
+  pub chosen : IsChosenRun (IsFreeByte s t FitChunk) (object_bytes s) size alignment run
 
 -- the least size of a memory type's next fit chunk, 0 where there is no such type
 abbrev pub fit_chunk_of : Option TypeState → ℕ

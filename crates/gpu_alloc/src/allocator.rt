@@ -129,9 +129,15 @@ impl<M: MemoryObject, A: Allocator> GpuAllocator<M, A> {
     ///   does, the device is asked for a chunk: the greater of twice the block and the latest buddy chunk of the type.
     /// - Without `TRANSIENT`, where fit chunks were chosen, the block comes from a fit chunk. It has the request's size
     ///   in whole grains (256 bytes, or the atom where that is larger). It starts at a grain and with the request's
-    ///   alignment, in a free run with room. Where no run has room, the device is asked for a chunk. That is twice as
-    ///   large as the latest fit chunk, at most four times the first, and no larger than a free list's largest. A
-    ///   request larger than the first fit chunk gets an object of its own.
+    ///   alignment, at the last such place of a free run with room. Where no run has room, the device is asked for a
+    ///   chunk. That is twice as large as the latest fit chunk, at most four times the first, and no larger than a free
+    ///   list's largest. A request larger than the first fit chunk gets an object of its own.
+    ///
+    ///   Which run: lengths are sorted into classes, one for each whole number of 256 bytes below 64, and from there on
+    ///   eight for each power of two. A class is *sure* where each of its runs has room, wherever it starts. The run's
+    ///   class is no higher than the lowest sure class that has runs. A run with room in a lower class is passed over
+    ///   only for one of a sure class, and only where the first four runs lack room, from the class of the size on. A
+    ///   wholly free chunk comes last in its class.
     /// - With `TRANSIENT` the block comes from a chunk of the free list. It is the tail of the last free run with room,
     ///   from the last byte on that is aligned (to the request's alignment and the atom) and leaves the size in whole
     ///   atoms. Where no run has room, the device is asked for a chunk. That is twice as large as the free list's
@@ -548,13 +554,15 @@ impl<M: MemoryObject, A: Allocator> GpuAllocator<M, A> {
     {
         let heap = self.limits.heap_index(memory_type);
         let flags = self.limits.flags();
-        let answer = self.fits[memory_type as usize].alloc(
+        let answer = uncounted::alloc_fit::<M, A, D, Brand>(
+            &mut self.fits[memory_type as usize],
             device,
             request.size,
             request.align_mask,
             flags,
             &mut self.heaps[heap],
             &mut self.allocations_remains,
+            Blank::new(1),
         );
         let block = match answer {
             Ok(block) => block,

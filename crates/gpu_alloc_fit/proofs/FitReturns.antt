@@ -11,13 +11,13 @@ use Rattle.gpu_alloc_base.specs.Accounts.{Account, IsCounted, account, chunks_an
 use Rattle.gpu_alloc_base.specs.Chunks.{Chunk, IsThere}
 use Rattle.gpu_alloc_base.specs.declared.free_list_block.Slot.{Slot}
 use Rattle.gpu_alloc_base.specs.declared.heap.Heap.{Heap}
-use Rattle.gpu_alloc_base.proofs.InHand.{no_chunks, none_in, return_removes}
+use Rattle.gpu_alloc_base.proofs.InHand.{no_chunks, none_in}
 use Rattle.gpu_alloc_base.proofs.Maps.{gone, kept_key, kept_other}
-use Rattle.gpu_alloc_base.proofs.Slots.{slot_exact, slot_removed, slot_total}
+use Rattle.gpu_alloc_base.proofs.Slots.{slot_removed}
 use Rattle.gpu_alloc_base.proofs.Sums.{len_less, sum_by-remove}
-use Rattle.gpu_alloc_fit.specs.Fit.{Agrees, Fitting, Frees, Goes, Removes, sees_chunks}
+use Rattle.gpu_alloc_fit.specs.Fit.{Agrees, Fitting, Goes, sees_chunks}
 use Rattle.gpu_alloc_fit.specs.FitSound.{IsSoundFitting, fitting_in}
-use Rattle.gpu_alloc_fits.specs.Space.{FitSpace, IsLiveSlot, IsSoundFitSpace, IsWhollyFree, bytes_of, without_chunk, without_slot}
+use Rattle.gpu_alloc_fits.specs.Space.{FitSpace, IsLiveSlot, IsSoundFitSpace, IsWhollyFree, without_chunk, without_slot}
 
 -- What is sound stays so.
 
@@ -93,16 +93,6 @@ pub goes_so : (s now : FitSpace) (n m t p a key : ℕ) (heap less : Heap) (remai
     → Goes (account (fitting_in s n m t p a) heap remaining) key (Deallocated held.object ∷ []) (account (fitting_in now n m t p a) less (remaining + 1))
 goes_so s now n m t p a key heap less remaining held is gone_is less_is =
     (held, is, (refl, ap (λ x. account (fitting_in x n m t p a) less (remaining + 1)) gone_is ∙ ap (λ h. account (fitting_in (without_chunk s key) n m t p a) h (remaining + 1)) less_is))
-
--- What a return leaves.
-
-module _ (a : Account Fitting) (slot : Slot) (es : List Event) (new : Account Fitting) where
-  live_less : Frees a slot es new → new.allocator.space.live ≡ set.remove a.allocator.space.live slot
-  live_less (inl stays) = ap (λ (x : Account Fitting). x.allocator.space.live) stays.1.1
-  live_less (inr goes) = ap (λ (x : Account Fitting). x.allocator.space.live) goes.1.2.1
-
-  pub frees_remove : IsLiveSlot a.allocator.space slot → Frees a slot es new → Removes a.allocator slot new.allocator
-  frees_remove live frees = return_removes slot_total slot_exact bytes_of a.allocator.space.live slot new.allocator.space.live (live_less frees) live
 
 -- What a cleanup leaves.
 

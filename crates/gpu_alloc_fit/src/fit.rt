@@ -19,8 +19,9 @@ ghost use Rattle.gpu_alloc_fit.specs.Fit.{Adds, Agrees, CallAllocates, CallAnswe
 ghost use Rattle.gpu_alloc_fit.specs.Fit.{IsGranted, KeepsSettings, Leaves, LeavesNoRest, ObjectsAfter, ObjectsCleaned};
 ghost use Rattle.gpu_alloc_fit.specs.Fit.{ObjectsFreed, Removes, case_of, chunk_size, fit_case, opened};
 ghost use Rattle.gpu_alloc_fit.specs.FitSound.{FitsAChunk, IsSoundFitting};
+ghost use Rattle.gpu_alloc_fits.specs.Choice.{BeginsClass};
 ghost use Rattle.gpu_alloc_fits.specs.Listed.{AddsSlots, ListsChunks};
-ghost use Rattle.gpu_alloc_fits.specs.Space.{IsFitRunOf, IsLiveFitSpan, IsLiveSlot, IsNoLiveFitSpan, neighbours};
+ghost use Rattle.gpu_alloc_fits.specs.Space.{HasPlace, IsFitRunOf, IsLiveFitSpan, IsLiveSlot, IsNoLiveFitSpan, LooksAtFew, neighbours};
 
 use gpu_alloc_base::buddy_block::Leaf;
 use gpu_alloc_base::free_list_block::Slot;
@@ -29,7 +30,7 @@ use gpu_alloc_base::new_chunk::new_chunk_with_handle;
 use gpu_alloc_base::sizes::next_power_of_two;
 use gpu_alloc_base::steps::Steps;
 use gpu_alloc_base::{AllocationError, booking};
-use gpu_alloc_fits::{Chunk, FitBlock, Fits};
+use gpu_alloc_fits::{Chunk, FitBlock, Fits, into_parts};
 use gpu_alloc_types::{
     AllocationFlags, FreeRange, MemoryObject, MemoryPropertyFlags, ObjectDevice,
 };
@@ -156,7 +157,18 @@ impl<M: MemoryObject, A: Allocator> FitAllocator<M, A> {
     ///
     /// Each block that a caller had in hand is still live (`leaves`). The new one is live too, and shares no byte with
     /// any of them (`added`). The same requests as before are valid next (`settings`).
-    pub fn alloc<D: ObjectDevice<M>>(
+    ///
+    /// Which run: lengths are sorted into classes, one for each whole number of 256 bytes below 64, and from there on
+    /// eight for each power of two. A class is *sure* where each of its runs has room, wherever it starts. The run's class
+    /// is no higher than the lowest sure class that has runs. A run with room in a lower class is passed over only for one
+    /// of a sure class, and only where the first four runs lack room, from the class of the size on. A wholly free chunk
+    /// comes last in its class. In the run the block has the last place.
+    ///
+    /// `looks` counts the free runs that are looked at: at most five where a sure class has runs, and otherwise at most
+    /// one more than those without room from the size's class on, below the first sure one (`looks`). It is at most one
+    /// where `align_mask + 1` is at most the atom and the rounded size is the least of its class (`one`), and at least one
+    /// where a run has room (`some`).
+    pub fn alloc<D: ObjectDevice<M>, L: Ledger>(
         &mut self,
         device: &mut D,
         size: u64,
@@ -164,6 +176,7 @@ impl<M: MemoryObject, A: Allocator> FitAllocator<M, A> {
         flags: AllocationFlags,
         heap: &mut Heap,
         allocations_remains: &mut u32,
+        looks: &mut Steps<L>,
     ) -> Result<FitBlock<M>, AllocationError>
         requires nonempty { 0 < size }
         requires fits { up size (self.old).atom ≤ (self.old).final_chunk }
@@ -193,37 +206,56 @@ impl<M: MemoryObject, A: Allocator> FitAllocator<M, A> {
         ensures counted { IsCounted (self.new).space.chunks heap.new allocations_remains.new }
         ensures total { chunks_and_remaining (self.new).space.chunks allocations_remains.new ≡ chunks_and_remaining
             (self.old).space.chunks allocations_remains.old }
+
+        // The free runs that are looked at.
+        ensures looks { LooksAtFew (self.old).space (up size (self.old).atom) (max (align_mask + 1) (self.old).atom)
+            looks.old looks.new }
+        ensures one { align_mask + 1 ≤ (self.old).atom → BeginsClass (up size (self.old).atom)
+            → looks.new ≤ looks.old + 1 }
+        ensures some { HasPlace (self.old).space (up size (self.old).atom) (max (align_mask + 1) (self.old).atom)
+            → looks.old < looks.new }
     {
         let size = self.rounded_size(size);
         let align_mask = align_mask.max(self.atom_mask);
-        self.alloc_rounded(device, size, align_mask, flags, heap, allocations_remains)
+        self.alloc_rounded(
+            device,
+            size,
+            align_mask,
+            flags,
+            heap,
+            allocations_remains,
+            looks,
+        )
     }
 
     /// The error that `alloc` gives such a request before it takes any memory or asks anything, or `None` where it goes
     /// further. Where a chunk is needed, it is `TooManyObjects` if no more objects may be held, and otherwise
-    /// `OutOfDeviceMemory` if `heap` has no room for the chunk (`Heap::fits`). It allocates nothing and changes nothing
-    /// (`kept`). Where it had to search for a place, the next call with this request does not search again.
+    /// `OutOfDeviceMemory` if `heap` has no room for the chunk (`Heap::fits`). It allocates nothing and changes nothing.
     ///
     /// As for `alloc`, the size must be at least 1 and rounded at most the final size, and `align_mask + 1` a power of
-    /// two of at most 2^63.
-    pub fn refuses(
-        &mut self,
+    /// two of at most 2^63. `looks` counts the free runs that are looked at, as few as for `alloc` (`looks`, `one`).
+    pub fn refuses<L: Ledger>(
+        &self,
         size: u64,
         align_mask: u64,
         heap: &Heap,
         allocations_remains: u32,
+        looks: &mut Steps<L>,
     ) -> Option<AllocationError>
         requires nonempty { 0 < size }
-        requires fits { up size (self.old).atom ≤ (self.old).final_chunk }
+        requires fits { up size (self.now).atom ≤ (self.now).final_chunk }
         requires alignment { IsAlignMask align_mask }
         ensures refuses { (flags : ℕ)
-            → RefusesFirst (case_of (account self.old heap.now allocations_remains) (wanted size align_mask flags))
+            → RefusesFirst (case_of (account self.now heap.now allocations_remains) (wanted size align_mask flags))
             result }
-        ensures kept { self.new ≡ self.old }
+        ensures looks { LooksAtFew (self.now).space (up size (self.now).atom) (max (align_mask + 1) (self.now).atom)
+            looks.old looks.new }
+        ensures one { align_mask + 1 ≤ (self.now).atom → BeginsClass (up size (self.now).atom)
+            → looks.new ≤ looks.old + 1 }
     {
         let size = self.rounded_size(size);
         let used_mask = align_mask.max(self.atom_mask);
-        self.refuses_rounded(size, used_mask, heap, allocations_remains)
+        self.refuses_rounded(size, used_mask, heap, allocations_remains, looks)
     }
 
     /// Returns a block, and joins it with the free runs next to it. Where its chunk is then wholly free and another
@@ -236,8 +268,8 @@ impl<M: MemoryObject, A: Allocator> FitAllocator<M, A> {
     ///
     /// Each other block that a caller has in hand is still live, and may be returned next (`removed`). The settings
     /// stay (`settings`), and the ledger does not grow (`ledger`). `looks` counts the free runs and blocks that are
-    /// looked at: the block's neighbours in its chunk, at most two (`looks`). With the block's own key no other one is;
-    /// with any other key it is searched for, which [`searches`](FitAllocator::searches) counts.
+    /// looked at: the block's neighbours in its chunk, at most two (`looks`). With the block's own key no other is looked
+    /// at; with any other key it is searched for, which [`searches`](FitAllocator::searches) counts.
     pub fn dealloc<D: ObjectDevice<M>, L: Ledger>(
         &mut self,
         device: &mut D,
@@ -265,7 +297,61 @@ impl<M: MemoryObject, A: Allocator> FitAllocator<M, A> {
             (self.old).space.chunks allocations_remains.old }
         ensures looks { looks.new ≡ looks.old + neighbours (self.old).space block }
     {
-        let gone = self.fits.put_back(block, looks);
+        let (memory, slot, key) = into_parts(block);
+        self.dealloc_span(
+            device,
+            memory,
+            key,
+            slot.offset,
+            slot.size,
+            heap,
+            allocations_remains,
+            looks,
+        );
+    }
+
+    /// Returns the live block of this span of an object, as [`dealloc`](FitAllocator::dealloc) does. `memory` is a
+    /// handle of the object, `offset` where the block starts in it and `size` how long it is, both in bytes. With its own
+    /// `key` the block is found without a search; any other key works too.
+    ///
+    /// There must be such a block. The other conditions and what is counted are as for `dealloc`. It allocates nothing
+    /// and cannot fail.
+    #[inline(always)]
+    pub fn dealloc_span<D: ObjectDevice<M>, L: Ledger>(
+        &mut self,
+        device: &mut D,
+        memory: M,
+        key: usize,
+        offset: u64,
+        size: u64,
+        heap: &mut Heap,
+        allocations_remains: &mut u32,
+        looks: &mut Steps<L>,
+    )
+        requires live { (slot : LiveSlot) × IsLiveFitSpan (self.old).space (M.object memory) offset size slot }
+        requires agrees { Agrees self.old (D.properties device.old) (D.objects device.old) }
+        requires counted { IsCounted (self.old).space.chunks heap.old allocations_remains.old }
+
+        ensures frees { (slot : LiveSlot) → IsLiveFitSpan (self.old).space (M.object memory) offset size slot
+            → Asked D.step device.old device.new
+            (λ es. Frees (account self.old heap.old allocations_remains.old) slot es
+            (account self.new heap.new allocations_remains.new)) }
+        ensures objects { (slot : LiveSlot) → IsLiveFitSpan (self.old).space (M.object memory) offset size slot
+            → ObjectsFreed self.old slot (D.objects device.old) (D.objects device.new) }
+        ensures agrees { Agrees self.new (D.properties device.new) (D.objects device.new) }
+        ensures properties { D.properties device.new ≡ D.properties device.old }
+        ensures removed { (slot : LiveSlot) → IsLiveFitSpan (self.old).space (M.object memory) offset size slot
+            → Removes self.old slot self.new }
+        ensures ledger { heap.new.used ≤ heap.old.used }
+        ensures settings { KeepsSettings self.old self.new }
+        ensures sound { IsSoundFitting self.new }
+        ensures counted { IsCounted (self.new).space.chunks heap.new allocations_remains.new }
+        ensures total { chunks_and_remaining (self.new).space.chunks allocations_remains.new ≡ chunks_and_remaining
+            (self.old).space.chunks allocations_remains.old }
+        ensures looks { (slot : LiveSlot) → IsLiveFitSpan (self.old).space (M.object memory) offset size slot
+            → looks.new ≡ looks.old + neighbours (self.old).space slot }
+    {
+        let gone = self.fits.put_back_span(memory, key, offset, size, looks);
         self.fits.keeps_sound();
         let Some((memory, size)) = gone else {
             return;
@@ -349,8 +435,8 @@ impl<M: MemoryObject, A: Allocator> FitAllocator<M, A> {
         self.fits.list_live(rows)
     }
 
-    /// How many times all live blocks and free runs were searched, for a place or for a block that was returned with
-    /// another key than its own, modulo 2^64. Tests look at it, and no contract.
+    /// How many times all live blocks and free runs were searched, modulo 2^64: once for each block that was returned
+    /// with another key than its own. Tests look at it, and no contract.
     pub fn searches(&self) -> u64 {
         self.fits.searches()
     }
@@ -388,6 +474,7 @@ impl<M: MemoryObject, A: Allocator> FitAllocator<M, A> {
     }
 
     /// A size in whole atoms.
+    #[inline(always)]
     fn rounded_size(&self, size: u64) -> u64
         requires nonempty { 0 < size }
         requires fits { up size (self.now).atom ≤ (self.now).final_chunk }
@@ -395,12 +482,12 @@ impl<M: MemoryObject, A: Allocator> FitAllocator<M, A> {
         ensures nonempty { 0 < result }
         ensures whole { IsMultipleOf (self.now).atom result }
     {
-        let atom = self.atom_mask + 1;
-        (size - 1) / atom * atom + atom
+        let last = size - 1;
+        last - (last & self.atom_mask) + (self.atom_mask + 1)
     }
 
     /// Allocates a block of whole atoms at a multiple of the atom.
-    fn alloc_rounded<D: ObjectDevice<M>>(
+    fn alloc_rounded<D: ObjectDevice<M>, L: Ledger>(
         &mut self,
         device: &mut D,
         size: u64,
@@ -408,6 +495,7 @@ impl<M: MemoryObject, A: Allocator> FitAllocator<M, A> {
         flags: AllocationFlags,
         heap: &mut Heap,
         allocations_remains: &mut u32,
+        looks: &mut Steps<L>,
     ) -> Result<FitBlock<M>, AllocationError>
         requires fits { FitsAChunk self.old size align_mask }
         requires address { IsTrue (has_bit (allocation_bits flags) with_device_address)
@@ -421,8 +509,10 @@ impl<M: MemoryObject, A: Allocator> FitAllocator<M, A> {
         ensures properties { D.properties device.new ≡ D.properties device.old }
         ensures was { IsSoundFitting self.old }
         ensures sound { IsSoundFitting self.new }
+        ensures looks { LooksAtFew (self.old).space size (align_mask + 1) looks.old looks.new }
+        ensures some { HasPlace (self.old).space size (align_mask + 1) → looks.old < looks.new }
     {
-        let taken = self.fits.take(size, align_mask);
+        let taken = self.fits.take(size, align_mask, looks);
         self.fits.keeps_sound();
         match taken {
             Ok(Some(block)) => return Ok(block),
@@ -436,22 +526,23 @@ impl<M: MemoryObject, A: Allocator> FitAllocator<M, A> {
     }
 
     /// The error that `alloc_rounded` would give first.
-    fn refuses_rounded(
-        &mut self,
+    fn refuses_rounded<L: Ledger>(
+        &self,
         size: u64,
         align_mask: u64,
         heap: &Heap,
         allocations_remains: u32,
+        looks: &mut Steps<L>,
     ) -> Option<AllocationError>
         requires nonempty { 0 < size }
-        requires fits { size ≤ (self.old).final_chunk }
+        requires fits { size ≤ (self.now).final_chunk }
         requires alignment { IsAlignMask align_mask }
         ensures refuses { (flags : ℕ) → RefusesFirst
-            (fit_case (account self.old heap.now allocations_remains) size (align_mask + 1) flags) result }
-        ensures kept { self.new ≡ self.old }
+            (fit_case (account self.now heap.now allocations_remains) size (align_mask + 1) flags) result }
+        ensures looks { LooksAtFew (self.now).space size (align_mask + 1) looks.old looks.new }
     {
         let refusal = self.refuses_chunk(size, heap, allocations_remains)?;
-        if self.fits.has_place(size, align_mask) {
+        if self.fits.has_place(size, align_mask, looks) {
             return None;
         }
         Some(refusal)

@@ -2,14 +2,15 @@
 use Rattle.std.proofs.Common.{◌≡◌, ◌≢◌, inl, inr, ℕ, ◌<◌, ◌≤◌, true, Option, Some, None, refl, sym, ◌∙◌, ap, subst, arith}
 use Rattle.std.proofs.lemmas.Bool.{cases_eq}
 use Rattle.slab.specs.Slab.{ContainsKey, Slab, Updates, get}
+use Rattle.gpu_alloc_fits.specs.Filed.{KeepsEnds, down_of}
 use Rattle.gpu_alloc_fits.specs.Inside.{chunk_size_in, IsWholeTile, row_size}
-use Rattle.gpu_alloc_fits.specs.Links.{AreNodesKept, KeepsNodes, after_in, before_in}
+use Rattle.gpu_alloc_fits.specs.Links.{AreNodesKept, after_in, before_in}
 use Rattle.gpu_alloc_fits.specs.Tiles.{AreNeighbours, IsTiled, KeepsElsewhere, KeepsLive, Sets, tile_in}
 use Rattle.gpu_alloc_fits.specs.declared.fits.Chunk.{Chunk as Row}
 use Rattle.gpu_alloc_fits.specs.declared.tile.Node.{Node}
 use Rattle.gpu_alloc_fits.specs.declared.tile.Tile.{Tile}
 use Rattle.gpu_alloc_fits.proofs.Links.{fewer_linked}
-use Rattle.gpu_alloc_fits.proofs.Nodes.{has_tile, keeps_kept, other_after, other_before, other_tile, puts, tile_of}
+use Rattle.gpu_alloc_fits.proofs.Nodes.{has_tile, other_after, other_before, other_tile, puts, tile_of}
 use Rattle.gpu_alloc_fits.proofs.Tiles.{came, not_both, one_tile}
 
 -- one chunk has another size, and the others have theirs
@@ -108,20 +109,14 @@ module _ (old new : ℕ → ℕ) (chunk size : ℕ) (s0 s1 : Slab Node) (x : ℕ
   begun_else k c is = elsewhere k c is
 
 -- A wholly free chunk goes, with its tile.
-module _ (old new : ℕ → ℕ) (s0 z s1 : Slab Node) (x chunk : ℕ) (kept_0 : AreNodesKept old s0) (k0 : KeepsNodes s0 z) (whole : IsWholeTile old (tile_in s0) x chunk) (resizes : Resizes old new chunk 0) (goes : Updates z s1 x None) where
-  kept : AreNodesKept old z
-  kept = keeps_kept s0 z k0 old kept_0
+module _ (old new : ℕ → ℕ) (s0 s1 : Slab Node) (x chunk : ℕ) (kept : AreNodesKept old s0) (whole : IsWholeTile old (tile_in s0) x chunk) (resizes : Resizes old new chunk 0) (goes : Updates s0 s1 x None) where
+  pub end_key : ContainsKey s0 x
+  end_key = has_tile s0 x whole.tile whole.at
 
-  at : tile_in z x ≡ Some whole.tile
-  at = k0.tiles x ∙ whole.at
-
-  pub end_key : ContainsKey z x
-  end_key = has_tile z x whole.tile at
-
-  was : (k : ℕ) (c : Tile) → tile_in s1 k ≡ Some c → (k ≢ x) × (tile_in z k ≡ Some c)
+  was : (k : ℕ) (c : Tile) → tile_in s1 k ≡ Some c → (k ≢ x) × (tile_in s0 k ≡ Some c)
   was k c is = elim (cases_eq k x) [
     | inl here ↦ absurd (let none : None ≡ Some c = sym (ap tile_of goes.changed) ∙ sym (ap (tile_in s1) here) ∙ is in cc)
-    | inr ne ↦ (ne, sym (other_tile z s1 x None goes k ne) ∙ is)
+    | inr ne ↦ (ne, sym (other_tile s0 s1 x None goes k ne) ∙ is)
   ]
 
   other_chunk : (k : ℕ) (c : Tile) → tile_in s1 k ≡ Some c → c.chunk ≢ chunk
@@ -129,7 +124,11 @@ module _ (old new : ℕ → ℕ) (s0 z s1 : Slab Node) (x chunk : ℕ) (kept_0 :
       let w = was k c is in
       let most = subst (λ i. c.end ≤ old i) here (kept.tiled.inside k c w.1) in
       let some = kept.tiled.nonempty k c w.1 in
-      w.0 (kept.tiled.apart k x c whole.tile w.1 at (here ∙ sym whole.chunk_is) (omega (arith, some, most, whole.end)) (omega (arith, some, whole.start)))
+      w.0 (kept.tiled.apart k x c whole.tile w.1 whole.at (here ∙ sym whole.chunk_is) (omega (arith, some, most, whole.end)) (omega (arith, some, whole.start)))
+
+  -- tiles of other chunks have other keys
+  other_place : (k : ℕ) (c : Tile) → tile_in s0 k ≡ Some c → c.chunk ≢ chunk → k ≢ x
+  other_place k c is ne s = ne (ap (λ (t : Tile). t.chunk) (one_tile (tile_in s0) k x c whole.tile is whole.at s) ∙ whole.chunk_is)
 
   pub ended : AreNodesKept new s1
   ended = record {
@@ -142,31 +141,28 @@ module _ (old new : ℕ → ℕ) (s0 z s1 : Slab Node) (x chunk : ℕ) (kept_0 :
         | inr ne ↦
             let e = resizes.others of ne in
             let c = kept.tiled.covers of byte (omega (arith, lt, e)) in
-            let other : c.0 ≢ x = λ s. ne (sym c.2.1.0 ∙ ap (λ (t : Tile). t.chunk) (one_tile (tile_in z) c.0 x c.1 whole.tile c.2.0 at s) ∙ whole.chunk_is) in
-            (c.0, c.1, (other_tile z s1 x None goes c.0 other ∙ c.2.0, c.2.1))
+            (c.0, c.1, (other_tile s0 s1 x None goes c.0 (other_place c.0 c.1 c.2.0 (λ s. ne (sym c.2.1.0 ∙ s))) ∙ c.2.0, c.2.1))
       ];
     };
     calm = λ j k c d is_c is_d both. kept.calm j k c d (was j c is_c).1 (was k d is_d).1 both;
-    linked = fewer_linked (tile_in z) (tile_in s1) (before_in z) (after_in z) (before_in s1) (after_in s1) kept.linked (λ j k c d is_c is_d near.
+    linked = fewer_linked (tile_in s0) (tile_in s1) (before_in s0) (after_in s0) (before_in s1) (after_in s1) kept.linked (λ j k c d is_c is_d near.
         let w = was j c is_c in
         let v = was k d is_d in
-        (w.1, v.1, other_after z s1 x None goes j w.0, other_before z s1 x None goes k v.0));
+        (w.1, v.1, other_after s0 s1 x None goes j w.0, other_before s0 s1 x None goes k v.0));
   }
 
   pub ended_lives : KeepsLive (tile_in s0) (tile_in s1)
   ended_lives = record {
-    stays = λ k c h.
-        let is = k0.tiles k ∙ h.0 in
-        let other : k ≢ x = λ s. not_both whole.tile c (sym (one_tile (tile_in z) k x c whole.tile is at s)) whole.free h.1 in
-        (other_tile z s1 x None goes k other ∙ is, h.1);
-    was = λ k c h. (sym (k0.tiles k) ∙ (was k c h.0).1, h.1);
+    stays = λ k c h. (other_tile s0 s1 x None goes k (λ s. not_both whole.tile c (sym (one_tile (tile_in s0) k x c whole.tile h.0 whole.at s)) whole.free h.1) ∙ h.0, h.1);
+    was = λ k c h. ((was k c h.0).1, h.1);
   }
 
   pub ended_elsewhere : KeepsElsewhere chunk (tile_in s0) (tile_in s1)
-  ended_elsewhere k c is ne =
-      let is_z = k0.tiles k ∙ is in
-      other_tile z s1 x None goes k (λ s. ne (ap (λ (t : Tile). t.chunk) (one_tile (tile_in z) k x c whole.tile is_z at s) ∙ whole.chunk_is)) ∙ is_z
+  ended_elsewhere k c is ne = other_tile s0 s1 x None goes k (other_place k c is ne) ∙ is
+
+  pub ended_ends : KeepsEnds chunk s0 s1
+  ended_ends k c is ne none = ap down_of (goes.others k (other_place k c is ne)) ∙ none
 
   -- the chunk's row stands
   pub end_some : 0 < old chunk
-  end_some = omega (arith, kept.tiled.nonempty x whole.tile at, whole.start, whole.end)
+  end_some = omega (arith, kept.tiled.nonempty x whole.tile whole.at, whole.start, whole.end)

@@ -1,13 +1,18 @@
 -- The end of a free tile is taken, and what a block leaves behind it is free again.
-use Rattle.std.proofs.Common.{◌≡◌, ◌≢◌, inl, inr, ℕ, ◌<◌, Bool, true, false, Option, Some, None, IsSome, option_map, refl, sym, ◌∙◌, ap, subst, arith}
+use Rattle.std.proofs.Common.{◌≡◌, ◌≢◌, inl, inr, ℕ, ◌-◌, ◌<◌, Bool, true, false, Option, Some, None, IsSome, option_map, refl, sym, ◌∙◌, ap, subst, arith}
 use Rattle.std.proofs.lemmas.Bool.{cases_eq}
 use Rattle.slab.specs.Slab.{Slab, ContainsKey, Updates, get}
+use Rattle.gpu_alloc_fits.specs.Classes.{class_of_bytes, filed_but}
+use Rattle.gpu_alloc_fits.specs.Filed.{AreFreeFiled, IsIndexed, KeepsEnds, KeepsLasts, KeepsLists, Refiles, class_at, down_of, filed_in}
 use Rattle.gpu_alloc_fits.specs.Inside.{chunk_size_in, row_size}
 use Rattle.gpu_alloc_fits.specs.Links.{AreLinked, AreNodesKept, KeepsNodes, SetsBefore, after_in, after_of, before_in, before_of, with_end, with_free}
 use Rattle.gpu_alloc_fits.specs.Tiles.{AreNeighbours, HasNoLiveTile, IsFreeRight, IsLiveAt, IsTiled, KeepsElsewhere, KeepsOthers, Sets, tile_in}
+use Rattle.gpu_alloc_fits.specs.declared.classes.Classes.{Classes}
 use Rattle.gpu_alloc_fits.specs.declared.fits.Chunk.{Chunk as Row}
 use Rattle.gpu_alloc_fits.specs.declared.tile.Node.{Node}
+use Rattle.gpu_alloc_fits.specs.declared.tile.TheConstants.{NONE}
 use Rattle.gpu_alloc_fits.specs.declared.tile.Tile.{Tile}
+use Rattle.gpu_alloc_fits.proofs.Filed.{but_as, filed_differs, free_class, kept_lists, live_class, refiled_free, same_filing, unfiled_comes}
 use Rattle.gpu_alloc_fits.proofs.Links.{ends_before, key_after, retiled_linked}
 use Rattle.gpu_alloc_fits.proofs.Nodes.{before_left, has_tile, keeps_kept, node_of_tile, other_after, other_before, other_tile, put_after, put_before, puts, tile_of, tile_of_node, with_tiles, written}
 use Rattle.gpu_alloc_fits.proofs.Splits.{back_calm, calm_end, cut_tiled, others_cut, others_end, right_end, split_elsewhere, split_linked}
@@ -84,6 +89,19 @@ module _ (size : ℕ → ℕ) (s0 z s1 : Slab Node) (x : ℕ) (run : Tile) (kept
   taken_elsewhere k a is other =
       let is_z = k0.tiles k ∙ is in
       sets.others k (λ same. other (ap (λ (t : Tile). t.chunk) (one_tile (tile_in z) k x a run is_z at_t same))) ∙ is_z
+
+  -- it goes out of its list
+  pub taken_filed : (classes new : Classes) (class : ℕ) → class ≡ class_of_bytes (run.end - run.start) → AreFreeFiled s0 classes → Refiles s0 classes z new x (Some class) None → KeepsLists z s1 → AreFreeFiled s1 new
+  taken_filed classes new class is filed refiles lists =
+      same_filing (filed_but (filed_in s0) x None) (filed_in s1) s1 new
+      (filed_differs (filed_in s0) (filed_in s1) x None (live_class (tile_in s1) x taken_tile sets.changed refl) (λ k ne. ap class_at (sets.others k ne ∙ k0.tiles k)))
+      (kept_lists (filed_but (filed_in s0) x None) z s1 new lists (refiles (filed_in s0) filed (free_class (tile_in s0) x run at_run free ∙ ap (λ c. Some c) (sym is))))
+
+  -- and the last ones of other chunks stay so
+  pub taken_ends : (classes : Classes) (class : ℕ) → class ≡ class_of_bytes (run.end - run.start) → AreFreeFiled s0 classes → KeepsLasts s0 classes z x (Some class) → KeepsLists z s1 → KeepsEnds run.chunk s0 s1
+  taken_ends classes class is filed lasts lists k a is_k other none =
+      lists.down k
+      ∙ lasts (filed_in s0) filed (free_class (tile_in s0) x run at_run free ∙ ap (λ c. Some c) (sym is)) k (λ same. other (ap (λ (t : Tile). t.chunk) (one_tile (tile_in s0) k x a run is_k at_run same))) none
 
 -- The steps of a cut: the end comes under y, the front is put under x, and the tile behind has the key of the end.
 module _ (size : ℕ → ℕ) (s0 s1 s2 : Slab Node) (x y cut : ℕ) (n o : Node) (m : Tile) (kept : AreNodesKept size s0) (at : get s0 x ≡ Some n) (at_m : tile_in s0 x ≡ Some m) (vacant : get s0 y ≡ None)
@@ -179,6 +197,42 @@ module _ (size : ℕ → ℕ) (s0 s1 s2 : Slab Node) (x y cut : ℕ) (n o : Node
     pub cut_off : KeepsElsewhere m.chunk (tile_in s0) (tile_in s4)
     cut_off = with_tiles s3 s4 files (KeepsElsewhere m.chunk (tile_in s0)) (split_elsewhere size (tile_in s0) (tile_in s3) x y x y back_rest back_tile back_rest back_tile m kept.tiled at_m back_splits back_joint from to back_splits.rest back_splits.new (inl (refl, refl)))
 
+    -- the lists are those of the first slab
+    module _ (classes new : Classes) (keyed : y ≢ NONE) (lists_2 : KeepsLists s1 s2) (lists_3 : KeepsLists s2 s3) (filed : AreFreeFiled s0 classes) where
+      cut_lists : IsIndexed (filed_in s0) s3 classes
+      cut_lists = kept_lists (filed_in s0) s2 s3 classes lists_3 (kept_lists (filed_in s0) s1 s2 classes lists_2 (unfiled_comes (filed_in s0) s0 s1 classes y (Some o) comes (ap class_at fresh) filed keyed))
+
+      -- the last ones of other chunks stay so, where one of the two is filed
+      cut_ends : (w : ℕ) (was : Option ℕ) → ((k : ℕ) → k ≢ x → k ≢ y → k ≢ w) → filed_in s0 w ≡ was → KeepsLasts s3 classes s4 w was → KeepsEnds m.chunk s0 s4
+      cut_ends w was apart on lasts k a is other none =
+          let ne_x : k ≢ x = (λ e. other (ap (λ (t : Tile). t.chunk) (one_tile (tile_in s0) k x a m is at_m e))) in
+          let ne_y = not_new k a is in
+          lasts (filed_in s0) cut_lists on k (apart k ne_x ne_y) (lists_3.down k ∙ lists_2.down k ∙ ap down_of (comes.others k ne_y) ∙ none)
+
+      pub back_ends : KeepsLasts s3 classes s4 y None → KeepsEnds m.chunk s0 s4
+      back_ends = cut_ends y None (λ k ne_x ne_y. ne_y) (ap class_at fresh)
+
+      pub end_ends : m.free ≡ true → (was : ℕ) → was ≡ class_of_bytes (m.end - m.start) → KeepsLasts s3 classes s4 x (Some was) → KeepsEnds m.chunk s0 s4
+      end_ends free was was_is = cut_ends x (Some was) (λ k ne_x ne_y. ne_x) (free_class (tile_in s0) x m at_m free ∙ ap (λ c. Some c) (sym was_is))
+
+      pub back_filed : m.free ≡ false → new_free ≡ true → (class : ℕ) → class ≡ class_of_bytes (m.end - cut) → Refiles s3 classes s4 new y None (Some class) → AreFreeFiled s4 new
+      back_filed live free class is refiles =
+          refiled_free s3 s4 classes new y class None back_tile files back_splits.new free is
+          (but_as (filed_in s0) s3 classes y None (ap class_at fresh) (λ k other. elim (cases_eq k x) [
+            | inl same ↦ ap (filed_in s3) same ∙ live_class (tile_in s3) x back_rest back_splits.rest live ∙ sym (live_class (tile_in s0) x m at_m live) ∙ ap (filed_in s0) (sym same)
+            | inr ne ↦ ap class_at (back_splits.others k ne other)
+          ]) cut_lists)
+          refiles
+
+      pub end_filed : m.free ≡ true → new_free ≡ false → (was class : ℕ) → was ≡ class_of_bytes (m.end - m.start) → class ≡ class_of_bytes (cut - m.start) → Refiles s3 classes s4 new x (Some was) (Some class) → AreFreeFiled s4 new
+      end_filed free live was class was_is is refiles =
+          refiled_free s3 s4 classes new x class (Some was) back_rest files back_splits.rest free is
+          (but_as (filed_in s0) s3 classes x (Some was) (free_class (tile_in s0) x m at_m free ∙ ap (λ c. Some c) (sym was_is)) (λ k other. elim (cases_eq k y) [
+            | inl same ↦ ap (filed_in s3) same ∙ live_class (tile_in s3) y back_tile back_splits.new live ∙ sym (ap class_at fresh) ∙ ap (filed_in s0) (sym same)
+            | inr ne ↦ ap class_at (back_splits.others k other ne)
+          ]) cut_lists)
+          refiles
+
     -- The end of a live tile comes free.
     module _ (live : m.free ≡ false) (free : new_free ≡ true) where
       pub back_kept : IsFreeRight x (tile_in s0) → AreNodesKept size s4
@@ -233,6 +287,9 @@ others_then old mid new x first last = record {
 
 pub elsewhere_then : (chunk : ℕ) (old mid new : ℕ → Option Tile) → KeepsElsewhere chunk old mid → KeepsElsewhere chunk mid new → KeepsElsewhere chunk old new
 elsewhere_then chunk old mid new first last k a is other = last k a (first k a is other) other
+
+pub ends_then : (chunk : ℕ) (n0 n1 n2 : Slab Node) → KeepsElsewhere chunk (tile_in n0) (tile_in n1) → KeepsEnds chunk n0 n1 → KeepsEnds chunk n1 n2 → KeepsEnds chunk n0 n2
+ends_then chunk n0 n1 n2 keeps first last k a is other none = last k a (keeps k a is other) other (first k a is other none)
 
 -- the chunk of a tile is held
 pub row_of_tile : {M : Type 0} (rows : Slab (Row M)) (T : ℕ → Option Tile) (k : ℕ) (a : Tile) → IsTiled (chunk_size_in rows) T → T k ≡ Some a → ContainsKey rows a.chunk

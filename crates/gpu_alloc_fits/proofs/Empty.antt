@@ -48,11 +48,10 @@ module _ {M : Type 0} (object : M → ℕ) (rows : Slab (Row M)) (nodes : Slab N
     linked = λ j k a b is_a is_b near. absurd (nowhere j a is_a);
   }
 
-  pub empty_stored : IsStoredInTiles object rows nodes None None
+  pub empty_stored : IsStoredInTiles object rows nodes None
   empty_stored = record {
     kept = empty_kept;
     sizes = λ k row is. absurd (no_row k row is);
     one_object = λ i k a b is_a is_b same. absurd (no_row i a is_a);
     spare_is = λ key w. (let none = ap (λ (m : HeldChunks). map.get m key) no_chunks ∙ map.get-empty nat_cmp key in let there : IsSome (map.get (chunks_of_rows object rows) key) = w.held in absurd (cc));
-    still_full = tt;
   }

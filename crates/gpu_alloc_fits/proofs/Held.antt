@@ -11,17 +11,21 @@ use Rattle.gpu_alloc_base.proofs.ListedRanges.{told_object}
 use Rattle.gpu_alloc_base.proofs.Maps.{gone, kept_other}
 use Rattle.gpu_alloc_base.proofs.SlabViews.{by_key_put, by_key_removed, get_by_key, once_inserted, once_removed}
 use Rattle.gpu_alloc_base.proofs.Slots.{slot_inserted}
-use Rattle.gpu_alloc_fits.specs.Inside.{IsSpareTile, IsStillFull, IsStoredInTiles, IsWholeTile, chunk_of_row, chunk_size_in, chunks_of_rows, fit_space_in, live_slots_in, row_size, slot_of}
+use Rattle.gpu_alloc_fits.specs.Classes.{filed_but}
+use Rattle.gpu_alloc_fits.specs.Filed.{AreFreeFiledBut, AreWholeLast, KeepsEnds, KeepsLasts, down_of, filed_in}
+use Rattle.gpu_alloc_fits.specs.Inside.{IsSpareTile, IsStoredInTiles, IsWholeTile, chunk_of_row, chunk_size_in, chunks_of_rows, fit_space_in, live_slots_in, row_size, slot_of}
 use Rattle.gpu_alloc_fits.specs.Links.{AreNodesKept, KeepsNodes}
-use Rattle.gpu_alloc_fits.specs.Space.{BeginsFitChunk, FitSpace, IsFreeIn, IsLiveSlot, IsUnheld, IsWhollyFree, with_chunk, with_slot, without_chunk}
+use Rattle.gpu_alloc_fits.specs.Space.{BeginsFitChunk, FitSpace, IsLiveSlot, IsUnheld, IsWhollyFree, with_chunk, with_slot, without_chunk}
 use Rattle.gpu_alloc_fits.specs.Tiles.{HasNoLiveTile, IsLiveAt, KeepsElsewhere, KeepsLive, KeepsOthers, tile_in}
+use Rattle.gpu_alloc_fits.specs.declared.classes.Classes.{Classes}
 use Rattle.gpu_alloc_fits.specs.declared.fits.Chunk.{Chunk as Row}
-use Rattle.gpu_alloc_fits.specs.declared.search.Full.{Full}
 use Rattle.gpu_alloc_fits.specs.declared.tile.Node.{Node}
 use Rattle.gpu_alloc_fits.specs.declared.tile.Tile.{Tile}
 use Rattle.gpu_alloc_fits.proofs.Chunks.{Resizes, begun, begun_else, begun_keeps, begun_lives, resized}
+use Rattle.gpu_alloc_fits.proofs.Ends.{used_last}
+use Rattle.gpu_alloc_fits.proofs.Filing.{but_same}
 use Rattle.gpu_alloc_fits.proofs.Live.{in_live, live_elsewhere, live_more, live_same}
-use Rattle.gpu_alloc_fits.proofs.Nodes.{keeps_kept, with_tiles}
+use Rattle.gpu_alloc_fits.proofs.Nodes.{keeps_kept, tile_of, with_tiles}
 use Rattle.gpu_alloc_fits.proofs.Stored.{block_slot}
 
 -- The chunk of a row goes, in which no block is live.
@@ -69,19 +73,6 @@ module _ {M : Type 0} (object : M → ℕ) (old new : Slab (Row M)) (n1 n2 : Sla
       let ne = not_held key w.held in
       (ne, record { held = subst IsSome (held_was key ne) w.held; unused = λ slot l. w.unused slot (was_live slot l) })
 
-  was_free : (key byte : ℕ) → IsFreeIn after key byte → IsFreeIn before key byte
-  was_free key byte f =
-      let ne = not_held key (subst IsSome (sym f.is) refl) in
-      record { held = f.held; is = sym (held_was key ne) ∙ f.is; inside = f.inside; unused = λ slot l same. f.unused slot (was_live slot l) same }
-
-  gone_full : (f : Option Full) → IsStillFull before f → IsStillFull after f
-  gone_full None known = tt
-  gone_full (Some f) known = record {
-    nonempty = known.nonempty;
-    alignment = known.alignment;
-    none = λ place. known.none (place.0, place.1, record { aligned = place.2.aligned; free = λ at from to. was_free place.0 at (place.2.free at from to) });
-  }
-
   -- a whole tile of another chunk is one still
   pub other_whole : KeepsElsewhere chunk (tile_in n1) (tile_in n2) → (z other : ℕ) → other ≢ chunk → IsWholeTile (chunk_size_in old) (tile_in n1) z other → IsWholeTile (chunk_size_in new) (tile_in n2) z other
   other_whole stays z other ne w = record {
@@ -93,9 +84,9 @@ module _ {M : Type 0} (object : M → ℕ) (old new : Slab (Row M)) (n1 n2 : Sla
     chunk_is = w.chunk_is;
   }
 
-  pub gone_stored : (spare : Option ℕ) (full : Option Full) → ((k : ℕ) (r : Row M) → get old k ≡ Some r → (0 < r.size) × (r.size < 2 ^ 64)) → HasOneKeyEach (λ (r : Row M). object r.memory) old
-      → IsSpareTile after (chunk_size_in new) (tile_in n2) spare → IsStillFull before full → IsStoredInTiles object new n2 spare full
-  gone_stored spare full sizes once spare_is known = record {
+  pub gone_stored : (spare : Option ℕ) → ((k : ℕ) (r : Row M) → get old k ≡ Some r → (0 < r.size) × (r.size < 2 ^ 64)) → HasOneKeyEach (λ (r : Row M). object r.memory) old
+      → IsSpareTile after (chunk_size_in new) (tile_in n2) spare → IsStoredInTiles object new n2 spare
+  gone_stored spare sizes once spare_is = record {
     kept = kept;
     sizes = λ k r is. sizes k r (elim (cases_eq k chunk) [
       | inl here ↦ absurd (let none : None ≡ Some r = sym goes.changed ∙ sym (ap (get new) here) ∙ is in cc)
@@ -103,12 +94,11 @@ module _ {M : Type 0} (object : M → ℕ) (old new : Slab (Row M)) (n1 n2 : Sla
     ]);
     one_object = once_removed (λ (r : Row M). object r.memory) old new chunk row once (record { was = was; updates = goes });
     spare_is = spare_is;
-    still_full = gone_full full known;
   }
 
 -- A chunk comes, whose front becomes a live block.
 
-module _ {M : Type 0} (object : M → ℕ) (old new : Slab (Row M)) (n0 n1 n2 : Slab Node) (spare : Option ℕ) (full : Option Full) (stored : IsStoredInTiles object old n0 spare full) (chunk : ℕ) (row : Row M) (vacant : get old chunk ≡ None)
+module _ {M : Type 0} (object : M → ℕ) (old new : Slab (Row M)) (n0 n1 n2 : Slab Node) (spare : Option ℕ) (stored : IsStoredInTiles object old n0 spare) (chunk : ℕ) (row : Row M) (vacant : get old chunk ≡ None)
     (comes : Updates old new chunk (Some row)) (lives : KeepsLive (tile_in n0) (tile_in n1)) (others_0 : (k : ℕ) (c : Tile) → tile_in n0 k ≡ Some c → tile_in n1 k ≡ Some c) (else_0 : (k : ℕ) (c : Tile) → tile_in n0 k ≡ Some c → c.chunk ≢ chunk)
     (x : ℕ) (b : Tile) (unused : HasNoLiveTile (tile_in n1) x) (live : IsLiveAt (tile_in n2) x b) (of_chunk : b.chunk ≡ chunk) (others : KeepsOthers (tile_in n1) (tile_in n2) x)
     (elsewhere_1 : KeepsElsewhere chunk (tile_in n1) (tile_in n2)) (kept : AreNodesKept (chunk_size_in new) n2) where
@@ -162,7 +152,7 @@ module _ {M : Type 0} (object : M → ℕ) (old new : Slab (Row M)) (n0 n1 n2 : 
         only = λ key v. whole.only key (wholly_was key v);
       }
 
-  pub begun_stored : (0 < row.size) × (row.size < 2 ^ 64) → ((k : ℕ) (r : Row M) → get old k ≡ Some r → object r.memory ≢ object row.memory) → IsStoredInTiles object new n2 spare None
+  pub begun_stored : (0 < row.size) × (row.size < 2 ^ 64) → ((k : ℕ) (r : Row M) → get old k ≡ Some r → object r.memory ≢ object row.memory) → IsStoredInTiles object new n2 spare
   begun_stored sized unheld = record {
     kept = kept;
     sizes = λ k r is. elim (cases_eq k chunk) [
@@ -171,12 +161,11 @@ module _ {M : Type 0} (object : M → ℕ) (old new : Slab (Row M)) (n0 n1 n2 : 
     ];
     one_object = once_inserted (λ (r : Row M). object r.memory) old new chunk row stored.one_object unheld (record { was_vacant = vacant; updates = comes });
     spare_is = begun_spare spare stored.spare_is;
-    still_full = tt;
   }
 
 -- The steps in which it comes: its row, its tile, all of it free, and what is cut out.
 
-module _ {M : Type 0} (object : M → ℕ) (old new : Slab (Row M)) (n0 s1 n1 n2 : Slab Node) (spare : Option ℕ) (full : Option Full) (stored : IsStoredInTiles object old n0 spare full) (chunk x size name : ℕ) (row : Row M) (node : Node)
+module _ {M : Type 0} (object : M → ℕ) (old new : Slab (Row M)) (n0 s1 n1 n2 : Slab Node) (spare : Option ℕ) (stored : IsStoredInTiles object old n0 spare) (chunk x size name : ℕ) (row : Row M) (node : Node)
     (vacant : get old chunk ≡ None) (comes : Updates old new chunk (Some row)) (vacant_tile : get n0 x ≡ None) (comes_tile : Updates n0 s1 x (Some node)) (tile : node.tile ≡ record { chunk = chunk; start = 0; end = row.size; free = true })
     (files : KeepsNodes s1 n1) (some : 0 < size) (inside : size ≤ row.size) (bounded : row.size < 2 ^ 64) (named : object row.memory ≡ name) (unheld : IsUnheld (fit_space_in (chunks_of_rows object old) n0) name) where
   first_size : Resizes (chunk_size_in old) (chunk_size_in new) chunk row.size
@@ -204,10 +193,19 @@ module _ {M : Type 0} (object : M → ℕ) (old new : Slab (Row M)) (n0 s1 n1 n2
     come_else : (k : ℕ) (c : Tile) → tile_in n0 k ≡ Some c → c.chunk ≢ chunk
     come_else k c is = begun_else (chunk_size_in old) (chunk_size_in new) chunk row.size n0 s1 x node stored.kept unheld_size some_row first_size vacant_tile comes_tile tile k c is
 
-    pub come_stored : IsStoredInTiles object new n2 spare None
+    pub come_stored : IsStoredInTiles object new n2 spare
     come_stored =
-        begun_stored object old new n0 n1 n2 spare full stored chunk row vacant comes come_lives come_keeps come_else y come_block unused live refl others elsewhere_1 kept (some_row, bounded)
+        begun_stored object old new n0 n1 n2 spare stored chunk row vacant comes come_lives come_keeps come_else y come_block unused live refl others elsewhere_1 kept (some_row, bounded)
         (λ k r is same. unheld k (chunk_of_row object r) (get_by_key (chunk_of_row object) old k ∙ ap (option_map (chunk_of_row object)) is) (same ∙ named))
+
+    -- the wholly free chunk stays the last of its class
+    pub come_last : (classes : Classes) → AreFreeFiledBut s1 classes x None → KeepsLasts s1 classes n1 x None → KeepsEnds chunk n1 n2 → AreWholeLast (chunk_size_in old) n0 → AreWholeLast (chunk_size_in new) n2
+    come_last classes filed lasts ends last =
+        used_last (chunk_size_in old) (chunk_size_in new) n0 n2 chunk first_size.others stored.kept kept (λ k c is ne. elsewhere_1 k c (come_keeps k c is) ne)
+        (λ k c is ne none.
+        let other : k ≢ x = (λ same. let no : None ≡ Some c = sym (ap tile_of vacant_tile) ∙ sym (ap (tile_in n0) same) ∙ is in cc) in
+        ends k c (come_keeps k c is) ne (lasts (filed_but (filed_in s1) x None) filed (but_same (filed_in s1) x x None refl) k other (ap down_of (comes_tile.others k other) ∙ none)))
+        last y come_block live refl
 
     -- the block by its own name
     come_is : slot_of (chunks_of_rows object new) come_block ≡ record { object = name; chunk = chunk; offset = 0; size = size }
@@ -216,7 +214,7 @@ module _ {M : Type 0} (object : M → ℕ) (old new : Slab (Row M)) (n0 s1 n1 n2
     pub come_space : (slot : Slot) → slot ≡ record { object = name; chunk = chunk; offset = 0; size = size }
         → fit_space_in (chunks_of_rows object new) n2 ≡ with_slot (with_chunk (fit_space_in (chunks_of_rows object old) n0) slot row.size) slot
     come_space slot is =
-        begun_space object old new n0 n1 n2 spare full stored chunk row vacant comes come_lives come_keeps come_else y come_block unused live refl others elsewhere_1 kept slot row.size
+        begun_space object old new n0 n1 n2 spare stored chunk row vacant comes come_lives come_keeps come_else y come_block unused live refl others elsewhere_1 kept slot row.size
         (is ∙ sym come_is) refl (ap (λ (s : Slot). s.object) is ∙ sym named)
 
   pub come_begins : (slot : Slot) → slot ≡ record { object = name; chunk = chunk; offset = 0; size = size } → BeginsFitChunk (fit_space_in (chunks_of_rows object old) n0) size slot

@@ -1,12 +1,18 @@
 -- A free tile takes the free ones beside it in.
-use Rattle.std.proofs.Common.{◌≡◌, ◌≢◌, inl, inr, ℕ, ◌<◌, ◌≤◌, Bool, true, false, Option, Some, None, option_map, refl, sym, ◌∙◌, ap, subst, arith}
+use Rattle.std.proofs.Common.{◌≡◌, ◌≢◌, inl, inr, ℕ, ◌-◌, ◌<◌, ◌≤◌, Bool, true, false, Option, Some, None, option_map, refl, sym, ◌∙◌, ap, subst, arith}
 use Rattle.std.proofs.lemmas.Bool.{cases_eq}
 use Rattle.std.specs.Prelude.{not}
 use Rattle.slab.specs.Slab.{Slab, ContainsKey, Updates, get}
+use Rattle.gpu_alloc_fits.specs.Classes.{class_of_bytes, filed_but}
+use Rattle.gpu_alloc_fits.specs.Filed.{AreFreeFiled, AreFreeFiledBut, IsIndexed, KeepsEnds, KeepsLasts, KeepsLists, Refiles, class_at, down_in, down_of, filed_in}
 use Rattle.gpu_alloc_fits.specs.Links.{AreLinked, AreNodesKept, AreNodesKeptBut, KeepsNodes, SetsBefore, after_in, after_of, before_in, before_of, with_end, with_free}
 use Rattle.gpu_alloc_fits.specs.Tiles.{AreFreeNeighbours, AreNeighbours, IsCalmBut, IsFirst, IsFreeTileOf, IsTiled, KeepsElsewhere, KeepsLive, PutsTileBack, Sets, tile_in}
+use Rattle.gpu_alloc_fits.specs.declared.classes.Classes.{Classes}
 use Rattle.gpu_alloc_fits.specs.declared.tile.Node.{Node}
+use Rattle.gpu_alloc_fits.specs.declared.tile.TheConstants.{NONE}
 use Rattle.gpu_alloc_fits.specs.declared.tile.Tile.{Tile}
+use Rattle.gpu_alloc_fits.proofs.Filed.{but_as, free_class, kept_lists, live_class, unfiled_goes}
+use Rattle.gpu_alloc_fits.proofs.Filing.{but_other, but_same}
 use Rattle.gpu_alloc_fits.proofs.Links.{after_else, before_else, ends_before, joint_linked, key_after, key_before, retiled_linked}
 use Rattle.gpu_alloc_fits.proofs.Nodes.{before_left, has_tile, node_of_tile, other_after, other_before, other_tile, put_after, put_before, puts, tile_of, tile_of_node, written}
 use Rattle.gpu_alloc_fits.proofs.Tiles.{Absorbs, IsJoint, IsLast, came, came_joint, joint_calm, joint_lives, joint_tiled, not_both, one_tile, retiled, settled}
@@ -62,6 +68,11 @@ module _ (size : ℕ → ℕ) (s0 s1 : Slab Node) (x : ℕ) (n : Node) (kept : A
 
   pub freed_elsewhere : KeepsElsewhere n.tile.chunk (tile_in s0) (tile_in s1)
   freed_elsewhere k a is ne = sets.others k (λ same. ne (ap (λ (t : Tile). t.chunk) (one_tile (tile_in s0) k x a n.tile is at_t same))) ∙ is
+
+  -- it is in no list yet
+  pub freed_filed : n.tile.free ≡ false → (classes : Classes) → KeepsLists s0 s1 → AreFreeFiled s0 classes → AreFreeFiledBut s1 classes x None
+  freed_filed live classes lists filed =
+      but_as (filed_in s0) s1 classes x None (live_class (tile_in s0) x n.tile at_t live) (λ k ne. ap class_at (sets.others k ne)) (kept_lists (filed_in s0) s0 s1 classes lists filed)
 
 -- a tile is free where it is not live
 pub unnot : (b : Bool) → not b ≡ false → b ≡ true
@@ -221,6 +232,48 @@ module _ (size : ℕ → ℕ) (s0 z s1 s2 : Slab Node) (x y : ℕ) (n o : Node) 
 
     pub right_grown : tile_in s3 x ≡ Some right_tile
     right_grown = right_absorbed.grown
+
+    -- the one that goes was in no list
+    joined_lists : (filed : ℕ → Option ℕ) (classes : Classes) → filed y ≡ None → KeepsLists s1 s2 → KeepsLists s2 s3 → IsIndexed filed z classes → IsIndexed filed s3 classes
+    joined_lists filed classes off lists_2 lists_3 indexed = kept_lists filed s2 s3 classes lists_3 (kept_lists filed s1 s2 classes lists_2 (unfiled_goes filed z s1 classes y None gone off indexed refl))
+
+    -- the other keeps its class
+    joined_filed : (filed : ℕ → Option ℕ) (classes : Classes) (class : Option ℕ) → filed x ≡ class → filed y ≡ None → ((k : ℕ) → k ≢ x → k ≢ y → filed k ≡ filed_in s0 k) → KeepsLists s1 s2 → KeepsLists s2 s3 → IsIndexed filed z classes
+        → AreFreeFiledBut s3 classes x class
+    joined_filed filed classes class here off others lists_2 lists_3 indexed =
+        but_as filed s3 classes x class here (λ k ne. elim (cases_eq k y) [
+          | inl same ↦ ap (filed_in s3) same ∙ ap class_at right_absorbed.gone ∙ sym off ∙ ap filed (sym same)
+          | inr other ↦ ap class_at (right_absorbed.others k ne other) ∙ sym (others k ne other)
+        ]) (joined_lists filed classes off lists_2 lists_3 indexed)
+
+    -- the last ones of other chunks stay so
+    pub joined_ends : ((k : ℕ) → k ≢ y → down_in s0 k ≡ NONE → down_in z k ≡ NONE) → KeepsLists s1 s2 → KeepsLists s2 s3 → KeepsEnds n.tile.chunk s0 s3
+    joined_ends first lists_2 lists_3 k a is other none =
+        let apart : k ≢ y = (λ e. other (ap (λ (t : Tile). t.chunk) (one_tile (tile_in s0) k y a o.tile is at_y e) ∙ sym near.chunk)) in
+        lists_3.down k ∙ lists_2.down k ∙ ap down_of (gone.others k apart) ∙ first k apart none
+
+    -- The one that goes was freed just now.
+    pub left_filed : (classes : Classes) (class : ℕ) → class ≡ class_of_bytes (n.tile.end - n.tile.start) → KeepsLists s1 s2 → KeepsLists s2 s3 → IsIndexed (filed_but (filed_in s0) y None) z classes → AreFreeFiledBut s3 classes x (Some class)
+    left_filed classes class is lists_2 lists_3 indexed =
+        joined_filed (filed_but (filed_in s0) y None) classes (Some class)
+        (but_other (filed_in s0) y x None (λ e. ne (sym e)) ∙ free_class (tile_in s0) x n.tile at_x n_free ∙ ap (λ c. Some c) (sym is))
+        (but_same (filed_in s0) y y None refl) (λ k ne_x ne_y. but_other (filed_in s0) y k None ne_y) lists_2 lists_3 indexed
+
+    -- The one that stays was.
+    back_on : (class : ℕ) (was : Option ℕ) → class ≡ class_of_bytes (o.tile.end - o.tile.start) → filed_but (filed_in s0) x was y ≡ Some class
+    back_on class was is = but_other (filed_in s0) x y was ne ∙ free_class (tile_in s0) y o.tile at_y free ∙ ap (λ c. Some c) (sym is)
+
+    pub back_ends : (classes : Classes) (class : ℕ) (was : Option ℕ) → class ≡ class_of_bytes (o.tile.end - o.tile.start) → AreFreeFiledBut s0 classes x was → KeepsLasts s0 classes z y (Some class) → KeepsLists s1 s2 → KeepsLists s2 s3 → KeepsEnds n.tile.chunk s0 s3
+    back_ends classes class was is filed lasts = joined_ends (lasts (filed_but (filed_in s0) x was) filed (back_on class was is))
+
+    pub back_filed : (classes new : Classes) (class : ℕ) (was : Option ℕ) → class ≡ class_of_bytes (o.tile.end - o.tile.start) → AreFreeFiledBut s0 classes x was → Refiles s0 classes z new y (Some class) None → KeepsLists s1 s2 → KeepsLists s2 s3
+        → AreFreeFiledBut s3 new x was
+    back_filed classes new class was is filed refiles lists_2 lists_3 =
+        joined_filed (filed_but (filed_but (filed_in s0) x was) y None) new was
+        (but_other (filed_but (filed_in s0) x was) y x None (λ e. ne (sym e)) ∙ but_same (filed_in s0) x x was refl)
+        (but_same (filed_but (filed_in s0) x was) y y None refl)
+        (λ k ne_x ne_y. but_other (filed_but (filed_in s0) x was) y k None ne_y ∙ but_other (filed_in s0) x k was ne_x) lists_2 lists_3
+        (refiles (filed_but (filed_in s0) x was) filed (back_on class was is))
 
     right_joint : IsJoint n.tile o.tile right_tile
     right_joint = record { chunk = near.chunk; meet = near.meet; in_chunk = refl; start = refl; end = refl }

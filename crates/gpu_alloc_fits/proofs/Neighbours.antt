@@ -15,47 +15,44 @@ use Rattle.gpu_alloc_base.specs.declared.region.FreeListRegion.{FreeListRegion}
 use Rattle.gpu_alloc_base.proofs.FreeRuns.{region_is_run, run_is_region}
 use Rattle.gpu_alloc_base.proofs.Lists.{contains_head}
 use Rattle.gpu_alloc_base.proofs.SlabViews.{get_by_key}
-use Rattle.gpu_alloc_fits.specs.Inside.{IsAtKey, chunk_of_row, chunk_size_in, chunks_of_rows, fit_space_in, row_size, slot_of}
+use Rattle.gpu_alloc_fits.specs.Inside.{IsBlockPlace, IsStoredInTiles, chunk_of_row, chunk_size_in, chunks_of_rows, fit_space_in, row_size, slot_of}
 use Rattle.gpu_alloc_fits.specs.Links.{AreNodesKept}
-use Rattle.gpu_alloc_fits.specs.Space.{FitSpace, HasNeighbours, IsFreeIn, IsLiveSlot, IsRunOrBlock, count_of, neighbours, neighbours_in, size_of}
+use Rattle.gpu_alloc_fits.specs.Space.{FitSpace, HasNeighbours, IsFreeIn, IsLiveFitSpan, IsLiveSlot, IsRunOrBlock, count_of, neighbours, neighbours_in, size_of}
 use Rattle.gpu_alloc_fits.specs.Tiles.{HasRun, tile_in, tile_region}
 use Rattle.gpu_alloc_fits.specs.declared.fits.Chunk.{Chunk as Row}
 use Rattle.gpu_alloc_fits.specs.declared.tile.Node.{Node}
+use Rattle.gpu_alloc_fits.specs.declared.tile.Place.{Place}
 use Rattle.gpu_alloc_fits.specs.declared.tile.Tile.{Tile}
 use Rattle.gpu_alloc_fits.proofs.Links.{after_there, before_there}
 use Rattle.gpu_alloc_fits.proofs.Live.{in_live}
-use Rattle.gpu_alloc_fits.proofs.Runs.{canonical}
-use Rattle.gpu_alloc_fits.proofs.Stored.{the_slot, tile_is_live}
+use Rattle.gpu_alloc_fits.proofs.Nodes.{tile_of_node}
+use Rattle.gpu_alloc_fits.proofs.Runs.{bytes_held, canonical}
+use Rattle.gpu_alloc_fits.proofs.Stored.{placed_is, tile_is_live}
 use Rattle.gpu_alloc_fits.proofs.Tiles.{bit, one_tile}
 
--- a row's size is its chunk's
-told_size : {M : Type 0} (object : M → ℕ) (o : Option (Row M)) → size_of (option_map (chunk_of_row object) o) ≡ row_size o
-told_size object None = refl
-told_size object (Some row) = refl
-
 -- a block that comes back has as many neighbours as its tile
-module _ {M : Type 0} (object : M → ℕ) (rows : Slab (Row M)) (nodes : Slab Node) (kept : AreNodesKept (chunk_size_in rows) nodes) (once : HasOneKeyEach (λ (row : Row M). object row.memory) rows) (old : FitSpace) (same : fit_space_in (chunks_of_rows object rows) nodes ≡ old)
-    (b slot : Slot) (slot_is : slot ≡ b) (is_live : IsLiveSlot old b) (x : ℕ) (at : IsAtKey (chunks_of_rows object rows) (tile_in nodes) slot.object slot.offset slot.size x) (whole : ℕ) (whole_is : chunk_size_in rows at.0.chunk ≡ whole) where
-  block : slot_of (chunks_of_rows object rows) at.0 ≡ b
-  block =
-      let now = subst (λ s. IsLiveSlot s slot) (sym same) (subst (IsLiveSlot old) (sym slot_is) is_live) in
-      the_slot object rows nodes kept once slot now x at ∙ slot_is
+module _ {M : Type 0} (object : M → ℕ) (rows : Slab (Row M)) (nodes : Slab Node) (spare : Option ℕ) (stored : IsStoredInTiles object rows nodes spare) (old : FitSpace) (same : fit_space_in (chunks_of_rows object rows) nodes ≡ old)
+    (name given offset size : ℕ) (named : name ≡ given) (p : Place) (is : IsBlockPlace object rows nodes name offset size p) (b : Slot) (span : IsLiveFitSpan old given offset size b) where
+  abbrev a : Tile
+  a = p.node.tile
 
-  start_is : b.offset ≡ at.0.start
+  block : slot_of (chunks_of_rows object rows) a ≡ b
+  block = placed_is object rows nodes spare stored old same name given offset size named p is b span
+
+  start_is : b.offset ≡ a.start
   start_is = sym (ap (λ (s : Slot). s.offset) block)
 
-  end_is : b.offset + b.size ≡ at.0.end
-  end_is = omega (arith, ap (λ (s : Slot). s.offset) block, ap (λ (s : Slot). s.size) block, kept.tiled.nonempty x at.0 at.1.0)
+  end_is : b.offset + b.size ≡ a.end
+  end_is = omega (arith, ap (λ (s : Slot). s.offset) block, ap (λ (s : Slot). s.size) block, stored.kept.tiled.nonempty p.key a (tile_of_node nodes p.key p.node is.at))
 
-  size_is : size_of (map.get old.chunks b.chunk) ≡ whole
+  size_is : size_of (map.get old.chunks b.chunk) ≡ p.whole
   size_is =
       ap (λ (s : FitSpace). size_of (map.get s.chunks b.chunk)) (sym same)
       ∙ ap (λ (s : Slot). size_of (map.get (chunks_of_rows object rows) s.chunk)) (sym block)
-      ∙ ap (λ (o : Option Chunk). size_of o) (get_by_key (chunk_of_row object) rows at.0.chunk)
-      ∙ told_size object (get rows at.0.chunk)
-      ∙ whole_is
+      ∙ bytes_held object rows a.chunk
+      ∙ is.whole
 
-  pub neighbours_are : neighbours_in whole at.0.start at.0.end ≡ neighbours old b
+  pub neighbours_are : neighbours_in p.whole a.start a.end ≡ neighbours old b
   neighbours_are = λ i. neighbours_in (sym size_is i) (sym start_is i) (sym end_is i)
 
 -- What touches a live block.
@@ -168,8 +165,7 @@ module _ {M : Type 0} (object : M → ℕ) (rows : Slab (Row M)) (nodes : Slab N
     tile_neighbours : HasNeighbours space (slot_of chunks m)
     tile_neighbours =
         let end : m.start + (m.end - m.start) ≡ m.end = omega (arith, kept.tiled.nonempty x m at) in
-        let whole : size_of (map.get chunks m.chunk) ≡ chunk_size_in rows m.chunk =
-        ap (λ (o : Option Chunk). size_of o) (get_by_key (chunk_of_row object) rows m.chunk) ∙ told_size object (get rows m.chunk) in
+        let whole : size_of (map.get chunks m.chunk) ≡ chunk_size_in rows m.chunk = bytes_held object rows m.chunk in
         record {
           left = left_is.0;
           right = right_is.0;

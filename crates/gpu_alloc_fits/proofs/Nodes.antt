@@ -54,6 +54,13 @@ module _ (old new : Slab Node) (keeps : KeepsNodes old new) where
 pub keeps_self : (s : Slab Node) → KeepsNodes s s
 keeps_self s = record { tiles = λ k. refl; before = λ k. refl; after = λ k. refl }
 
+pub keeps_then : (n0 n1 n2 : Slab Node) → KeepsNodes n0 n1 → KeepsNodes n1 n2 → KeepsNodes n0 n2
+keeps_then n0 n1 n2 one two = record {
+  tiles = λ k. two.tiles k ∙ one.tiles k;
+  before = λ k. two.before k ∙ one.before k;
+  after = λ k. two.after k ∙ one.after k;
+}
+
 -- What is written.
 
 module _ (old new : Slab Node) (key : ℕ) (n : Node) (u : Updates old new key (Some n)) where

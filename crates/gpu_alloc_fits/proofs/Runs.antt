@@ -1,6 +1,7 @@
 -- The free tiles are exactly the free runs, and a place is where one of them has room.
-use Rattle.std.proofs.Common.{◌≡◌, inl, inr, ℕ, ◌<◌, ◌≤◌, true, Option, Some, None, option_map, refl, sym, ◌∙◌, ap, subst, arith}
+use Rattle.std.proofs.Common.{◌≡◌, ◌↔◌, inl, inr, ℕ, ◌<◌, ◌≤◌, true, Option, Some, None, IsSome, option_map, refl, sym, ◌∙◌, ap, subst, arith}
 use Rattle.std.proofs.lemmas.Bool.{cases_eq}
+use Rattle.std.specs.Prelude.{MatchOption}
 use Rattle.std.specs.FinMap as map
 use Rattle.slab.specs.Slab.{Slab, get}
 use Rattle.gpu_alloc_base.specs.Chunks.{Chunk}
@@ -11,7 +12,7 @@ use Rattle.gpu_alloc_base.proofs.FreeRuns.{place_has_run, run_has_place}
 use Rattle.gpu_alloc_base.proofs.SlabViews.{found_by_key, get_by_key}
 use Rattle.gpu_alloc_fits.specs.Inside.{chunk_of_row, chunk_size_in, chunks_of_rows, fit_space_in, row_size, slot_of}
 use Rattle.gpu_alloc_fits.specs.Links.{AreNodesKept}
-use Rattle.gpu_alloc_fits.specs.Space.{HasPlace, IsFreeIn}
+use Rattle.gpu_alloc_fits.specs.Space.{HasPlace, IsFreeIn, size_of}
 use Rattle.gpu_alloc_fits.specs.Tiles.{Covers, HasRoomAt, HasRun, IsLiveAt, tile_in, tile_region}
 use Rattle.gpu_alloc_fits.specs.declared.fits.Chunk.{Chunk as Row}
 use Rattle.gpu_alloc_fits.specs.declared.tile.Node.{Node}
@@ -25,6 +26,13 @@ module _ {M : Type 0} (object : M → ℕ) (rows : Slab (Row M)) where
   size_is key chunk is =
       let row = found_by_key (chunk_of_row object) rows key chunk is in
       ap row_size row.1 ∙ ap (λ (c : Chunk). c.size) row.2
+
+  pub bytes_held : (key : ℕ) → size_of (map.get (chunks_of_rows object rows) key) ≡ chunk_size_in rows key
+  bytes_held key = ap size_of (get_by_key (chunk_of_row object) rows key) ∙ cases (get rows key)
+    where
+      cases : (o : Option (Row M)) → size_of (option_map (chunk_of_row object) o) ≡ row_size o
+      cases None = refl
+      cases (Some row) = refl
 
   pub held_row : (key : ℕ) → 0 < chunk_size_in rows key → (row : Row M) × (get rows key ≡ Some row)
   held_row key some = cases (get rows key) refl
@@ -128,3 +136,8 @@ module _ {M : Type 0} (object : M → ℕ) (rows : Slab (Row M)) where
 
       pub has_place : (k : ℕ) → HasRoomAt (tile_in nodes) size alignment k → HasPlace (fit_space_in (chunks_of_rows object rows) nodes) size alignment
       has_place k fits = (fits.0.chunk, tail_start size alignment fits.0.end, in_place k fits)
+
+-- a search tells whether there is a place
+pub told : {X : Type 0} (o : Option X) (P : Type 0) (B : X → Type 0) → MatchOption o (P → ⊥) B → ((x : X) → B x → P) → IsSome o ↔ P
+told None P B none gives = ((λ s. absurd (cc)), (λ p. absurd (none p)))
+told (Some x) P B some gives = ((λ s. gives x some), (λ p. refl))

@@ -16,16 +16,19 @@ use Rattle.gpu_alloc_base.proofs.FreeRuns.{tail_below}
 use Rattle.gpu_alloc_base.proofs.ListedRanges.{told_object}
 use Rattle.gpu_alloc_base.proofs.SlabViews.{found_by_key, get_by_key}
 use Rattle.gpu_alloc_base.proofs.Slots.{slot_inserted, slot_removed}
+use Rattle.gpu_alloc_fits.specs.Choice.{IsChosenRun}
+use Rattle.gpu_alloc_fits.specs.Filed.{down_of}
 use Rattle.gpu_alloc_fits.specs.Fits.{TakesFitting}
-use Rattle.gpu_alloc_fits.specs.Inside.{IsAtKey, IsBlockPlace, IsBlockTile, IsLiveTile, IsSpareTile, IsStillFull, IsStoredInTiles, IsTheWhole, IsWholeTile, IsWithout, chunk_of_row, chunk_size_in, chunks_of_rows, fit_space_in, live_slot, live_slots_in, made_of, row_size, slot_of}
+use Rattle.gpu_alloc_fits.specs.Inside.{IsAtKey, IsBlockPlace, IsBlockTile, IsLiveTile, IsSpareTile, IsStore, IsStoredInTiles, IsTheWhole, IsWholeTile, IsWithout, chunk_of_row, chunk_size_in, chunks_of_rows, fit_space_in, live_slot, live_slots_in, made_of, row_size, slot_of}
 use Rattle.gpu_alloc_fits.specs.Links.{AreNodesKept, after_of, before_of}
-use Rattle.gpu_alloc_fits.specs.Space.{HasPlace, IsFitting, IsFreeIn, IsLiveSlot, IsLiveFitSpan, IsSoundFitSpace, IsSpare, IsWhollyFree, LiesInChunk, FitSpace, with_slot, without_slot, without_chunk}
-use Rattle.gpu_alloc_fits.specs.Tiles.{HasNoLiveTile, HasRoomAt, HasRoomIn, IsFreeTileOf, IsLiveAt, KeepsElsewhere, KeepsOthers, PutsTileBack, tile_in}
+use Rattle.gpu_alloc_fits.specs.Space.{HasPlace, IsFitting, IsFreeIn, IsLiveSlot, IsLiveFitSpan, IsSoundFitSpace, IsSpare, IsWhollyFree, LiesInChunk, FitSpace, chunk_bytes, with_slot, without_slot, without_chunk}
+use Rattle.gpu_alloc_fits.specs.Tiles.{HasNoLiveTile, HasRoomAt, HasRoomIn, IsFreeTileOf, IsLiveAt, KeepsElsewhere, KeepsOthers, PutsTileBack, tile_in, tile_region}
+use Rattle.gpu_alloc_fits.specs.declared.classes.Classes.{Classes}
 use Rattle.gpu_alloc_fits.specs.declared.fits.Chunk.{Chunk as Row}
-use Rattle.gpu_alloc_fits.specs.declared.search.Full.{Full}
 use Rattle.gpu_alloc_fits.specs.declared.tile.Node.{Node}
 use Rattle.gpu_alloc_fits.specs.declared.tile.Place.{Place}
 use Rattle.gpu_alloc_fits.specs.declared.tile.Tile.{Tile}
+use Rattle.gpu_alloc_fits.proofs.Filed.{same_slots}
 use Rattle.gpu_alloc_fits.proofs.Live.{in_live, live_less, live_more}
 use Rattle.gpu_alloc_fits.proofs.Nodes.{keeps_kept, tile_of, tile_of_node}
 use Rattle.gpu_alloc_fits.proofs.Runs.{held_chunk, held_row, in_place}
@@ -57,8 +60,8 @@ module _ {M : Type 0} (object : M → ℕ) (rows rows' : Slab (Row M)) (nodes no
       let chunks_same : chunks_of_rows object rows' ≡ chunks_of_rows object rows = (λ i. map.from_entries {R = nat_cmp} (list.map (λ (e : ℕ × Row M). (e.0, chunk_of_row object e.1)) (entries_from 0 (same_rows i)))) in
       λ i. record { chunks = chunks_same i; live = set.from_list (made_of (live_slot (chunks_same i)) (entries_from 0 (same_nodes i))) }
 
-  pub stored_same : (spare : Option ℕ) (full : Option Full) → IsStoredInTiles object rows nodes spare full → IsStoredInTiles object rows' nodes' spare full
-  stored_same spare full stored = record {
+  pub stored_same : (spare : Option ℕ) → IsStoredInTiles object rows nodes spare → IsStoredInTiles object rows' nodes' spare
+  stored_same spare stored = record {
     kept = subst (λ size. AreNodesKept size nodes') (sym same_sizes) (keeps_kept nodes nodes' (record {
       tiles = λ k. ap tile_of (same_node k);
       before = λ k. ap before_of (same_node k);
@@ -69,8 +72,22 @@ module _ {M : Type 0} (object : M → ℕ) (rows rows' : Slab (Row M)) (nodes no
     spare_is = subst (λ T. IsSpareTile (fit_space_in (chunks_of_rows object rows') nodes') (chunk_size_in rows') T spare) (sym same_tiles)
         (subst (λ size. IsSpareTile (fit_space_in (chunks_of_rows object rows') nodes') size (tile_in nodes) spare) (sym same_sizes)
         (subst (λ s. IsSpareTile s (chunk_size_in rows) (tile_in nodes) spare) (sym same_space) stored.spare_is));
-    still_full = subst (λ s. IsStillFull s full) (sym same_space) stored.still_full;
   }
+
+  pub store_same : (classes : Classes) (spare : Option ℕ) → IsStore object rows nodes classes spare → IsStore object rows' nodes' classes spare
+  store_same classes spare store = record {
+    stored = stored_same spare store.stored;
+    filed = same_slots nodes nodes' classes same_nodes store.filed;
+    whole_last = λ k a at free start end. ap down_of (same_node k) ∙ store.whole_last k a (sym (ap tile_of (same_node k)) ∙ at) free start (end ∙ ap row_size (same_row a.chunk));
+  }
+
+-- chunks are shorter than 2^64 bytes
+pub sizes_bounded : {M : Type 0} (object : M → ℕ) (rows : Slab (Row M)) (nodes : Slab Node) (spare : Option ℕ) → IsStoredInTiles object rows nodes spare → (key : ℕ) → chunk_size_in rows key < 2 ^ 64
+sizes_bounded {M} object rows nodes spare stored key = cases (get rows key) refl
+  where
+    cases : (o : Option (Row M)) → get rows key ≡ o → row_size o < 2 ^ 64
+    cases None e = omega arith
+    cases (Some row) e = (stored.sizes key row e).1
 
 module _ {M : Type 0} (object : M → ℕ) (rows : Slab (Row M)) (nodes : Slab Node) (kept : AreNodesKept (chunk_size_in rows) nodes) where
   abbrev chunks : HeldChunks
@@ -117,8 +134,8 @@ module _ {M : Type 0} (object : M → ℕ) (rows : Slab (Row M)) (nodes : Slab N
   one_free None none i k free_i free_k = absurd (none i free_i)
   one_free (Some x) whole i k free_i free_k = whole.only i free_i ∙ sym (whole.only k free_k)
 
-  pub sound : (spare : Option ℕ) (full : Option Full) → IsStoredInTiles object rows nodes spare full → IsSoundFitSpace space
-  sound spare full stored = record {
+  pub sound : (spare : Option ℕ) → IsStoredInTiles object rows nodes spare → IsSoundFitSpace space
+  sound spare stored = record {
     one_object = λ i k c d is_c is_d same.
         let r = found_by_key (chunk_of_row object) rows i c is_c in
         let q = found_by_key (chunk_of_row object) rows k d is_d in
@@ -178,7 +195,7 @@ at_place {M} {name} {rows} {nodes} {object} {offset} {size} {p} is = (p.node.til
 
 -- A block is taken out of a free tile.
 
-module _ {M : Type 0} (object : M → ℕ) (rows : Slab (Row M)) (n0 n1 : Slab Node) (spare : Option ℕ) (full : Option Full) (stored : IsStoredInTiles object rows n0 spare full) (x y : ℕ) (a b : Tile) (at : tile_in n0 y ≡ Some a) (unused : HasNoLiveTile (tile_in n0) x)
+module _ {M : Type 0} (object : M → ℕ) (rows : Slab (Row M)) (n0 n1 : Slab Node) (spare : Option ℕ) (stored : IsStoredInTiles object rows n0 spare) (x y : ℕ) (a b : Tile) (at : tile_in n0 y ≡ Some a) (unused : HasNoLiveTile (tile_in n0) x)
     (live : IsLiveAt (tile_in n1) x b) (same_chunk : b.chunk ≡ a.chunk) (others : KeepsOthers (tile_in n0) (tile_in n1) x) (elsewhere : KeepsElsewhere a.chunk (tile_in n0) (tile_in n1)) (kept : AreNodesKept (chunk_size_in rows) n1) where
   abbrev chunks_t : HeldChunks
   chunks_t = chunks_of_rows object rows
@@ -193,19 +210,8 @@ module _ {M : Type 0} (object : M → ℕ) (rows : Slab (Row M)) (n0 n1 : Slab N
   stays_live : (slot : Slot) → IsLiveSlot (fit_space_in chunks_t n0) slot → IsLiveSlot (fit_space_in chunks_t n1) slot
   stays_live slot was = subst (λ l. set.contains l slot ≡ true) (sym live_is) ((slot_inserted (live_slots_in chunks_t n0) (slot_of chunks_t b) slot).1 (inr was))
 
-  was_free : (chunk byte : ℕ) → IsFreeIn (fit_space_in chunks_t n1) chunk byte → IsFreeIn (fit_space_in chunks_t n0) chunk byte
-  was_free chunk byte f = record { held = f.held; is = f.is; inside = f.inside; unused = λ slot l same. f.unused slot (stays_live slot l) same }
-
   was_wholly : (key : ℕ) → IsWhollyFree (fit_space_in chunks_t n1) key → IsWhollyFree (fit_space_in chunks_t n0) key
   was_wholly key w = record { held = w.held; unused = λ slot l. w.unused slot (stays_live slot l) }
-
-  pub taken_full : (f : Option Full) → IsStillFull (fit_space_in chunks_t n0) f → IsStillFull (fit_space_in chunks_t n1) f
-  taken_full None known = tt
-  taken_full (Some f) known = record {
-    nonempty = known.nonempty;
-    alignment = known.alignment;
-    none = λ place. known.none (place.0, place.1, record { aligned = place.2.aligned; free = λ at' from to. was_free place.0 at' (place.2.free at' from to) });
-  }
 
   -- the chunk of the block is not wholly free
   used : IsWhollyFree (fit_space_in chunks_t n1) a.chunk → ⊥
@@ -231,18 +237,17 @@ module _ {M : Type 0} (object : M → ℕ) (rows : Slab (Row M)) (n0 n1 : Slab N
         only = λ key v. whole.only key (was_wholly key v);
       })
 
-  pub taken_stored : (new : Option ℕ) → IsWithout spare y new → (f : Option Full) → IsStillFull (fit_space_in chunks_t n0) f → IsStoredInTiles object rows n1 new f
-  taken_stored new is f known = record {
+  pub taken_stored : (new : Option ℕ) → IsWithout spare y new → IsStoredInTiles object rows n1 new
+  taken_stored new is = record {
     kept = kept;
     sizes = stored.sizes;
     one_object = stored.one_object;
     spare_is = taken_spare spare new stored.spare_is is;
-    still_full = taken_full f known;
   }
 
 -- A block comes back: its tile is joined with the free ones beside it.
 
-module _ {M : Type 0} (object : M → ℕ) (rows : Slab (Row M)) (n0 n1 : Slab Node) (spare : Option ℕ) (full : Option Full) (stored : IsStoredInTiles object rows n0 spare full) (x y : ℕ) (a joint : Tile) (live : IsLiveAt (tile_in n0) x a)
+module _ {M : Type 0} (object : M → ℕ) (rows : Slab (Row M)) (n0 n1 : Slab Node) (spare : Option ℕ) (stored : IsStoredInTiles object rows n0 spare) (x y : ℕ) (a joint : Tile) (live : IsLiveAt (tile_in n0) x a)
     (back : PutsTileBack (tile_in n0) (tile_in n1) x) (free : IsFreeTileOf a.chunk (tile_in n1) y joint) (elsewhere : KeepsElsewhere a.chunk (tile_in n0) (tile_in n1)) (kept : AreNodesKept (chunk_size_in rows) n1) where
   abbrev chunks_g : HeldChunks
   chunks_g = chunks_of_rows object rows
@@ -331,8 +336,8 @@ module _ {M : Type 0} (object : M → ℕ) (rows : Slab (Row M)) (n0 n1 : Slab N
       ];
     }
 
-    pub partly_stored : IsStoredInTiles object rows n1 spare None
-    partly_stored = record { kept = kept; sizes = stored.sizes; one_object = stored.one_object; spare_is = partly_spare spare stored.spare_is; still_full = tt }
+    pub partly_stored : IsStoredInTiles object rows n1 spare
+    partly_stored = record { kept = kept; sizes = stored.sizes; one_object = stored.one_object; spare_is = partly_spare spare stored.spare_is }
 
     pub partly_stays : IsSpare (without_slot s0 slot) slot.chunk → ⊥
     partly_stays spare_one = partly (subst (λ s. IsWhollyFree s a.chunk) (sym back_space) spare_one.free)
@@ -348,13 +353,12 @@ module _ {M : Type 0} (object : M → ℕ) (rows : Slab (Row M)) (n0 n1 : Slab N
       | inr other ↦ absurd (none_was key (was_other key other w))
     ]
 
-    pub first_stored : IsStoredInTiles object rows n1 (Some y) None
+    pub first_stored : IsStoredInTiles object rows n1 (Some y)
     first_stored = record {
       kept = kept;
       sizes = stored.sizes;
       one_object = stored.one_object;
       spare_is = record { chunk = a.chunk; whole = whole_joint start end; only = only_here };
-      still_full = tt;
     }
 
     pub first_stays : IsSpare (without_slot s0 slot) slot.chunk → ⊥
@@ -421,10 +425,10 @@ module _ {M : Type 0} (object : M → ℕ) (rows : Slab (Row M)) (nodes : Slab N
     span_at = record { live = subst (IsLiveSlot (fit_space_in chunks_s nodes)) slot_is (tile_is_live object rows nodes kept k a (at_a, is_block.tile.live)); of_object = refl; starts = refl; of_size = refl }
 
     -- it is the only one
-    pub the_span : HasOneKeyEach (λ (row : Row M). object row.memory) rows → (slot : Slot) → IsLiveFitSpan (fit_space_in chunks_s nodes) name offset size slot → record { object = name; chunk = a.chunk; offset = offset; size = size } ≡ slot
-    the_span once slot span =
+    pub span_is : HasOneKeyEach (λ (row : Row M). object row.memory) rows → (slot : Slot) → IsLiveFitSpan (fit_space_in chunks_s nodes) name offset size slot → slot_of chunks_s a ≡ slot
+    span_is once slot span =
         let b = is_block in
-        let here : IsAtKey chunks_s (tile_in nodes) slot.object slot.offset slot.size k = (
+        the_slot object rows nodes kept once slot span.live k (
           a,
           (
             at_a,
@@ -433,13 +437,17 @@ module _ {M : Type 0} (object : M → ℕ) (rows : Slab (Row M)) (nodes : Slab N
               of_object = b.of_object ∙ sym span.of_object;
             },
           ),
-        ) in
-        sym slot_is ∙ the_slot object rows nodes kept once slot span.live k here
+        )
 
--- what else is known of full
-pub with_full : {M : Type 0} (object : M → ℕ) (rows : Slab (Row M)) (nodes : Slab Node) (spare : Option ℕ) (full new : Option Full) → IsStoredInTiles object rows nodes spare full → IsStillFull (fit_space_in (chunks_of_rows object rows) nodes) new
-    → IsStoredInTiles object rows nodes spare new
-with_full object rows nodes spare full new stored known = record { kept = stored.kept; sizes = stored.sizes; one_object = stored.one_object; spare_is = stored.spare_is; still_full = known }
+    pub the_span : HasOneKeyEach (λ (row : Row M). object row.memory) rows → (slot : Slot) → IsLiveFitSpan (fit_space_in chunks_s nodes) name offset size slot → record { object = name; chunk = a.chunk; offset = offset; size = size } ≡ slot
+    the_span once slot span = sym slot_is ∙ span_is once slot span
+
+-- the block of a span, by the place of its tile
+pub placed_is : {M : Type 0} (object : M → ℕ) (rows : Slab (Row M)) (nodes : Slab Node) (spare : Option ℕ) → IsStoredInTiles object rows nodes spare → (old : FitSpace) → fit_space_in (chunks_of_rows object rows) nodes ≡ old → (name given offset size : ℕ) → name ≡ given
+    → (p : Place) → IsBlockPlace object rows nodes name offset size p → (b : Slot) → IsLiveFitSpan old given offset size b → slot_of (chunks_of_rows object rows) p.node.tile ≡ b
+placed_is object rows nodes spare stored old same name given offset size named p is b span =
+    span_is object rows nodes stored.kept name offset size p.key p.node.tile (tile_of_node nodes p.key p.node is.at) (at_place is) stored.one_object b
+    (subst (λ s. IsLiveFitSpan s name offset size b) (sym same) (subst (λ n. IsLiveFitSpan old n offset size b) (sym named) span))
 
 -- no host memory for a block that has a place
 pub refused : {E : Type 0} (s new : FitSpace) (size alignment : ℕ) (answer : Result (Option Slot) E) → IsErr answer → HasPlace s size alignment → new ≡ s → TakesFitting s size alignment answer new
@@ -467,8 +475,8 @@ module _ {M : Type 0} (object : M → ℕ) (rows : Slab (Row M)) (nodes : Slab N
       let size_is = ap row_size row.1 in
       omega (arith, block_ends, inside, bound, size_is)
 
-  pub block_fits : (slot : Slot) (row : Row M) → get rows a.chunk ≡ Some row → slot ≡ record { object = object row.memory; chunk = a.chunk; offset = start; size = size } → IsFitting (fit_space_in (chunks_of_rows object rows) nodes) size (mask + 1) slot
-  block_fits slot row there is =
+  pub block_fits : IsChosenRun (IsFreeIn (fit_space_in (chunks_of_rows object rows) nodes)) (chunk_bytes (fit_space_in (chunks_of_rows object rows) nodes)) size (mask + 1) (tile_region a) → (slot : Slot) (row : Row M) → get rows a.chunk ≡ Some row → slot ≡ record { object = object row.memory; chunk = a.chunk; offset = start; size = size } → IsFitting (fit_space_in (chunks_of_rows object rows) nodes) size (mask + 1) slot
+  block_fits chosen slot row there is =
       let place : IsListPlace (IsFreeIn (fit_space_in (chunks_of_rows object rows) nodes)) size (mask + 1) a.chunk start =
       subst (IsListPlace (IsFreeIn (fit_space_in (chunks_of_rows object rows) nodes)) size (mask + 1) a.chunk) (sym start_is) (in_place object rows nodes kept size (mask + 1) (omega arith) k (a, (at, room))) in
       subst (IsFitting (fit_space_in (chunks_of_rows object rows) nodes) size (mask + 1)) (sym is) (record {
@@ -478,6 +486,10 @@ module _ {M : Type 0} (object : M → ℕ) (rows : Slab (Row M)) (nodes : Slab N
         held = get_by_key (chunk_of_row object) rows a.chunk ∙ ap (option_map (chunk_of_row object)) there;
         object = refl;
         free = place.free;
+        run = tile_region a;
+        in_chunk = refl;
+        start = start_is;
+        chosen = chosen;
       })
 
   pub block_is : (row : Row M) → get rows a.chunk ≡ Some row → slot_of (chunks_of_rows object rows) (record { chunk = a.chunk; start = start; end = start + size; free = false }) ≡ record { object = object row.memory; chunk = a.chunk; offset = start; size = size }

@@ -1,6 +1,7 @@
 -- What the calls of a store of exact runs do.
 use Rattle.std.specs.Prelude.{◌≡◌, ℕ, ◌<◌, ◌≤◌, Option, Some, None, Result, Ok, Err}
-use Rattle.gpu_alloc_fits.specs.Space.{FitSpace, HasPlace, IsFitting, with_slot}
+use Rattle.std.specs.FinMap as map
+use Rattle.gpu_alloc_fits.specs.Space.{FitSpace, HasPlace, IsFitting, IsSpare, with_slot, without_chunk, without_slot}
 use Rattle.gpu_alloc_base.specs.declared.free_list_block.Slot.{Slot}
 
 -- A store: its space, and how many more chunks and tiles there is room for.
@@ -19,3 +20,13 @@ abbrev pub TakesFitting : {E : Type 0} → FitSpace → ℕ → ℕ → Result (
 TakesFitting s size alignment (Ok None) new = (HasPlace s size alignment → ⊥) × (new ≡ s)
 TakesFitting s size alignment (Ok (Some slot)) new = IsFitting s size alignment slot × (new ≡ with_slot s slot)
 TakesFitting s size alignment (Err e) new = HasPlace s size alignment × (new ≡ s)
+
+-- A block is returned: its chunk goes with it, with a handle of its object and its size, if it is then wholly free and
+-- another one is too, and stays otherwise.
+abbrev pub PutsBack : {M : Type 0} → (M → ℕ) → FitSpace → Slot → Option (M × ℕ) → FitSpace → Type 0
+PutsBack object s slot None new =
+    (IsSpare (without_slot s slot) slot.chunk → ⊥) × (new ≡ without_slot s slot)
+PutsBack object s slot (Some gone) new =
+    IsSpare (without_slot s slot) slot.chunk
+    × ((map.get s.chunks slot.chunk ≡ Some (record { object = object gone.0; size = gone.1 }))
+    × (new ≡ without_chunk (without_slot s slot) slot.chunk))

@@ -1,22 +1,23 @@
--- The invariants of a store's fields: its chunks and tiles, its wholly free chunk, and what is known to have no place.
-use Rattle.std.specs.Prelude.{◌≡◌, ◌≢◌, ◌⊎◌, ℕ, ◌+◌, ◌-◌, ◌<◌, ◌≤◌, ◌^◌, true, false, cond, List, [], ◌∷◌, Option, Some, None, filter_map}
+-- The invariants of a store's fields: its chunks and tiles, its wholly free chunk, and its lists of free tiles.
+use Rattle.std.specs.Prelude.{◌≡◌, ◌≢◌, ◌⊎◌, ℕ, ◌-◌, ◌<◌, ◌^◌, true, false, cond, List, [], ◌∷◌, Option, Some, None, filter_map}
 use Rattle.std.specs.FinMap as map
 use Rattle.std.specs.FinSet as set
 use Rattle.slab.specs.Slab.{Slab, entries, get, slab_len}
 use Rattle.gpu_alloc_types.specs.declared.types.FreeRange.{FreeRange}
 use Rattle.gpu_alloc_base.specs.Accounts.{HeldChunks}
-use Rattle.gpu_alloc_base.specs.AlignMasks.{IsAlignMask}
 use Rattle.gpu_alloc_base.specs.Chunks.{Chunk, object_in}
 use Rattle.gpu_alloc_base.specs.SlabViews.{by_key, HasOneKeyEach}
 use Rattle.gpu_alloc_base.specs.Slots.{slot_cmp}
 use Rattle.gpu_alloc_base.specs.declared.buddy_block.Leaf.{Leaf}
 use Rattle.gpu_alloc_base.specs.declared.free_list_block.Slot.{Slot}
+use Rattle.gpu_alloc_fits.specs.Filed.{AreFreeFiled, AreWholeLast}
 use Rattle.gpu_alloc_fits.specs.Fits.{FitStore}
 use Rattle.gpu_alloc_fits.specs.Links.{AreNodesKept}
-use Rattle.gpu_alloc_fits.specs.Space.{FitSpace, HasPlace, IsWhollyFree}
-use Rattle.gpu_alloc_fits.specs.Tiles.{tile_in}
+use Rattle.gpu_alloc_fits.specs.Choice.{IsChosenRun}
+use Rattle.gpu_alloc_fits.specs.Space.{FitSpace, IsFreeIn, IsWhollyFree, chunk_bytes}
+use Rattle.gpu_alloc_fits.specs.Tiles.{tile_in, tile_region}
+use Rattle.gpu_alloc_fits.specs.declared.classes.Classes.{Classes}
 use Rattle.gpu_alloc_fits.specs.declared.fits.Chunk.{Chunk as Row}
-use Rattle.gpu_alloc_fits.specs.declared.search.Full.{Full}
 use Rattle.gpu_alloc_fits.specs.declared.tile.Node.{Node}
 use Rattle.gpu_alloc_fits.specs.declared.tile.Place.{Place}
 use Rattle.gpu_alloc_fits.specs.declared.tile.Tile.{Tile}
@@ -94,6 +95,12 @@ pub record IsBlockPlace {M : Type 0} (name : M → ℕ) (rows : Slab (Row M)) (n
   pub block : IsBlockTile (chunks_of_rows name rows) object offset size p.node.tile
   pub whole : chunk_size_in rows p.node.tile.chunk ≡ p.whole
 
+-- a free tile with its key, whose run is chosen for a block of this size at a multiple of the alignment
+pub record IsChosenTile (s : FitSpace) (T : ℕ → Option Tile) (size alignment : ℕ) (found : ℕ × Tile) : Type 0 where
+  pub at : T found.0 ≡ Some found.1
+  pub free : found.1.free ≡ true
+  pub chosen : IsChosenRun (IsFreeIn s) (chunk_bytes s) size alignment (tile_region found.1)
+
 -- such a tile stands under the key
 abbrev pub IsAtKey : HeldChunks → (ℕ → Option Tile) → ℕ → ℕ → ℕ → ℕ → Type 0
 IsAtKey chunks T object offset size k = (a : Tile) × ((T k ≡ Some a) × IsBlockTile chunks object offset size a)
@@ -123,26 +130,17 @@ abbrev pub IsWithout : Option ℕ → ℕ → Option ℕ → Type 0
 IsWithout None key new = new ≡ None
 IsWithout (Some z) key new = ((z ≡ key) × (new ≡ None)) ⊎ ((z ≢ key) × (new ≡ Some z))
 
--- a request that was found to have no place still has none
-pub record HasNoPlace (s : FitSpace) (f : Full) : Type 0 where
-  pub nonempty : 0 < f.size
-  pub alignment : IsAlignMask f.align_mask
-  pub none : HasPlace s f.size (f.align_mask + 1) → ⊥
-
--- a block is no smaller than the one that had no place
-abbrev pub IsBeyond : Option Full → ℕ → ℕ → Type 0
-IsBeyond None size align_mask = ⊥
-IsBeyond (Some f) size align_mask = (f.size ≤ size) × (f.align_mask ≤ align_mask)
-
-abbrev pub IsStillFull : FitSpace → Option Full → Type 0
-IsStillFull s None = Unit {0}
-IsStillFull s (Some f) = HasNoPlace s f
-
--- what holds of the fields between calls
+-- what holds of chunks and tiles between calls
 pub record IsStoredInTiles {M : Type 0} (object : M → ℕ) (rows : Slab (Row M)) (nodes : Slab Node) (spare : Option ℕ)
-    (full : Option Full) : Type 0 where
+    : Type 0 where
   pub kept : AreNodesKept (chunk_size_in rows) nodes
   pub sizes : (k : ℕ) (row : Row M) → get rows k ≡ Some row → (0 < row.size) × (row.size < 2 ^ 64)
   pub one_object : HasOneKeyEach (λ row. object row.memory) rows
   pub spare_is : IsSpareTile (fit_space_in (chunks_of_rows object rows) nodes) (chunk_size_in rows) (tile_in nodes) spare
-  pub still_full : IsStillFull (fit_space_in (chunks_of_rows object rows) nodes) full
+
+-- and of the lists of free tiles too
+pub record IsStore {M : Type 0} (object : M → ℕ) (rows : Slab (Row M)) (nodes : Slab Node) (classes : Classes)
+    (spare : Option ℕ) : Type 0 where
+  pub stored : IsStoredInTiles object rows nodes spare
+  pub filed : AreFreeFiled nodes classes
+  pub whole_last : AreWholeLast (chunk_size_in rows) nodes

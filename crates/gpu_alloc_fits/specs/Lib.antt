@@ -1,4 +1,7 @@
+pub mod Choice
+pub mod Classes
 pub mod Codes
+pub mod Filed
 pub mod Fits
 pub mod Inside
 pub mod Links

@@ -6,13 +6,14 @@ use Rattle.std.specs.FinSet as set
 use Rattle.gpu_alloc_types.specs.declared.types.FreeRange.{FreeRange}
 use Rattle.gpu_alloc_base.specs.Accounts.{HeldChunks}
 use Rattle.gpu_alloc_base.specs.Chunks.{Chunk}
-use Rattle.gpu_alloc_base.specs.FreeRuns.{AreFree, IsFreeRun, IsListPlace}
+use Rattle.gpu_alloc_base.specs.FreeRuns.{AreFree, IsFreeRun, IsListPlace, tail_start}
 use Rattle.gpu_alloc_base.specs.FreeSpace.{IsIn, IsMultipleOf}
 use Rattle.gpu_alloc_base.specs.InHand as in_hand
 use Rattle.gpu_alloc_base.specs.InHand.{Bytes}
 use Rattle.gpu_alloc_base.specs.Slots.{slot_cmp}
 use Rattle.gpu_alloc_base.specs.declared.free_list_block.Slot.{Slot}
 use Rattle.gpu_alloc_base.specs.declared.region.FreeListRegion.{FreeListRegion}
+use Rattle.gpu_alloc_fits.specs.Choice.{AreFewLooks, IsChosenRun}
 
 -- the held chunks by key, and the live blocks
 pub record FitSpace : Type 0 where
@@ -47,7 +48,16 @@ pub record IsFreeIn (s : FitSpace) (chunk at : ℕ) : Type 0 where
 abbrev pub HasPlace : FitSpace → ℕ → ℕ → Type 0
 HasPlace s size alignment = (chunk start : ℕ) × IsListPlace (IsFreeIn s) size alignment chunk start
 
--- the block has exactly this size, and lies in free bytes of a held chunk at a multiple of the alignment
+-- the size of a chunk, 0 where there is none
+abbrev pub size_of : Option Chunk → ℕ
+size_of None = 0
+size_of (Some chunk) = chunk.size
+
+abbrev pub chunk_bytes : FitSpace → ℕ → ℕ
+chunk_bytes s key = size_of (map.get s.chunks key)
+
+-- the block has exactly this size, and lies in free bytes of a held chunk at a multiple of the alignment: the last one
+-- in the free run that is chosen
 pub record IsFitting (s : FitSpace) (size alignment : ℕ) (slot : Slot) : Type 0 where
   pub exact : slot.size ≡ size
   pub aligned : IsMultipleOf alignment slot.offset
@@ -55,6 +65,15 @@ pub record IsFitting (s : FitSpace) (size alignment : ℕ) (slot : Slot) : Type 
   pub held : map.get s.chunks slot.chunk ≡ Some chunk
   pub object : slot.object ≡ chunk.object
   pub free : AreFree (IsFreeIn s) slot.chunk slot.offset (slot.offset + slot.size)
+  pub run : FreeListRegion
+  pub in_chunk : run.chunk ≡ slot.chunk
+  pub start : slot.offset ≡ tail_start size alignment run.end
+  pub chosen : IsChosenRun (IsFreeIn s) (chunk_bytes s) size alignment run
+
+-- a search looks at so few free runs
+abbrev pub LooksAtFew : FitSpace → ℕ → ℕ → ℕ → ℕ → Type 0
+LooksAtFew s size alignment old new =
+    (looks : ℕ) × ((new ≡ old + looks) × AreFewLooks (IsFreeIn s) size alignment looks)
 
 -- the block begins a chunk that was not held
 pub record BeginsFitChunk (s : FitSpace) (size : ℕ) (slot : Slot) : Type 0 where
@@ -128,13 +147,8 @@ pub record IsSoundFitSpace (s : FitSpace) : Type 0 where
 abbrev pub neighbours_in : ℕ → ℕ → ℕ → ℕ
 neighbours_in whole start end = cond (start == 0) 0 1 + cond (end == whole) 0 1
 
--- the size of a chunk, 0 where there is none
-abbrev pub size_of : Option Chunk → ℕ
-size_of None = 0
-size_of (Some chunk) = chunk.size
-
 abbrev pub neighbours : FitSpace → Slot → ℕ
-neighbours s slot = neighbours_in (size_of (map.get s.chunks slot.chunk)) slot.offset (slot.offset + slot.size)
+neighbours s slot = neighbours_in (chunk_bytes s slot.chunk) slot.offset (slot.offset + slot.size)
 
 -- the region is the bytes of a live block
 pub record IsOfBlock (s : FitSpace) (r : FreeListRegion) : Type 0 where

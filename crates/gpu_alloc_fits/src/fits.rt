@@ -1,31 +1,32 @@
 //! The held chunks of one memory type, and the tiles that they are cut into.
 
 ghost use Rattle.std.specs.Prelude.{◌≡◌, ℕ, ◌+◌, ◌≤◌, ◌<◌, ◌↔◌, ◌++◌, IfOk, IfSome, IfNone};
-ghost use Rattle.std.specs.Prelude.{IsSome, IsTrue, OnOk, Some, None, Contains, MatchOption, length};
+ghost use Rattle.std.specs.Prelude.{IsTrue, OnOk, Some, None, Contains, MatchOption};
 ghost use Rattle.std.specs.FinMap as map;
-ghost use Rattle.std.specs.FinSet as set;
-ghost use Rattle.slab.specs.Slab.{ContainsKey, Updates, get};
+ghost use Rattle.slab.specs.Slab.{ContainsKey, HasRoomFor, Updates, get};
 ghost use Rattle.gpu_alloc_types.specs.declared.types.FreeRange.{FreeRange as Range};
 ghost use Rattle.gpu_alloc_base.specs.AlignMasks.{IsAlignMask};
 ghost use Rattle.gpu_alloc_base.specs.RangeOrder.{AreInOrder};
 ghost use Rattle.gpu_alloc_base.specs.declared.free_list_block.Slot.{Slot as LiveSlot};
-ghost use Rattle.gpu_alloc_fits.specs.Fits.{HasTileRooms, TakesFitting};
+ghost use Rattle.gpu_alloc_fits.specs.Filed.{AreFreeFiled, AreFreeFiledBut, KeepsEnds};
+ghost use Rattle.gpu_alloc_fits.specs.Fits.{HasTileRooms, PutsBack, TakesFitting};
 ghost use Rattle.gpu_alloc_fits.specs.Inside.{IsAtKey, IsBlockPlace, IsBlockTile, IsLiveTile, IsWholeTile, IsWithout};
 ghost use Rattle.gpu_alloc_fits.specs.Inside.{chunk_size_in, chunks_of_rows, free_range, listed, live_row};
 ghost use Rattle.gpu_alloc_fits.specs.Links.{AreNodesKept};
 ghost use Rattle.gpu_alloc_fits.specs.Listed.{AddsSlots, ListsChunks};
 ghost use Rattle.gpu_alloc_fits.specs.Space.{Adds, BeginsFitChunk, HasNeighbours, HasPlace, IsFitRunOf, IsLiveFitSpan};
-ghost use Rattle.gpu_alloc_fits.specs.Space.{IsLiveSlot, IsNoLiveFitSpan, IsSoundFitSpace, IsSpare, IsUnheld};
-ghost use Rattle.gpu_alloc_fits.specs.Space.{IsWhollyFree, Leaves, Removes, neighbours, no_fit_space};
-ghost use Rattle.gpu_alloc_fits.specs.Space.{with_chunk, with_slot, without_chunk, without_slot};
+ghost use Rattle.gpu_alloc_fits.specs.Space.{IsLiveSlot, IsNoLiveFitSpan, IsSoundFitSpace, IsUnheld};
+ghost use Rattle.gpu_alloc_fits.specs.Space.{IsWhollyFree, Leaves, LooksAtFew, Removes, neighbours, no_fit_space};
+ghost use Rattle.gpu_alloc_fits.specs.Space.{with_chunk, with_slot, without_chunk};
 ghost use Rattle.gpu_alloc_fits.specs.Tiles.{KeepsElsewhere, KeepsLive, tile_in};
+ghost use Rattle.gpu_alloc_fits.specs.declared.classes.Classes.{Classes as ClassesOf};
 
 use crate::block::{FitBlock, into_parts};
-use crate::classes::{Classes, class_of, file, unfile};
+use crate::classes::{Classes, class_of, file, file_last, leave, refile, unfile};
 use crate::cut::cut_out;
 use crate::join::put_back;
-use crate::search::{Known, find_place, last_start};
-use crate::tile::{NONE, Node, Place, Tile, unlisted};
+use crate::search::{find_place, last_start};
+use crate::tile::{NONE, Node, Place, Tile, add, bytes_of, unlisted};
 use gpu_alloc_base::buddy_block::Leaf;
 use gpu_alloc_base::free_list_block::Slot;
 use gpu_alloc_base::range_order::put_in_order;
@@ -73,7 +74,8 @@ pub struct Fits<M: MemoryObject, A: Allocator = Global> {
     classes: Classes,
     // The tile that is a wholly free chunk, if there is one.
     spare: Option<usize>,
-    known: Known,
+    // How many searches of all tiles were made, modulo 2^64.
+    searches: u64,
 }
 
 impl<M: MemoryObject, A: Allocator> Model for Fits<M, A> {
@@ -86,11 +88,11 @@ impl<M: MemoryObject, A: Allocator> Model for Fits<M, A> {
 
     ghost use Rattle.std.specs.Prelude.{◌-◌};
     ghost use Rattle.slab.specs.Slab.{slab_len};
-    ghost use Rattle.gpu_alloc_fits.specs.Inside.{IsStoredInTiles, chunks_of_rows, fit_store_in};
+    ghost use Rattle.gpu_alloc_fits.specs.Inside.{IsStore, chunks_of_rows, fit_store_in};
 
     ghost view = { λ f. fit_store_in (chunks_of_rows M.object f.chunks) (f.chunks.capacity - slab_len f.chunks) f.tiles };
 
-    ghost invariant = { λ f. IsStoredInTiles M.object f.chunks f.tiles f.spare f.known.full };
+    ghost invariant = { λ f. IsStore M.object f.chunks f.tiles f.classes f.spare };
 }
 
 impl<M: MemoryObject, A: Allocator + Copy> Fits<M, A> {
@@ -103,7 +105,7 @@ impl<M: MemoryObject, A: Allocator + Copy> Fits<M, A> {
             tiles: Slab::new(alloc),
             classes: Classes::new(),
             spare: None,
-            known: Known::new(),
+            searches: 0,
         }
     }
 
@@ -139,52 +141,69 @@ impl<M: MemoryObject, A: Allocator> Fits<M, A> {
     /// Whether there is room in a held chunk for a block of `size` bytes at a multiple of `align_mask + 1`. The size
     /// must be at least 1, and `align_mask + 1` a power of two of at most 2^63.
     ///
-    /// All tiles are searched only where the lists of free tiles show none with room. The latest request without a
-    /// place is remembered until a block is returned or a chunk is added. A tile that a search found is tried by the
-    /// next call.
-    pub fn has_place(&mut self, size: u64, align_mask: u64) -> bool
+    /// `looks` counts the free runs that are looked at, as for [`take`](Fits::take).
+    pub fn has_place<L: Ledger>(&self, size: u64, align_mask: u64, looks: &mut Steps<L>) -> bool
         requires nonempty { 0 < size }
         requires alignment { IsAlignMask align_mask }
-        ensures place { IsTrue result ↔ HasPlace (self.old).space size (align_mask + 1) }
-        ensures kept { self.new ≡ self.old }
+        ensures place { IsTrue result ↔ HasPlace (self.now).space size (align_mask + 1) }
+        ensures looks { LooksAtFew (self.now).space size (align_mask + 1) looks.old looks.new }
+        ensures some { HasPlace (self.now).space size (align_mask + 1) → looks.old < looks.new }
     {
-        find_place(
+        let found = find_place(
             &self.chunks,
             &self.tiles,
             &self.classes,
-            &mut self.known,
             size,
             align_mask,
-        )
-        .is_some()
+            looks,
+        );
+        found.is_some()
     }
 
-    /// Takes a block of exactly `size` bytes, at least 1, at a multiple of `align_mask + 1`, in a free run with room.
-    /// `None` where no free run has room. `align_mask + 1` is a power of two of at most 2^63.
+    /// Takes a block of exactly `size` bytes, at least 1, at the last multiple of `align_mask + 1` at which it fits in a
+    /// free run. `None` where no free run has room. `align_mask + 1` is a power of two of at most 2^63.
+    ///
+    /// Which run (`IsChosenRun`): lengths are sorted into classes, one for each whole number of 256 bytes below 64, and
+    /// from there on eight for each power of two. A class is *sure* where each of its runs has room, wherever it starts.
+    /// The run's class is no higher than the lowest sure class that has runs. A run with room in a lower class is passed
+    /// over only for one of a sure class, and only where the first four runs lack room: four whose classes lie between
+    /// that of the size and its own, with none of a lower class left out. A wholly free chunk comes last in its class.
+    ///
+    /// `looks` counts the free runs that are looked at: at most five where a sure class has runs, and otherwise at most
+    /// one more than those without room from the size's class on, below the first sure one (`looks`). It is at most one
+    /// where `size` is the least of its class and each free run starts at a multiple of `align_mask + 1`, and at least one
+    /// where a run has room (`some`).
     ///
     /// The only error is want of host memory, for tiles or for a second handle of the chunk's object, and then nothing
     /// but room changes. Each block that a caller had in hand is still live (`leaves`). The new one is live too, and
     /// shares no byte with any of them (`added`).
-    pub fn take(&mut self, size: u64, align_mask: u64) -> Result<Option<FitBlock<M>>, AllocError>
+    #[inline(always)]
+    pub fn take<L: Ledger>(
+        &mut self,
+        size: u64,
+        align_mask: u64,
+        looks: &mut Steps<L>,
+    ) -> Result<Option<FitBlock<M>>, AllocError>
         requires nonempty { 0 < size }
         requires alignment { IsAlignMask align_mask }
         ensures takes { TakesFitting (self.old).space size (align_mask + 1) result (self.new).space }
         ensures added { IfOk result (λ block. IfSome block (Adds (self.old).space (self.new).space)) }
         ensures leaves { Leaves (self.old).space (self.new).space }
+        ensures looks { LooksAtFew (self.old).space size (align_mask + 1) looks.old looks.new }
+        ensures some { HasPlace (self.old).space size (align_mask + 1) → looks.old < looks.new }
     {
         let place = find_place(
             &self.chunks,
             &self.tiles,
             &self.classes,
-            &mut self.known,
             size,
             align_mask,
+            looks,
         );
-        let Some(key) = place else {
+        let Some((key, run)) = place else {
             return Ok(None);
         };
-        self.tiles.reserve(2)?;
-        let run = self.tiles[key].tile;
+        make_room(&mut self.tiles)?;
         let memory = self.chunks[run.chunk].memory.duplicate()?;
         let start = last_start(run.end, size, align_mask);
         let end = start + size;
@@ -232,7 +251,7 @@ impl<M: MemoryObject, A: Allocator> Fits<M, A> {
             end: memory_size,
             free: true,
         };
-        let key = self.tiles.insert_reserved(unlisted(whole, NONE, NONE));
+        let key = add(&mut self.tiles, unlisted(whole, NONE, NONE));
         file(
             &mut self.tiles,
             &mut self.classes,
@@ -248,7 +267,6 @@ impl<M: MemoryObject, A: Allocator> Fits<M, A> {
             0,
             size,
         );
-        self.known.full = None;
         let slot = Slot {
             object,
             chunk: chunk as u64,
@@ -264,55 +282,78 @@ impl<M: MemoryObject, A: Allocator> Fits<M, A> {
     ///
     /// Each other block that a caller has in hand is still live, and may be returned next (`removed`). `looks` counts
     /// the free runs and blocks that are looked at: the block's neighbours in its chunk, at most two. With the block's
-    /// own key no other one is; with any other key it is searched for, which [`searches`](Fits::searches) counts.
+    /// own key no other is looked at; with any other key it is searched for, which [`searches`](Fits::searches) counts.
+    #[inline(always)]
     pub fn put_back<L: Ledger>(
         &mut self,
         block: FitBlock<M>,
         looks: &mut Steps<L>,
     ) -> Option<(M, u64)>
         requires live { IsLiveSlot (self.old).space block }
-        ensures stays { IfNone result ((IsSpare (without_slot (self.old).space block) block.chunk → ⊥)
-            × ((self.new).space ≡ without_slot (self.old).space block)) }
-        ensures goes { IfSome result (λ gone. IsSpare (without_slot (self.old).space block) block.chunk
-            × ((map.get ((self.old).space).chunks block.chunk
-            ≡ Some (record { object = M.object gone.0; size = gone.1 }))
-            × ((self.new).space ≡ without_chunk (without_slot (self.old).space block) block.chunk))) }
+        ensures back { PutsBack M.object (self.old).space block result (self.new).space }
         ensures removed { Removes (self.old).space block (self.new).space }
         ensures looks { looks.new ≡ looks.old + neighbours (self.old).space block }
     {
-        let (_, slot, hint) = into_parts(block);
+        let (memory, slot, key) = into_parts(block);
+        self.put_back_span(memory, key, slot.offset, slot.size, looks)
+    }
+
+    /// Returns the live block of this span of an object, as [`put_back`](Fits::put_back) does. `memory` is a handle of
+    /// the object, `key` the block's, and `offset` and `size` are in bytes.
+    #[inline(always)]
+    pub fn put_back_span<L: Ledger>(
+        &mut self,
+        memory: M,
+        key: usize,
+        offset: u64,
+        size: u64,
+        looks: &mut Steps<L>,
+    ) -> Option<(M, u64)>
+        requires live { (slot : LiveSlot) × IsLiveFitSpan (self.old).space (M.object memory) offset size slot }
+        ensures back { (slot : LiveSlot) → IsLiveFitSpan (self.old).space (M.object memory) offset size slot
+            → PutsBack M.object (self.old).space slot result (self.new).space }
+        ensures removed { (slot : LiveSlot) → IsLiveFitSpan (self.old).space (M.object memory) offset size slot
+            → Removes (self.old).space slot (self.new).space }
+        ensures looks { (slot : LiveSlot) → IsLiveFitSpan (self.old).space (M.object memory) offset size slot
+            → looks.new ≡ looks.old + neighbours (self.old).space slot }
+    {
+        let object = memory.object();
+        drop(memory);
         let Some(place) = place_of(
             &self.chunks,
             &self.tiles,
-            &mut self.known.searches,
-            hint,
-            slot.object,
-            slot.offset,
-            slot.size,
+            &mut self.searches,
+            key,
+            object,
+            offset,
+            size,
         ) else {
             unreachable!();
         };
-        let (joint, key) = put_back(
+        let (tile, joint) = put_back(
             &mut self.tiles,
             &mut self.classes,
             &self.chunks,
             place,
             looks,
         );
-        self.known.full = None;
-        if !is_whole(joint, place.whole) {
-            return None;
-        }
-        match self.spare {
-            Some(_) => Some(let_chunk_go(
-                &mut self.chunks,
+        let class = class_of(bytes_of(tile));
+        if !is_whole(tile, place.whole) {
+            refile(
                 &mut self.tiles,
                 &mut self.classes,
-                key,
-                joint.chunk,
-            )),
+                joint.key,
+                joint.class,
+                class,
+            );
+            return None;
+        }
+        leave(&mut self.tiles, &mut self.classes, joint.key, joint.class);
+        match self.spare {
+            Some(_) => Some(let_chunk_go(&mut self.chunks, &mut self.tiles, joint.key, tile.chunk)),
             None => {
-                self.spare = Some(key);
+                file_last(&mut self.tiles, &mut self.classes, joint.key, class);
+                self.spare = Some(joint.key);
                 None
             }
         }
@@ -332,15 +373,15 @@ impl<M: MemoryObject, A: Allocator> Fits<M, A> {
     {
         let key = self.spare?;
         self.spare = None;
-        let chunk = self.tiles[key].tile.chunk;
-        let (memory, size) = let_chunk_go(
-            &mut self.chunks,
+        let tile = self.tiles[key].tile;
+        unfile(
             &mut self.tiles,
             &mut self.classes,
             key,
-            chunk,
+            class_of(bytes_of(tile)),
         );
-        Some((memory, size, chunk))
+        let (memory, size) = let_chunk_go(&mut self.chunks, &mut self.tiles, key, tile.chunk);
+        Some((memory, size, tile.chunk))
     }
 
     /// The live block of this span of an object and the key under which it stands, or `None` where there is none.
@@ -395,10 +436,10 @@ impl<M: MemoryObject, A: Allocator> Fits<M, A> {
         Ok(())
     }
 
-    /// How many times all tiles were searched, modulo 2^64: for a place, about once for each new chunk, and for each
-    /// block that was returned with another key than its own. Tests look at it, and no contract.
+    /// How many times all tiles were searched, modulo 2^64: once for each block that was returned with another key than
+    /// its own. Tests look at it, and no contract.
     pub fn searches(&self) -> u64 {
-        self.known.searches
+        self.searches
     }
 
     /// A lemma: does nothing at run time. Its contract is what every store keeps.
@@ -432,9 +473,35 @@ impl<M: MemoryObject, A: Allocator> Fits<M, A> {
             tiles: _,
             classes: _,
             spare: _,
-            known: _,
+            searches: _,
         } = self;
     }
+}
+
+/// Makes room for the two tiles that a block cut from a run may add.
+///
+/// The only error is want of memory. Nothing but the room changes, even after an error.
+#[inline(always)]
+fn make_room<A: Allocator>(tiles: &mut Slab<Node, A>) -> Result<(), AllocError>
+    ensures room { OnOk result (HasRoomFor tiles.new 2) }
+    ensures rest_kept { tiles.new ≡ record tiles.old { capacity = (tiles.new).capacity } }
+{
+    if tiles.capacity() - tiles.len() >= 2 {
+        return Ok(());
+    }
+    take_room(tiles)
+}
+
+/// Takes memory for two more tiles.
+///
+/// The only error is want of memory. Nothing but the room changes, even after an error.
+#[cold]
+#[inline(never)]
+fn take_room<A: Allocator>(tiles: &mut Slab<Node, A>) -> Result<(), AllocError>
+    ensures room { OnOk result (HasRoomFor tiles.new 2) }
+    ensures rest_kept { tiles.new ≡ record tiles.old { capacity = (tiles.new).capacity } }
+{
+    tiles.reserve(2)
 }
 
 /// A key, unless it is this one.
@@ -456,25 +523,26 @@ fn is_whole(tile: Tile, size: u64) -> bool
     tile.start == 0 && tile.end == size
 }
 
-/// Removes the wholly free chunk that is the tile under this key, and returns a handle of its object and its size in
-/// bytes.
+/// Removes the wholly free chunk that is the tile under this key, which stands in no list, and returns a handle of its
+/// object and its size in bytes.
 fn let_chunk_go<M: MemoryObject, A: Allocator>(
     chunks: &mut Slab<Chunk<M>, A>,
     tiles: &mut Slab<Node, A>,
-    classes: &mut Classes,
     key: usize,
     chunk: usize,
 ) -> (M, u64)
     requires kept { AreNodesKept (chunk_size_in chunks.old) tiles.old }
     requires whole { IsWholeTile (chunk_size_in chunks.old) (tile_in tiles.old) key chunk }
     ensures kept { AreNodesKept (chunk_size_in chunks.new) tiles.new }
+    ensures filed { (classes : ClassesOf) → AreFreeFiledBut tiles.old classes key None
+        → AreFreeFiled tiles.new classes }
     ensures lives { KeepsLive (tile_in tiles.old) (tile_in tiles.new) }
     ensures elsewhere { KeepsElsewhere chunk (tile_in tiles.old) (tile_in tiles.new) }
+    ensures ends { KeepsEnds chunk tiles.old tiles.new }
     ensures row { get chunks.old chunk ≡ Some (record { memory = result.0; size = result.1 }) }
     ensures updates { Updates chunks.old chunks.new chunk None }
 {
     let Chunk { memory, size } = chunks.remove(chunk);
-    unfile(tiles, classes, key, class_of(size));
     let _ = tiles.remove(key);
     (memory, size)
 }

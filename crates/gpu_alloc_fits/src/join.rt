@@ -1,31 +1,36 @@
 //! How a live tile is freed, and joined with the free tiles next to it.
 
-ghost use Rattle.std.specs.Prelude.{◌≡◌, ◌==◌, ◌≤◌, ◌+◌, ◌↔◌, ℕ, Some, true, false, IsTrue, cond};
-ghost use Rattle.slab.specs.Slab.{ContainsKey, get};
+ghost use Rattle.std.specs.Prelude.{◌≡◌, ◌==◌, ◌<◌, ◌+◌, ℕ, IfSome, None, Option, Some, true, false, cond};
+ghost use Rattle.slab.specs.Slab.{get};
+ghost use Rattle.gpu_alloc_fits.specs.Classes.{AreMarked};
+ghost use Rattle.gpu_alloc_fits.specs.Filed.{AreFreeFiled, AreFreeFiledBut, KeepsEnds};
 ghost use Rattle.gpu_alloc_fits.specs.Inside.{chunk_size_in};
 ghost use Rattle.gpu_alloc_fits.specs.Links.{AreNodesKept, AreNodesKeptBut, with_free};
 ghost use Rattle.gpu_alloc_fits.specs.Space.{neighbours_in};
 ghost use Rattle.gpu_alloc_fits.specs.Tiles.{IsFirst, IsFreeTileOf, KeepsElsewhere, KeepsLive, PutsTileBack, tile_in};
+ghost use Rattle.gpu_alloc_fits.specs.declared.classes.Classes.{Classes as ClassesOf};
+ghost use Rattle.gpu_alloc_fits.specs.declared.classes.TheConstants.{CLASSES};
 ghost use Rattle.gpu_alloc_fits.specs.declared.tile.Tile.{Tile as TileOf};
 
-use crate::classes::{Classes, class_of, refile, unfile};
+use crate::classes::{Classes, class_of, unfile};
 use crate::fits::Chunk;
-use crate::tile::{NONE, Node, Place, Tile, bytes_of, set_before, set_end, set_free};
+use crate::tile::{Node, Place, Tile, bytes_of, look, set_before, set_end, set_free};
 use gpu_alloc_base::steps::Steps;
 use gpu_alloc_types::MemoryObject;
 use slab::Slab;
 use std::alloc::Allocator;
 use std::sync::ledger::Ledger;
 
-/// A free tile that was joined with others: its key, and the class in whose list it stands, or no class.
+/// A free tile that was joined with others: its key, and the class in whose list it stands, if it is in one.
 #[derive(Clone, Copy)]
-struct Joint {
-    key: usize,
-    class: usize,
+pub(crate) struct Joint {
+    pub(crate) key: usize,
+    pub(crate) class: Option<usize>,
 }
 
-/// Frees a live tile and joins it with the free ones next to it. Returns the joint with its key: that of the free tile
-/// before it, or else its own. `looks` counts the tiles that are looked at: its neighbours. It allocates nothing.
+/// Frees a live tile and joins it with the free ones next to it. Returns the joint, which is still to be filed. Its key
+/// is that of the free tile before it, or else its own. `looks` counts the tiles that are looked at: its neighbours. It
+/// allocates nothing.
 #[inline(always)]
 pub(crate) fn put_back<M: MemoryObject, A: Allocator, L: Ledger>(
     nodes: &mut Slab<Node, A>,
@@ -33,40 +38,26 @@ pub(crate) fn put_back<M: MemoryObject, A: Allocator, L: Ledger>(
     chunks: &Slab<Chunk<M>, A>,
     place: Place,
     looks: &mut Steps<L>,
-) -> (Tile, usize)
+) -> (Tile, Joint)
     requires kept { AreNodesKept (chunk_size_in chunks.now) nodes.old }
+    requires filed { AreFreeFiled nodes.old classes.old }
     requires at { get nodes.old place.key ≡ Some place.node }
     requires live { place.node.tile.free ≡ false }
     requires whole { chunk_size_in chunks.now place.node.tile.chunk ≡ place.whole }
     ensures kept { AreNodesKept (chunk_size_in chunks.now) nodes.new }
+    ensures filed { AreFreeFiledBut nodes.new classes.new result.1.key result.1.class }
+    ensures class { IfSome result.1.class (λ c. c < CLASSES) }
     ensures back { PutsTileBack (tile_in nodes.old) (tile_in nodes.new) place.key }
-    ensures joint { IsFreeTileOf place.node.tile.chunk (tile_in nodes.new) result.1 result.0 }
+    ensures joint { IsFreeTileOf place.node.tile.chunk (tile_in nodes.new) result.1.key result.0 }
     ensures elsewhere { KeepsElsewhere place.node.tile.chunk (tile_in nodes.old) (tile_in nodes.new) }
+    ensures ends { KeepsEnds place.node.tile.chunk nodes.old nodes.new }
     ensures looks { looks.new ≡ looks.old
         + neighbours_in place.whole place.node.tile.start place.node.tile.end }
 {
     set_free(nodes, place.key, true);
     let joint = join_before(nodes, chunks, place, looks);
     let tile = join_after(nodes, classes, chunks, joint.key, place.whole, looks);
-    refile(
-        nodes,
-        classes,
-        joint.key,
-        joint.class,
-        class_of(bytes_of(tile)),
-    );
-    (tile, joint.key)
-}
-
-/// Looks at a tile next to a freed one, and counts the look.
-#[inline(always)]
-fn look<A: Allocator, L: Ledger>(nodes: &Slab<Node, A>, other: usize, looks: &mut Steps<L>) -> Node
-    requires { ContainsKey nodes.now other }
-    ensures node { get nodes.now other ≡ Some result }
-    ensures counted { looks.new ≡ looks.old + 1 }
-{
-    looks.tick();
-    nodes[other]
+    (tile, joint)
 }
 
 /// Joins a tile that was freed with the free one before it, if there is one, under the key of that one.
@@ -82,27 +73,31 @@ fn join_before<M: MemoryObject, A: Allocator, L: Ledger>(
     requires whole { chunk_size_in chunks.now place.node.tile.chunk ≡ place.whole }
     ensures beside { AreNodesKeptBut (chunk_size_in chunks.now) result.key nodes.new }
     ensures first { IsFirst result.key (tile_in nodes.new) }
+    ensures filed { (classes : ClassesOf) → AreFreeFiledBut nodes.old classes place.key None
+        → AreFreeFiledBut nodes.new classes result.key result.class }
+    ensures class { IfSome result.class (λ c. c < CLASSES) }
     ensures lives { KeepsLive (tile_in nodes.old) (tile_in nodes.new) }
     ensures joint { (b : TileOf) × IsFreeTileOf place.node.tile.chunk (tile_in nodes.new) result.key b }
     ensures end { (b : TileOf) → tile_in nodes.new result.key ≡ Some b → b.end ≡ place.node.tile.end }
     ensures elsewhere { KeepsElsewhere place.node.tile.chunk (tile_in nodes.old) (tile_in nodes.new) }
+    ensures ends { KeepsEnds place.node.tile.chunk nodes.old nodes.new }
     ensures looks { looks.new ≡ looks.old + cond (place.node.tile.start == 0) 0 1 }
 {
     let Place { key, node, whole } = place;
     if node.tile.start == 0 {
-        return Joint { key, class: NONE };
+        return Joint { key, class: None };
     }
     let other = node.before;
     let front = look(nodes, other, looks);
     if !front.tile.free {
-        return Joint { key, class: NONE };
+        return Joint { key, class: None };
     }
     let _ = nodes.remove(key);
     set_end(nodes, other, node.tile.end, node.after);
     set_before(nodes, node.tile.end < whole, node.after, other);
     Joint {
         key: other,
-        class: class_of(bytes_of(front.tile)),
+        class: Some(class_of(bytes_of(front.tile))),
     }
 }
 
@@ -119,11 +114,17 @@ fn join_after<M: MemoryObject, A: Allocator, L: Ledger>(
     requires beside { AreNodesKeptBut (chunk_size_in chunks.now) key nodes.old }
     requires whole { (a : TileOf) → tile_in nodes.old key ≡ Some a → chunk_size_in chunks.now a.chunk ≡ whole }
     requires first { IsFirst key (tile_in nodes.old) }
+    requires marked { AreMarked classes.old }
     ensures kept { AreNodesKept (chunk_size_in chunks.now) nodes.new }
+    ensures filed { (class : Option ℕ) → AreFreeFiledBut nodes.old classes.old key class
+        → AreFreeFiledBut nodes.new classes.new key class }
+    ensures marked { AreMarked classes.new }
     ensures lives { KeepsLive (tile_in nodes.old) (tile_in nodes.new) }
     ensures joint { (a : TileOf) → tile_in nodes.old key ≡ Some a → IsFreeTileOf a.chunk (tile_in nodes.new) key result }
     ensures elsewhere { (a : TileOf) → tile_in nodes.old key ≡ Some a
         → KeepsElsewhere a.chunk (tile_in nodes.old) (tile_in nodes.new) }
+    ensures ends { (class : Option ℕ) → AreFreeFiledBut nodes.old classes.old key class → (a : TileOf)
+        → tile_in nodes.old key ≡ Some a → KeepsEnds a.chunk nodes.old nodes.new }
     ensures looks { (a : TileOf) → tile_in nodes.old key ≡ Some a
         → looks.new ≡ looks.old + cond (a.end == whole) 0 1 }
 {

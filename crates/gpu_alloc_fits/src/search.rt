@@ -1,66 +1,24 @@
-//! How a free tile with room is found: through the classes, or among all tiles.
+//! How a free tile with room is found: through the lists of free tiles by classes.
 
-ghost use Rattle.std.specs.Prelude.{◌≡◌, ◌↔◌, ◌+◌, ◌≤◌, ◌<◌, ℕ, None, IfSome, IsTrue, MatchOption, true, false};
+ghost use Rattle.std.specs.Prelude.{◌≡◌, ◌+◌, ◌≤◌, ◌<◌, IsSome, MatchOption, true, false};
 ghost use Rattle.gpu_alloc_base.specs.AlignMasks.{IsAlignMask};
 ghost use Rattle.gpu_alloc_base.specs.FreeRuns.{tail_start};
-ghost use Rattle.gpu_alloc_fits.specs.Inside.{IsBeyond, IsStillFull, chunk_size_in, chunks_of_rows, fit_space_in};
+ghost use Rattle.gpu_alloc_fits.specs.Filed.{AreFreeFiled, AreWholeLast};
+ghost use Rattle.gpu_alloc_fits.specs.Inside.{IsChosenTile, chunk_size_in, chunks_of_rows, fit_space_in};
 ghost use Rattle.gpu_alloc_fits.specs.Links.{AreNodesKept};
-ghost use Rattle.gpu_alloc_fits.specs.Space.{HasPlace};
-ghost use Rattle.gpu_alloc_fits.specs.Tiles.{HasRoomAt, HasRoomIn, tile_in};
+ghost use Rattle.gpu_alloc_fits.specs.Space.{HasPlace, LooksAtFew};
+ghost use Rattle.gpu_alloc_fits.specs.Tiles.{HasRoomIn, tile_in};
 
-use crate::classes::{Classes, class_above, class_of};
+use crate::classes::{Classes, class_of};
 use crate::fits::Chunk;
-use crate::tile::{NONE, Node, Tile};
+use crate::tile::{NONE, Node, Tile, look};
+use gpu_alloc_base::steps::Steps;
 use gpu_alloc_types::MemoryObject;
 use slab::Slab;
 use std::alloc::Allocator;
+use std::sync::ledger::Ledger;
 
-/// A block that had no place.
-#[derive(Clone, Copy)]
-pub(crate) struct Full {
-    size: u64,
-    align_mask: u64,
-}
-
-/// What earlier searches found.
-#[derive(Clone, Copy)]
-pub(crate) struct Known {
-    /// No tile has room for as much as this, until a block is returned or a chunk is added.
-    pub(crate) full: Option<Full>,
-
-    /// The tile that the last search of all tiles found: a hint.
-    found: usize,
-
-    /// How many searches of all tiles were made, modulo 2^64.
-    pub(crate) searches: u64,
-}
-
-impl Known {
-    /// Nothing is known yet.
-    pub(crate) fn new() -> Self
-        ensures { result.full ≡ None }
-    {
-        Known {
-            full: None,
-            found: NONE,
-            searches: 0,
-        }
-    }
-
-    /// Whether no tile has room for a block: an earlier search found none for a block that is no larger.
-    #[inline(always)]
-    fn is_full(&self, size: u64, align_mask: u64) -> bool
-        ensures { IsTrue result ↔ IsBeyond self.now.full size align_mask }
-    {
-        match self.full {
-            Some(full) => full.size <= size && full.align_mask <= align_mask,
-            None => false,
-        }
-    }
-}
-
-/// How many tiles are looked at from the request's own class on. After them the first class is taken in which every
-/// tile has room.
+/// How many free tiles that lack room are passed while a sure class has tiles. After them the first of these is taken.
 const LOOKS: usize = 4;
 
 /// Where a block of this size starts that ends with its tile, or as little before the end as its alignment requires.
@@ -84,131 +42,58 @@ fn has_room(tile: Tile, size: u64, align_mask: u64) -> bool
     tile.free && size <= tile.end && tile.start <= last_start(tile.end, size, align_mask)
 }
 
-/// The key of a free tile with room for a block of this size at a multiple of `align_mask + 1`, in bytes, or `None`
-/// exactly where no held chunk has a place for it. It remembers the latest request without a place, and the tile that it
-/// finds.
+/// The free tile from which a block of this size at a multiple of `align_mask + 1`, in bytes, is taken, with its key, or
+/// `None` exactly where no held chunk has a place for it. `looks` counts the free tiles that are looked at.
+///
+/// They are looked at class by class, from the class of the size on, until one has room. From the first sure class on
+/// each has. Once `LOOKS` tiles lack it, the first tile of the sure classes is taken, if they have one.
 #[inline(always)]
-pub(crate) fn find_place<M: MemoryObject, A: Allocator>(
+pub(crate) fn find_place<M: MemoryObject, A: Allocator, L: Ledger>(
     chunks: &Slab<Chunk<M>, A>,
     nodes: &Slab<Node, A>,
     classes: &Classes,
-    known: &mut Known,
     size: u64,
     align_mask: u64,
-) -> Option<usize>
+    looks: &mut Steps<L>,
+) -> Option<(usize, Tile)>
     requires nonempty { 0 < size }
     requires alignment { IsAlignMask align_mask }
     requires kept { AreNodesKept (chunk_size_in chunks.now) nodes.now }
-    requires still_full { IsStillFull (fit_space_in (chunks_of_rows M.object chunks.now) nodes.now) known.old.full }
+    requires filed { AreFreeFiled nodes.now classes.now }
+    requires whole_last { AreWholeLast (chunk_size_in chunks.now) nodes.now }
     ensures place { MatchOption result
         (HasPlace (fit_space_in (chunks_of_rows M.object chunks.now) nodes.now) size (align_mask + 1) → ⊥)
-        (HasRoomAt (tile_in nodes.now) size (align_mask + 1)) }
-    ensures still_full { IsStillFull (fit_space_in (chunks_of_rows M.object chunks.now) nodes.now) known.new.full }
-{
-    if known.is_full(size, align_mask) {
-        return None;
-    }
-    let Some(key) = find_room(nodes, classes, known, size, align_mask) else {
-        known.full = Some(Full { size, align_mask });
-        return None;
-    };
-    Some(key)
-}
-
-/// The key of a free tile with room for a block of this size at a multiple of `align_mask + 1`, in bytes, or `None`
-/// exactly where no free tile has room. All tiles are searched where neither the classes nor the tile that was found
-/// last has room.
-#[inline(always)]
-fn find_room<A: Allocator>(
-    nodes: &Slab<Node, A>,
-    classes: &Classes,
-    known: &mut Known,
-    size: u64,
-    align_mask: u64,
-) -> Option<usize>
-    requires { IsAlignMask align_mask }
-    ensures found { MatchOption result ((k : ℕ) → HasRoomAt (tile_in nodes.now) size (align_mask + 1) k → ⊥)
-        (HasRoomAt (tile_in nodes.now) size (align_mask + 1)) }
-    ensures full { known.new.full ≡ known.old.full }
-{
-    match find_listed(nodes, classes, size, align_mask) {
-        Some(key) => Some(key),
-        None => find_beyond(nodes, known, size, align_mask),
-    }
-}
-
-/// A free tile with room, from the classes: one of the first four from the request's own class on, or the first of a
-/// class in which every tile has room.
-#[inline(always)]
-fn find_listed<A: Allocator>(
-    nodes: &Slab<Node, A>,
-    classes: &Classes,
-    size: u64,
-    align_mask: u64,
-) -> Option<usize>
-    requires { IsAlignMask align_mask }
-    ensures { IfSome result (HasRoomAt (tile_in nodes.now) size (align_mask + 1)) }
+        (IsChosenTile (fit_space_in (chunks_of_rows M.object chunks.now) nodes.now) (tile_in nodes.now) size
+        (align_mask + 1)) }
+    ensures looks { LooksAtFew (fit_space_in (chunks_of_rows M.object chunks.now) nodes.now) size (align_mask + 1)
+        looks.old looks.new }
+    ensures some { IsSome result → looks.old < looks.new }
 {
     let mut class = classes.filled_from(class_of(size));
     let mut key = classes.first(class);
-    for _ in 0..LOOKS {
-        let Some(node) = nodes.get(key) else {
-            return None;
-        };
+    // From this class on each tile has room, wherever it starts.
+    let sure = class_of((size - 1).saturating_add(align_mask)) + 1;
+    for passed in 0..nodes.len() {
+        if class >= sure {
+            if key == NONE {
+                return None;
+            }
+            return Some((key, look(nodes, key, looks).tile));
+        }
+        if passed == LOOKS {
+            let first = classes.first(classes.filled_from(sure));
+            if first != NONE {
+                return Some((first, look(nodes, first, looks).tile));
+            }
+        }
+        let node = look(nodes, key, looks);
         if has_room(node.tile, size, align_mask) {
-            return Some(key);
+            return Some((key, node.tile));
         }
         key = node.down;
         if key == NONE {
-            class = classes.filled_from(class.saturating_add(1));
+            class = classes.filled_from(class + 1);
             key = classes.first(class);
-        }
-    }
-    let sure = class_above(size.saturating_add(align_mask.saturating_sub(255)));
-    key = classes.first(classes.filled_from(sure));
-    match nodes.get(key) {
-        Some(node) if has_room(node.tile, size, align_mask) => Some(key),
-        _ => None,
-    }
-}
-
-/// The same beyond the classes: the tile that was found last, if it has room, or one that a search finds.
-#[cold]
-#[inline(never)]
-fn find_beyond<A: Allocator>(
-    nodes: &Slab<Node, A>,
-    known: &mut Known,
-    size: u64,
-    align_mask: u64,
-) -> Option<usize>
-    requires { IsAlignMask align_mask }
-    ensures found { MatchOption result ((k : ℕ) → HasRoomAt (tile_in nodes.now) size (align_mask + 1) k → ⊥)
-        (HasRoomAt (tile_in nodes.now) size (align_mask + 1)) }
-    ensures full { known.new.full ≡ known.old.full }
-{
-    let last = known.found;
-    if let Some(node) = nodes.get(last) {
-        if has_room(node.tile, size, align_mask) {
-            return Some(last);
-        }
-    }
-    known.searches = known.searches.wrapping_add(1);
-    let found = search_room(nodes, size, align_mask);
-    if let Some(key) = found {
-        known.found = key;
-    }
-    found
-}
-
-/// The same by a search of all tiles.
-fn search_room<A: Allocator>(nodes: &Slab<Node, A>, size: u64, align_mask: u64) -> Option<usize>
-    requires { IsAlignMask align_mask }
-    ensures { MatchOption result ((k : ℕ) → HasRoomAt (tile_in nodes.now) size (align_mask + 1) k → ⊥)
-        (HasRoomAt (tile_in nodes.now) size (align_mask + 1)) }
-{
-    for (key, node) in nodes.iter() {
-        if has_room(node.tile, size, align_mask) {
-            return Some(key);
         }
     }
     None

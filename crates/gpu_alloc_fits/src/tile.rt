@@ -1,11 +1,14 @@
 //! Tiles: the live blocks and free runs of the held chunks, each with the keys of its neighbours.
 
-ghost use Rattle.std.specs.Prelude.{◌≡◌, ◌≢◌, Some, IsTrue, option_map};
-ghost use Rattle.slab.specs.Slab.{ContainsKey, Updates, get, slab_len};
+ghost use Rattle.std.specs.Prelude.{◌≡◌, ◌≢◌, ◌+◌, ◌-◌, ◌≤◌, None, Some, option_map};
+ghost use Rattle.slab.specs.Slab.{ContainsKey, HasRoomFor, Updates, get, slab_len};
+ghost use Rattle.gpu_alloc_fits.specs.Filed.{KeepsLists};
 ghost use Rattle.gpu_alloc_fits.specs.Links.{SetsBefore, with_end, with_free};
 
+use gpu_alloc_base::steps::Steps;
 use slab::Slab;
 use std::alloc::Allocator;
+use std::sync::ledger::Ledger;
 
 /// No key.
 pub(crate) const NONE: usize = usize::MAX;
@@ -28,8 +31,11 @@ pub(crate) struct Tile {
 
 /// How many bytes a tile has.
 #[inline(always)]
-pub(crate) fn bytes_of(tile: Tile) -> u64 {
-    tile.end.wrapping_sub(tile.start)
+pub(crate) fn bytes_of(tile: Tile) -> u64
+    requires { tile.start ≤ tile.end }
+    ensures { result ≡ tile.end - tile.start }
+{
+    tile.end - tile.start
 }
 
 /// A tile, the keys of the tiles beside it, and its place in the list of its class while it is free.
@@ -43,10 +49,10 @@ pub(crate) struct Node {
     /// The tile that starts where this one ends, if its chunk has one.
     pub(crate) after: usize,
 
-    /// The free tile above it in the list of its class: a hint.
+    /// The free tile above it in the list of its class. The last one is above the first.
     pub(crate) up: usize,
 
-    /// The free tile below it in that list: a hint.
+    /// The free tile below it in that list, or `NONE` for the last.
     pub(crate) down: usize,
 }
 
@@ -74,11 +80,43 @@ pub(crate) fn unlisted(tile: Tile, before: usize, after: usize) -> Node
     }
 }
 
+/// Looks at a tile, and counts the look.
+#[inline(always)]
+pub(crate) fn look<A: Allocator, L: Ledger>(
+    nodes: &Slab<Node, A>,
+    other: usize,
+    looks: &mut Steps<L>,
+) -> Node
+    requires { ContainsKey nodes.now other }
+    ensures node { get nodes.now other ≡ Some result }
+    ensures counted { looks.new ≡ looks.old + 1 }
+{
+    looks.tick();
+    nodes[other]
+}
+
+/// Adds a tile, for which there is room, and returns its key.
+#[inline(always)]
+pub(crate) fn add<A: Allocator>(nodes: &mut Slab<Node, A>, node: Node) -> usize
+    requires { HasRoomFor nodes.old 1 }
+    ensures was_vacant { get nodes.old result ≡ None }
+    ensures updates { Updates nodes.old nodes.new result (Some node) }
+    ensures keyed { result ≢ NONE }
+    ensures len { slab_len nodes.new ≡ slab_len nodes.old + 1 }
+    ensures capacity { (nodes.new).capacity ≡ (nodes.old).capacity }
+{
+    let most = nodes.capacity();
+    let key = nodes.insert_reserved(node);
+    prove!(key < most);
+    key
+}
+
 /// Writes whether a tile is free.
 #[inline(always)]
 pub(crate) fn set_free<A: Allocator>(nodes: &mut Slab<Node, A>, key: usize, free: bool)
     requires { ContainsKey nodes.old key }
     ensures updates { Updates nodes.old nodes.new key (option_map (with_free free) (get nodes.old key)) }
+    ensures lists { KeepsLists nodes.old nodes.new }
     ensures len { slab_len nodes.new ≡ slab_len nodes.old }
     ensures capacity { (nodes.new).capacity ≡ (nodes.old).capacity }
 {
@@ -91,6 +129,7 @@ pub(crate) fn set_free<A: Allocator>(nodes: &mut Slab<Node, A>, key: usize, free
 pub(crate) fn set_end<A: Allocator>(nodes: &mut Slab<Node, A>, key: usize, end: u64, after: usize)
     requires { ContainsKey nodes.old key }
     ensures updates { Updates nodes.old nodes.new key (option_map (with_end end after) (get nodes.old key)) }
+    ensures lists { KeepsLists nodes.old nodes.new }
     ensures len { slab_len nodes.new ≡ slab_len nodes.old }
     ensures capacity { (nodes.new).capacity ≡ (nodes.old).capacity }
 {
@@ -108,6 +147,7 @@ pub(crate) fn set_before<A: Allocator>(
     value: usize,
 )
     ensures sets { SetsBefore nodes.old nodes.new there key value }
+    ensures lists { KeepsLists nodes.old nodes.new }
     ensures len { slab_len nodes.new ≡ slab_len nodes.old }
     ensures capacity { (nodes.new).capacity ≡ (nodes.old).capacity }
 {

@@ -22,7 +22,7 @@ use Rattle.gpu_alloc_fit.specs.Fit as fit
 use Rattle.gpu_alloc_fit.specs.Fit.{Fitting, account_without}
 use Rattle.gpu_alloc_fit.specs.FitSound.{IsSoundFitting}
 use Rattle.gpu_alloc_fits.specs.Space as fit_space
-use Rattle.gpu_alloc_fits.specs.Space.{FitSpace, IsLiveFitSpan, IsLiveSlot, IsNoLiveFitSpan, IsWhollyFree, LiesInChunk, without_chunk, without_slot}
+use Rattle.gpu_alloc_fits.specs.Space.{FitSpace, IsLiveFitSpan, IsLiveSlot, IsWhollyFree, LiesInChunk, without_chunk, without_slot}
 use Rattle.gpu_alloc_freelist.specs.FreeListState.{Listing}
 use Rattle.gpu_alloc.specs.Inside.{fit_object, properties_in, span_of_slot, state_in}
 use Rattle.gpu_alloc.specs.Own.{OwnTable}
@@ -50,18 +50,22 @@ pub record Given {A : Type 0} (l : Limits A) (heaps : List Heap) (buddies : List
   pub span : ◌≡◌ {A = Span} (span_of block) (span_of_slot slot)
   pub shared : block.kind ≡ FitChunk
 
--- A live block of the whole allocator is one of its memory type's fit chunks, which is found by its span.
+-- the same span by other names
+pub span_there : {s : FitSpace} {object offset size o b n : ℕ} {slot : Slot} → IsLiveFitSpan s object offset size slot → o ≡ object → b ≡ offset → n ≡ size → IsLiveFitSpan s o b n slot
+span_there is object offset size = record { live = is.live; of_object = is.of_object ∙ sym object; starts = is.starts ∙ sym offset; of_size = is.of_size ∙ sym size }
+
+-- A live block of the whole allocator is one of its memory type's fit chunks, with the same span.
 
 module _ {A : Type 0} (l : Limits A) {heaps : List Heap} {buddies : List Buddy} {lists : List Listing} {fits : List Fitting} {own : OwnTable} {remaining index : ℕ} {f : Fitting} {block : Block} (kept : IsKept l.sharing l.config (properties_in l heaps) heaps buddies lists fits own remaining)
     (owned : IsOwned (state_in l heaps buddies lists fits (whole own buddies lists fits) remaining) block) (shared : block.kind ≡ FitChunk) (typed : index ≡ block.memory_type) (at : f ≡ get_or fits index f) where
   pub known_type : index < length (properties_in l heaps).memory_types
   known_type = omega (arith, typed, owned.held.2, (known_object (properties_in l heaps) heaps (whole own buddies lists fits) remaining kept.books refl block.object owned.held.0 owned.held.1).of_type)
 
-  pub slot_found : IsNoLiveFitSpan f.space block.object block.offset block.size → ⊥
-  slot_found none =
+  pub slot_there : (slot : Slot) × IsLiveFitSpan f.space block.object block.offset block.size slot
+  slot_there =
       let own_fit = fit_of l heaps buddies lists fits (whole own buddies lists fits) remaining index f (consistent l.sharing l.config (properties_in l heaps) heaps own buddies lists fits remaining kept) known_type at in
       let there = own_fit.linked.spans (span_of block) owned.held.0 owned.live (record { held = owned.held.1; of_kind = owned.held.3 ∙ shared; of_type = owned.held.2 ∙ sym typed ∙ sym own_fit.for_type.memory_type }) in
-      none (slot_at (span_of block) there.0) (record { live = there.1; of_object = refl; starts = refl; of_size = refl })
+      (slot_at (span_of block) there.0, record { live = there.1; of_object = refl; starts = refl; of_size = refl })
 
   pub put_back_given : {slot : Slot} {i : ℕ} {heap : Heap} → i ≡ heap_at (properties_in l heaps) index → heap ≡ get_or heaps i heap → IsLiveFitSpan f.space block.object block.offset block.size slot → Given l heaps buddies lists fits own remaining index i f heap slot block
   put_back_given here at_heap is = record {

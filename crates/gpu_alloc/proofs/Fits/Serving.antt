@@ -13,21 +13,24 @@ use Rattle.gpu_alloc_base.specs.Sizes.{grown_chunk, up}
 use Rattle.gpu_alloc_base.specs.Wanted.{wanted}
 use Rattle.gpu_alloc_base.specs.declared.free_list_block.Slot.{Slot}
 use Rattle.gpu_alloc_base.specs.declared.heap.Heap.{Heap}
+use Rattle.gpu_alloc_base.specs.declared.region.FreeListRegion.{FreeListRegion}
 use Rattle.gpu_alloc_base.proofs.ChunkSizes.{up_enough}
 use Rattle.gpu_alloc_base.proofs.Maps.{one_value}
 use Rattle.gpu_alloc_base.proofs.ToldTwice.{IsToldAs}
 use Rattle.gpu_alloc_block.specs.State.{HeldObject, State}
 use Rattle.gpu_alloc_block.specs.declared.block.Kind.TheVariants.{FitChunk}
 use Rattle.gpu_alloc_fit.specs.Fit.{Fitting, alignment, case_of, fit_case, question, rounded}
-use Rattle.gpu_alloc_fits.specs.Space.{HasPlace, IsFitting, IsFreeIn}
+use Rattle.gpu_alloc_fits.specs.Choice.{IsRun}
+use Rattle.gpu_alloc_fits.specs.Space.{HasPlace, IsFitting, IsFreeIn, chunk_bytes, size_of}
 use Rattle.gpu_alloc.specs.Candidates.{candidate, fit_candidate}
-use Rattle.gpu_alloc.specs.FitSharing.{fit_alignment, fit_question, fit_size, grain_of, largest_fit_chunk, next_fit_chunk, HasFitPlace, IsFitChunk, IsInFreeRun}
+use Rattle.gpu_alloc.specs.FitSharing.{counted_of, fit_alignment, fit_question, fit_size, grain_of, largest_fit_chunk, next_fit_chunk, object_bytes, HasFitPlace, IsFitChunk, IsInFreeRun}
 use Rattle.gpu_alloc.specs.FreeBytes.{IsFreeByte}
 use Rattle.gpu_alloc.specs.Inside.{fit_object, span_of_slot}
 use Rattle.gpu_alloc.specs.declared.allocator.Strategy.TheVariants.{InFitChunk}
 use Rattle.gpu_alloc.specs.declared.request.Request.{Request}
 use Rattle.gpu_alloc.proofs.Links.{IsFitChunkOf, slot_at}
 use Rattle.gpu_alloc.proofs.Buddies.Serving.{table_of}
+use Rattle.gpu_alloc.proofs.Fits.Choices.{AreRenamed, chosen_renamed, renamed}
 use Rattle.gpu_alloc.proofs.HeapLists.{IsHeap}
 use Rattle.gpu_alloc.proofs.Linked.{IsFitOf}
 
@@ -116,15 +119,6 @@ module _ (s : State) (index : ℕ) (f : Fitting) (serves : ServesFits s index f)
         },
       )
 
-  -- a block in free bytes is one
-  pub fitting_is : (size alignment : ℕ) (slot : Slot) → IsFitting f.space size alignment slot → IsInFreeRun s index size alignment (span_of_slot slot)
-  fitting_is size alignment slot fitting = record {
-    exact = fitting.exact;
-    aligned = fitting.aligned;
-    chunk = subst (IsFitChunk s index) (sym fitting.object) (fit_chunk_is slot.chunk fitting.chunk fitting.held);
-    free = λ at from to. subst (λ object. IsFreeByte s index FitChunk object at) (sym fitting.object) (free_byte slot.chunk at fitting.chunk fitting.held (fitting.free at from to));
-  }
-
   -- a run is a run
 
   pub run_in_object : (key start end : ℕ) (chunk : Chunk) → map.get f.space.chunks key ≡ Some chunk → IsFreeRun (IsFreeIn f.space) key start end → IsFreeRun (IsFreeByte s index FitChunk) chunk.object start end
@@ -139,6 +133,48 @@ module _ (s : State) (index : ℕ) (f : Fitting) (serves : ServesFits s index f)
     nonempty = run.nonempty;
     free = λ at from to. free_in key at chunk is (run.free at from to);
     longest = λ start' end' free. run.longest start' end' (λ at from to. free_byte key at chunk is (free at from to));
+  }
+
+  -- the object of a chunk's key
+  abbrev name : ℕ → ℕ
+  name key = object_in (map.get f.space.chunks key)
+
+  -- a run is one of a held chunk
+  chunk_of_run : (r : FreeListRegion) → IsRun (IsFreeIn f.space) r → (chunk : Chunk) × (map.get f.space.chunks r.chunk ≡ Some chunk)
+  chunk_of_run r run = let first = run.free r.start (omega arith) run.nonempty in (first.held, first.is)
+
+  runs_are : AreRenamed (IsFreeIn f.space) (IsFreeByte s index FitChunk) (chunk_bytes f.space) (object_bytes s) name
+  runs_are = record {
+    now = λ r run.
+        let c = chunk_of_run r run in
+        subst (λ object. IsFreeRun (IsFreeByte s index FitChunk) object r.start r.end) (sym (ap object_in c.1)) (run_in_object r.chunk r.start r.end c.0 c.1 run);
+    was = λ q run.
+        let w = chunk_with q.chunk q.start (run.free q.start (omega arith) run.nonempty) in
+        let object : name w.0 ≡ q.chunk = ap object_in w.2.0 ∙ sym w.2.1 in (
+          record { chunk = w.0; start = q.start; end = q.end },
+          run_in_chunk w.0 q.start q.end w.1 w.2.0 (subst (λ object. IsFreeRun (IsFreeByte s index FitChunk) object q.start q.end) w.2.1 run),
+          λ k. record { chunk = object k; start = q.start; end = q.end },
+        );
+    one = λ r q run also is.
+        let c = chunk_of_run r run in
+        let d = chunk_of_run q also in
+        serves.of.sound.space.one_object r.chunk q.chunk c.0 d.0 c.1 d.1 (sym (ap object_in c.1) ∙ is ∙ ap object_in d.1);
+    sizes = λ r run.
+        let c = chunk_of_run r run in
+        ap (object_bytes s) (ap object_in c.1) ∙ ap counted_of (serves.of.linked.chunks r.chunk c.0 c.1) ∙ sym (ap size_of c.1);
+  }
+
+  -- a block in free bytes is one
+  pub fitting_is : (size alignment : ℕ) (slot : Slot) → IsFitting f.space size alignment slot → IsInFreeRun s index size alignment (span_of_slot slot)
+  fitting_is size alignment slot fitting = record {
+    exact = fitting.exact;
+    aligned = fitting.aligned;
+    chunk = subst (IsFitChunk s index) (sym fitting.object) (fit_chunk_is slot.chunk fitting.chunk fitting.held);
+    free = λ at from to. subst (λ object. IsFreeByte s index FitChunk object at) (sym fitting.object) (free_byte slot.chunk at fitting.chunk fitting.held (fitting.free at from to));
+    run = renamed name fitting.run;
+    in_chunk = ap name fitting.in_chunk ∙ ap object_in fitting.held ∙ sym fitting.object;
+    start = fitting.start;
+    chosen = chosen_renamed runs_are size alignment fitting.run fitting.chosen;
   }
 
   -- Sizes and questions.

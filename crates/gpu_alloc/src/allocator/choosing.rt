@@ -76,8 +76,9 @@ impl<M: MemoryObject, A: Allocator> GpuAllocator<M, A> {
     {
         let part = self.heap_size(memory_type) / 32;
         let grain = self.limits.atom(memory_type).max(LEAST_GRAIN);
+        let first = self.limits.config.starting_free_list_chunk.min(part);
         // (the first fit chunk has whole grains already)
-        request.size <= self.limits.config.starting_free_list_chunk.min(part) / grain * grain
+        request.size <= first - (first & (grain - 1))
     }
 
     /// Whether a request in whole atoms fits the largest free-list chunk.

@@ -155,19 +155,18 @@ impl<M: MemoryObject, A: Allocator> GpuAllocator<M, A> {
 
     /// The first candidate in rank that has a place for its request, or `None`.
     fn first_with_place(
-        &mut self,
+        &self,
         request: &Request,
         hint: Option<Dedicated>,
         paged: &Option<Request>,
         usage: UsageFlags,
     ) -> Option<u32>
-        requires askable { IsAskable (self.old.properties).buffer_device_address request.now }
-        requires pages { IfSome paged.now (IsAskable (self.old.properties).buffer_device_address) }
+        requires askable { IsAskable (self.now.properties).buffer_device_address request.now }
+        requires pages { IfSome paged.now (IsAskable (self.now.properties).buffer_device_address) }
         requires meant { usage_bits usage ≡ implied (usage_bits (request.now).usage) }
-        ensures first { IsFirstWithPlace self.old (asked_of self.old request.now hint paged.now)
-            (candidates_of self.old request.now) result }
+        ensures first { IsFirstWithPlace self.now (asked_of self.now request.now hint paged.now)
+            (candidates_of self.now request.now) result }
         ensures few { IfSome result (λ t. t < 32) }
-        ensures kept { self.new ≡ self.old }
     {
         for rank in 0..self.ranked(usage).len() {
             let memory_type = self.ranked(usage)[rank];
@@ -181,18 +180,16 @@ impl<M: MemoryObject, A: Allocator> GpuAllocator<M, A> {
 
     /// Whether a memory type has a place for its request: for whole pages where the same request in them is given.
     fn has_place_asked(
-        &mut self,
+        &self,
         request: &Request,
         hint: Option<Dedicated>,
         paged: &Option<Request>,
         memory_type: u32,
     ) -> bool
-        requires askable { IsAskable (self.old.properties).buffer_device_address request.now }
-        requires pages { IfSome paged.now (IsAskable (self.old.properties).buffer_device_address) }
-        requires known { memory_type < length (self.old.properties).memory_types }
-        ensures place { IsTrue result
-            ↔ HasPlaceFor self.old (asked_of self.old request.now hint paged.now) memory_type }
-        ensures kept { self.new ≡ self.old }
+        requires askable { IsAskable (self.now.properties).buffer_device_address request.now }
+        requires pages { IfSome paged.now (IsAskable (self.now.properties).buffer_device_address) }
+        requires known { memory_type < length (self.now.properties).memory_types }
+        ensures { IsTrue result ↔ HasPlaceFor self.now (asked_of self.now request.now hint paged.now) memory_type }
     {
         match paged {
             None => self.has_place(*request, hint, memory_type),
@@ -203,13 +200,11 @@ impl<M: MemoryObject, A: Allocator> GpuAllocator<M, A> {
         }
     }
 
-    /// Whether a memory type has a place for a request, perhaps with a hint. (Fit chunks remember the latest request that has no
-    /// place in them.)
-    fn has_place(&mut self, request: Request, hint: Option<Dedicated>, memory_type: u32) -> bool
-        requires askable { IsAskable (self.old.properties).buffer_device_address request }
-        requires known { memory_type < length (self.old.properties).memory_types }
-        ensures place { IsTrue result ↔ HasPlaceFor self.old (ask request hint) memory_type }
-        ensures kept { self.new ≡ self.old }
+    /// Whether a memory type has a place for a request, perhaps with a hint.
+    fn has_place(&self, request: Request, hint: Option<Dedicated>, memory_type: u32) -> bool
+        requires askable { IsAskable (self.now.properties).buffer_device_address request }
+        requires known { memory_type < length (self.now.properties).memory_types }
+        ensures { IsTrue result ↔ HasPlaceFor self.now (ask request hint) memory_type }
     {
         match self.strategy(request, hint, memory_type) {
             Strategy::OwnObject => false,
@@ -251,18 +246,19 @@ impl<M: MemoryObject, A: Allocator> GpuAllocator<M, A> {
         list.refuses(request.size, request.align_mask, heap, 0)
             .is_none()
     }
+
     /// Whether a fit chunk of a memory type has a place: its allocator does not refuse although no more objects may be
     /// held.
-    fn has_fit_place(&mut self, request: Request, memory_type: u32) -> bool
-        requires askable { IsAskable (self.old.properties).buffer_device_address request }
-        requires known { memory_type < length (self.old.properties).memory_types }
-        requires fits { fits_first self.old request memory_type ≡ true }
-        ensures place { IsTrue result ↔ HasPlaceBy InFitChunk self.old request memory_type }
-        ensures kept { self.new ≡ self.old }
+    fn has_fit_place(&self, request: Request, memory_type: u32) -> bool
+        requires askable { IsAskable (self.now.properties).buffer_device_address request }
+        requires known { memory_type < length (self.now.properties).memory_types }
+        requires fits { fits_first self.now request memory_type ≡ true }
+        ensures { IsTrue result ↔ HasPlaceBy InFitChunk self.now request memory_type }
     {
-        let heap = self.limits.heap_index(memory_type);
-        let fit = &mut self.fits[memory_type as usize];
-        fit.refuses(request.size, request.align_mask, &self.heaps[heap], 0)
-            .is_none()
+        let heap = &self.heaps[self.limits.heap_index(memory_type)];
+        let fit = &self.fits[memory_type as usize];
+        let (size, mask) = (request.size, request.align_mask);
+        let first = uncounted::refuses_fit::<M, A, Brand>(fit, size, mask, heap, 0, Blank::new(1));
+        first.is_none()
     }
 }

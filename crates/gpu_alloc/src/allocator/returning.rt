@@ -13,7 +13,6 @@ use gpu_alloc_base::free_list_block::Slot;
 use gpu_alloc_base::{BuddyBlock, FreeListBlock, booking};
 use gpu_alloc_block::Kind;
 use gpu_alloc_block::block::into_memory;
-use gpu_alloc_fit::FitBlock;
 use gpu_alloc_types::{MemoryObject, ObjectDevice};
 use std::alloc::Allocator;
 use std::marker::Brand;
@@ -133,16 +132,14 @@ impl<M: MemoryObject, A: Allocator> GpuAllocator<M, A> {
         let (key, memory_type) = (block.key(), block.memory_type());
         let (offset, size) = (block.offset(), block.size());
         let memory = into_memory(block);
-        let object = memory.object();
         let heap = self.limits.heap_index(memory_type);
-        let found = self.fits[memory_type as usize].find(key, object, offset, size);
-        let Some((slot, place)) = found else {
-            unreachable!()
-        };
         uncounted::dealloc_fit::<M, A, D, Brand>(
             &mut self.fits[memory_type as usize],
             device,
-            FitBlock::new(memory, slot, place),
+            memory,
+            key,
+            offset,
+            size,
             &mut self.heaps[heap],
             &mut self.allocations_remains,
             Blank::new(1),

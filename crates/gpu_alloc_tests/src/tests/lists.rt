@@ -12,7 +12,7 @@ use std::alloc::{AllocError, Global};
 use std::process::Abort;
 use std::test::Fail;
 
-/// How many lists are drawn, by bytes and by atoms each.
+/// How many lists are drawn, by bytes and by atoms each, and twice as many where blocks are placed by class.
 const LISTS: u64 = 32;
 
 /// How many objects may be held at once.
@@ -112,34 +112,145 @@ pub(super) enum Rule {
     /// A block is the tail of the last run with room. That run's chunk is kept.
     Last,
 
-    /// A block is as long as requested, anywhere in a run with room, or the front of a new chunk. One chunk is kept,
-    /// and not the block's where another one is free.
-    Any,
+    /// A block is as long as requested, at the last place of a run that its class allows, or the front of a new chunk.
+    /// One chunk is kept, and not the block's where another one is free.
+    ByClass,
+}
+
+/// How many runs without room are passed before a run with room is left for one that is sure to have it.
+const PASSED: u64 = 4;
+
+/// The class of a length in bytes. A length of fewer than 64 whole grains of 256 bytes has one for each of these
+/// numbers. From there on eight classes of the same width go from one power of two to the next.
+fn class_of(length: u64) -> u64 {
+    let grains = length / 256;
+    let (mut class, mut next, mut width) = (0, 1u64, 1);
+    for _ in 0..128 {
+        if grains < next {
+            return class;
+        }
+        if next >= 64 && next & (next - 1) == 0 {
+            width = next / 8;
+        }
+        count(&mut class);
+        next = next.saturating_add(width);
+    }
+    class
+}
+
+/// A request for this many bytes at a multiple of the mask plus one, beside what is free and live.
+#[derive(Clone, Copy)]
+struct Choice<'a> {
+    runs: &'a [Range],
+    live: &'a [Range],
+    size: u64,
+    align_mask: u64,
+}
+
+impl Choice<'_> {
+    /// Whether a run has room.
+    fn has_room(&self, run: Range) -> bool {
+        tail_of(run, self.size, self.align_mask).is_some()
+    }
+
+    /// The first class in which each run has room, wherever it starts.
+    fn sure(&self) -> u64 {
+        let longest = (self.size.saturating_sub(1)).saturating_add(self.align_mask);
+        class_of(longest).saturating_add(1)
+    }
+
+    /// How many runs lack room, of the classes from that of the size up to this one.
+    fn lacking(&self, class: u64) -> u64 {
+        let mut number = 0;
+        let own = class_of(self.size);
+        for run in self.runs {
+            let of_run = class_of(length_of(run));
+            if own <= of_run && of_run <= class && !self.has_room(*run) {
+                count(&mut number);
+            }
+        }
+        number
+    }
+
+    /// Whether a block may be taken from a run with room. No run of a lower class is sure to have room. One of a lower
+    /// class that has it nevertheless is left for a sure one alone, behind enough that lack it. A wholly free chunk is the
+    /// last of its class.
+    fn allows(&self, run: Range) -> bool {
+        let class = class_of(length_of(&run));
+        let is_whole = !is_used(run.object, self.live);
+        for other in self.runs {
+            let of_other = class_of(length_of(other));
+            let may_pass = class >= self.sure() && self.lacking(of_other) >= PASSED;
+            let is_left = of_other < class && !may_pass;
+            let is_sooner = of_other == class && is_whole && *other != run;
+            if of_other < class && of_other >= self.sure() {
+                return false;
+            }
+            if self.has_room(*other) && (is_left || is_sooner) {
+                return false;
+            }
+        }
+        true
+    }
+
+    /// Counts which of the cases of [`CHOSEN`] it is that a block is taken from a run.
+    fn count(&self, run: Range, tally: &mut [u64; 4]) {
+        let class = class_of(length_of(&run));
+        let is_whole = !is_used(run.object, self.live);
+        let (mut passed, mut alone, mut spared) = (false, true, false);
+        for other in self.runs {
+            if self.has_room(*other) && *other != run {
+                let of_other = class_of(length_of(other));
+                passed |= of_other < class;
+                spared |= of_other == class && !is_used(other.object, self.live);
+                alone = false;
+            }
+        }
+        let sure = self.sure();
+        if passed {
+            count(&mut tally[0]);
+        }
+        if class >= sure && !passed && self.lacking(sure.saturating_sub(1)) > 0 {
+            count(&mut tally[1]);
+        }
+        if is_whole && alone {
+            count(&mut tally[2]);
+        }
+        if spared {
+            count(&mut tally[3]);
+        }
+    }
 }
 
 /// Where a block must lie that some run has room for, which is where it came where the rule allows that.
 pub(super) fn place(
     rule: Rule,
     runs: &[Range],
+    live: &[Range],
     size: u64,
     align_mask: u64,
     came: Option<Range>,
 ) -> Option<Range> {
-    let mut last = None;
+    let choice = Choice {
+        runs,
+        live,
+        size,
+        align_mask,
+    };
+    let mut wanted = None;
     for run in runs {
         if let Some(tail) = tail_of(*run, size, align_mask) {
-            last = Some(tail);
+            let block = Some(front_of(tail, size));
+            match rule {
+                Rule::Last => wanted = Some(tail),
+                Rule::ByClass if choice.allows(*run) && (wanted == None || block == came) => {
+                    wanted = block;
+                }
+                Rule::ByClass => {}
+            }
         }
     }
-    let is_right = |block: &Range| {
-        length_of(block) == size && block.start & align_mask == 0 && is_within(*block, runs)
-    };
-    match rule {
-        Rule::Last => last,
-        Rule::Any => came
-            .filter(is_right)
-            .or(last.map(|tail| front_of(tail, size))),
-    }
+    wanted
 }
 
 /// Whether a block of an object is live.
@@ -163,7 +274,7 @@ pub(super) fn kept_after(rule: Rule, runs: &[Range], live: &[Range], object: u64
 pub(super) fn first_block(rule: Rule, chunk: Range, size: u64, align_mask: u64) -> Range {
     match rule {
         Rule::Last => tail_of(chunk, size, align_mask).unwrap_or(chunk),
-        Rule::Any => front_of(chunk, size),
+        Rule::ByClass => front_of(chunk, size),
     }
 }
 
@@ -212,6 +323,14 @@ const CASES: [&str; 13] = [
     "a cleanup releases one",
 ];
 
+/// The cases that must occur where blocks are placed by class: how a run was chosen.
+const CHOSEN: [&str; 4] = [
+    "a class with room is passed over behind runs that lack it",
+    "the first sure class, since runs of lower ones lack room",
+    "a wholly free chunk, since nothing else has room",
+    "another run of the class of a wholly free chunk",
+];
+
 /// What is held and live by plain lists, and what must come of a call.
 #[derive(Drop)]
 struct Lists {
@@ -240,7 +359,14 @@ struct Lists {
     /// Which of these questions it refuses.
     refused: u64,
 
+    /// Whether each of a list's first blocks is as long as a first chunk. Then one may leave its chunk wholly free, while
+    /// another chunk has a free run as long.
+    begins_long: bool,
+
     tally: Tally,
+
+    /// How often each of the cases of [`CHOSEN`] occurred.
+    chosen: [u64; 4],
 }
 
 impl Lists {
@@ -257,7 +383,9 @@ impl Lists {
             next: FIRST,
             asked: (0, None),
             refused: 0,
+            begins_long: false,
             tally: [0; 14],
+            chosen: [0; 4],
         }
     }
 
@@ -295,6 +423,21 @@ impl Lists {
         Ok(Ok(first_block(self.rule, chunk, size, align_mask)))
     }
 
+    /// Counts how the run of a block was chosen.
+    fn count_choice(&mut self, block: Range, size: u64, align_mask: u64) {
+        let choice = Choice {
+            runs: self.runs.as_slice(),
+            live: self.live.as_slice(),
+            size,
+            align_mask,
+        };
+        for run in &self.runs {
+            if is_within(block, &[*run]) {
+                choice.count(*run, &mut self.chosen);
+            }
+        }
+    }
+
     /// Releases each wholly free chunk, except the one of this number. Returns how many were released.
     fn let_go(&mut self, kept: u64) -> Result<u64, AllocError> {
         let mut left = Vec::new(self.alloc);
@@ -322,6 +465,7 @@ impl Plain for Lists {
         self.next = FIRST;
         self.asked = (0, None);
         self.refused = chance.next() % 8;
+        self.begins_long = self.rule == Rule::ByClass && chance.next() % 2 == 0;
         self.refused
     }
 
@@ -334,13 +478,23 @@ impl Plain for Lists {
     }
 
     fn size(&self, chance: &mut Chance) -> u64 {
+        if self.begins_long && self.live.len() < 3 {
+            return FIRST;
+        }
         drawn_size(self.runs.as_slice(), chance)
     }
 
     fn take(&mut self, rt: &impl Abort, size: u64, mask: u64, (told, came): Answer) -> Done {
         let size = size.saturating_add(self.atom_mask) & !self.atom_mask;
         let mask = mask.max(self.atom_mask);
-        let wanted = match place(self.rule, self.runs.as_slice(), size, mask, came.ok()) {
+        let wanted = match place(
+            self.rule,
+            self.runs.as_slice(),
+            self.live.as_slice(),
+            size,
+            mask,
+            came.ok(),
+        ) {
             Some(block) => Ok(block),
             None => self.begin(size, mask)?,
         };
@@ -358,6 +512,7 @@ impl Plain for Lists {
                 count(&mut self.tally[2]);
             }
             count(&mut self.tally[usize::from(self.runs.contains(&block))]);
+            self.count_choice(block, size, mask);
         }
         if length_of(&block) > size {
             count(&mut self.tally[13]);
@@ -406,10 +561,19 @@ pub(super) fn try_runs<S: Store>(
     rule: Rule,
     keys: Keys,
 ) -> Result<(), Fail> {
+    let number = match rule {
+        Rule::Last => 2 * LISTS,
+        Rule::ByClass => 4 * LISTS,
+    };
     let mut lists = Lists::new(alloc, rule);
-    try_lists::<S>(rt, alloc, &mut lists, seed, 2 * LISTS, keys)?;
+    try_lists::<S>(rt, alloc, &mut lists, seed, number, keys)?;
     came_often(rt, &CASES, &lists.tally, LISTS / 2);
-    let longer = rule == Rule::Any || lists.tally[13] >= LISTS / 2;
-    holds(rt, longer, "few blocks are longer than requested");
+    match rule {
+        Rule::Last => {
+            let longer = lists.tally[13] >= LISTS / 2;
+            holds(rt, longer, "few blocks are longer than requested");
+        }
+        Rule::ByClass => came_often(rt, &CHOSEN, &lists.chosen, LISTS / 8),
+    }
     Ok(())
 }

@@ -303,14 +303,30 @@ pub fn two_in_exact_runs<M: MemoryObject, D: MemoryDevice<M>, L: Ledger>(
 {
     let mut allocator = allocator;
     let flags = AllocationFlags::empty();
-    let early = match allocator.alloc(device, size, align_mask, flags, heap, allocations_remains) {
+    let early = match allocator.alloc(
+        device,
+        size,
+        align_mask,
+        flags,
+        heap,
+        allocations_remains,
+        looks,
+    ) {
         Ok(block) => block,
         Err(refusal) => {
             end_exact_runs(allocator, device, heap, allocations_remains);
             return Err(refusal);
         }
     };
-    match allocator.alloc(device, size, align_mask, flags, heap, allocations_remains) {
+    match allocator.alloc(
+        device,
+        size,
+        align_mask,
+        flags,
+        heap,
+        allocations_remains,
+        looks,
+    ) {
         Ok(late) => {
             allocator.dealloc(device, early, heap, allocations_remains, looks);
             allocator.dealloc(device, late, heap, allocations_remains, looks);

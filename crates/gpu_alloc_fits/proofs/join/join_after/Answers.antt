@@ -1,9 +1,11 @@
 use Rattle.std.proofs.Common.{◌≡◌, ◌≢◌, ◌∙◌, Some, ap, subst, refl, sym, arith}
 use Rattle.std.proofs.lemmas.Bool.Decides.{Decides-ltb}
+use Rattle.gpu_alloc_fits.specs.Classes.{class_of_bytes}
+use Rattle.gpu_alloc_fits.specs.Filed.{KeepsEnds}
 use Rattle.gpu_alloc_fits.specs.Inside.{chunk_size_in}
 use Rattle.gpu_alloc_fits.specs.Tiles.{AreNeighbours, KeepsElsewhere, tile_in}
 use Rattle.gpu_alloc_fits.specs.declared.tile.Tile.{Tile}
-use Rattle.gpu_alloc_fits.proofs.Joins.{IsJoined, at_end, back_else, back_joined, back_kept, back_key, back_near, beside_free, kept_beside, put_key, right_grown, unnot}
+use Rattle.gpu_alloc_fits.proofs.Joins.{IsJoined, at_end, back_else, back_ends, back_filed, back_joined, back_kept, back_key, back_near, beside_free, kept_beside, put_key, right_grown, unnot}
 use Rattle.gpu_alloc_fits.proofs.Nodes.{tile_of_node}
 use Rattle.gpu_alloc_fits.proofs.Tiles.{one_tile}
 use Rattle.gpu_alloc_fits.proofs.join.join_after.Given.{Over}
@@ -81,3 +83,30 @@ returns-clause-joint g c a at = record {
   free = refl;
   chunk_is = same g c a at;
 }
+
+pub bytes_of-requires : goal.bytes_of-requires
+bytes_of-requires g c =
+    omega (arith, c.requires.beside.tiled.nonempty c.index-node.result.now.after c.look-back.result.tile (tile_of_node c.args.nodes.now c.index-node.result.now.after c.look-back.result c.look-back.ensures.node))
+
+pub returns-clause-filed : goal.returns-clause-filed
+returns-clause-filed g c class filed =
+    back_filed (chunk_size_in c.args.chunks.now) c.args.nodes.now c.unfile.new.nodes c.remove.new.self c.set_end.new.nodes c.args.key c.index-node.result.now.after c.index-node.result.now c.look-back.result
+    c.requires.beside.tiled c.requires.beside.linked c.index-node.ensures (beside_free (chunk_size_in c.args.chunks.now) c.args.nodes.now c.args.key c.index-node.result.now c.requires.beside c.index-node.ensures) c.look-back.ensures.node
+    (unnot c.look-back.result.tile.free c.if-not-back.false)
+    (back_else (chunk_size_in c.args.chunks.now) c.args.nodes.now c.args.key c.index-node.result.now c.requires.beside c.index-node.ensures c.look-back.result (less g c) c.look-back.ensures.node)
+    c.unfile.ensures.keeps c.remove.ensures.updates c.set_end.ensures.updates c.set_before.new.nodes (near g c)
+    _ (λ h. (Decides-ltb c.look-back.result.tile.end c.args.whole).1 (let w = whole g c in omega (arith, h, w)))
+    (λ h. let l = (Decides-ltb c.look-back.result.tile.end c.args.whole).0 h in let w = whole g c in omega (arith, l, w)) c.set_before.ensures.sets
+    c.args.classes.now c.unfile.new.classes c.class_of.result class (c.class_of.ensures.class ∙ ap class_of_bytes c.bytes_of.ensures) filed c.unfile.ensures.files c.set_end.ensures.lists c.set_before.ensures.lists
+
+pub returns-clause-ends : goal.returns-clause-ends
+returns-clause-ends g c class filed a at =
+    subst (λ chunk. KeepsEnds chunk c.args.nodes.now c.set_before.new.nodes) (same g c a at)
+    (back_ends (chunk_size_in c.args.chunks.now) c.args.nodes.now c.unfile.new.nodes c.remove.new.self c.set_end.new.nodes c.args.key c.index-node.result.now.after c.index-node.result.now c.look-back.result
+    c.requires.beside.tiled c.requires.beside.linked c.index-node.ensures (beside_free (chunk_size_in c.args.chunks.now) c.args.nodes.now c.args.key c.index-node.result.now c.requires.beside c.index-node.ensures) c.look-back.ensures.node
+    (unnot c.look-back.result.tile.free c.if-not-back.false)
+    (back_else (chunk_size_in c.args.chunks.now) c.args.nodes.now c.args.key c.index-node.result.now c.requires.beside c.index-node.ensures c.look-back.result (less g c) c.look-back.ensures.node)
+    c.unfile.ensures.keeps c.remove.ensures.updates c.set_end.ensures.updates c.set_before.new.nodes (near g c)
+    _ (λ h. (Decides-ltb c.look-back.result.tile.end c.args.whole).1 (let w = whole g c in omega (arith, h, w)))
+    (λ h. let l = (Decides-ltb c.look-back.result.tile.end c.args.whole).0 h in let w = whole g c in omega (arith, l, w)) c.set_before.ensures.sets
+    c.args.classes.now c.class_of.result class (c.class_of.ensures.class ∙ ap class_of_bytes c.bytes_of.ensures) filed c.unfile.ensures.lasts c.set_end.ensures.lists c.set_before.ensures.lists)

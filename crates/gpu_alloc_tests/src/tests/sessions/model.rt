@@ -275,7 +275,14 @@ impl Model {
         let gaps = gaps.as_slice();
         let found = match way {
             Way::Buddy => front_of_shortest(gaps, size, came),
-            Way::Own | Way::Fit | Way::List => place(rule_of(way), gaps, size, align_mask, came),
+            Way::Own | Way::Fit | Way::List => place(
+                rule_of(way),
+                gaps,
+                self.live.as_slice(),
+                size,
+                align_mask,
+                came,
+            ),
         };
         let served = match found {
             Some(block) => Ok(block),
@@ -473,7 +480,7 @@ impl Model {
 /// By which rule a block is placed.
 fn rule_of(way: Way) -> Rule {
     match way {
-        Way::Buddy | Way::Fit => Rule::Any,
+        Way::Buddy | Way::Fit => Rule::ByClass,
         Way::Own | Way::List => Rule::Last,
     }
 }

@@ -14,21 +14,19 @@ granted : (g : Over) (c : goal.In-Ok g) → (c.in-Ok.ensures.decided.0 ≡ []) �
 granted g c =
     let s = c.args.self.now in
     let first = first_is s (asked_of s c.args.request.now c.args.hint c.args.paged.now) (candidates_of s c.args.request.now) c.in-Some.memory_type c.in-Some.ensures.first in
-    let same = c.first_with_place.ensures.kept in
     let decided = c.in-Ok.ensures.decided in
     let within : is_too_large s c.args.request.now ≡ false = grind (arith, nat_tests, c.max_allocation_size.ensures, c.if-request-max_allocation_size.false) in
     only_serves s c.args.request.now c.args.hint c.args.paged.now c.in-Some.memory_type first.0 first.1 decided.0 (Ok c.in-Ok.block) c.allocate.new.self within
-    (subst (λ m. AllocatesBy s (plan_with s (record c.args.request.now { memory_types = m }) c.args.hint c.args.paged.now) decided.0 (Ok c.in-Ok.block) c.allocate.new.self) (one_shl c.in-Some.memory_type 32 c.in-Some.ensures.few) (rw same at decided.2))
+    (subst (λ m. AllocatesBy s (plan_with s (record c.args.request.now { memory_types = m }) c.args.hint c.args.paged.now) decided.0 (Ok c.in-Ok.block) c.allocate.new.self) (one_shl c.in-Some.memory_type 32 c.in-Some.ensures.few) decided.2)
 
 refused : (g : Over) (c : goal.In-Err g) → (c.in-Err.ensures.decided.0 ≡ []) × ServesHeld c.args.self.now (asked_of c.args.self.now c.args.request.now c.args.hint c.args.paged.now) (Some c.in-Some.memory_type) (Err c.in-Err.refusal) c.allocate.new.self
 refused g c =
     let s = c.args.self.now in
     let first = first_is s (asked_of s c.args.request.now c.args.hint c.args.paged.now) (candidates_of s c.args.request.now) c.in-Some.memory_type c.in-Some.ensures.first in
-    let same = c.first_with_place.ensures.kept in
     let decided = c.in-Err.ensures.decided in
     let within : is_too_large s c.args.request.now ≡ false = grind (arith, nat_tests, c.max_allocation_size.ensures, c.if-request-max_allocation_size.false) in
     only_serves s c.args.request.now c.args.hint c.args.paged.now c.in-Some.memory_type first.0 first.1 decided.0 (Err c.in-Err.refusal) c.allocate.new.self within
-    (subst (λ m. AllocatesBy s (plan_with s (record c.args.request.now { memory_types = m }) c.args.hint c.args.paged.now) decided.0 (Err c.in-Err.refusal) c.allocate.new.self) (one_shl c.in-Some.memory_type 32 c.in-Some.ensures.few) (rw same at decided.2))
+    (subst (λ m. AllocatesBy s (plan_with s (record c.args.request.now { memory_types = m }) c.args.hint c.args.paged.now) decided.0 (Err c.in-Err.refusal) c.allocate.new.self) (one_shl c.in-Some.memory_type 32 c.in-Some.ensures.few) decided.2)
 
 pub returns-in-Ok-clause-decided : goal.returns-in-Ok-clause-decided
 returns-in-Ok-clause-decided g c =

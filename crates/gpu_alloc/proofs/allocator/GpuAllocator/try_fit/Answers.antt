@@ -38,27 +38,27 @@ some_bytes some enough = omega (arith, some, enough)
 pub index_mut-requires-2 : goal.index_mut-requires-2
 index_mut-requires-2 g c = below c.heap_index-heap.ensures c.self.inside.heaps.ok.0 (heap_there _ _ _ _ c.self.invariant.books refl c.args.memory_type (rw (← c.self.view_is) at c.requires.known))
 
-pub alloc-answer-requires-clause-fits : goal.alloc-answer-requires-clause-fits
-alloc-answer-requires-clause-fits g c =
+pub alloc_fit-answer-requires-clause-fits : goal.alloc_fit-answer-requires-clause-fits
+alloc_fit-answer-requires-clause-fits g c =
     let known = rw (← c.self.view_is) at c.requires.known in
     let fits = rw (← c.self.view_is) at c.requires.fits in
     fits_fit c.self.inside.limits _ _ _ _ _ _ c.args.memory_type _ (consistent _ _ _ _ _ _ _ _ _ c.self.invariant) known c.index_mut.ensures.value c.args.request fits
 
-pub alloc-answer-requires-clause-agrees : goal.alloc-answer-requires-clause-agrees
-alloc-answer-requires-clause-agrees g c =
+pub alloc_fit-answer-requires-clause-agrees : goal.alloc_fit-answer-requires-clause-agrees
+alloc_fit-answer-requires-clause-agrees g c =
     let known = rw (← c.self.view_is) at c.requires.known in
     let agrees = rw (← c.self.view_is) at c.requires.agrees in
     let serving = serves_fits c.self.inside.limits _ _ _ _ _ _ c.args.memory_type c.index_mut.result.now (consistent _ _ _ _ _ _ _ _ _ c.self.invariant) known c.index_mut.ensures.value in
     fit_agrees _ c.args.memory_type _ serving _ _ known agrees
 
-pub alloc-answer-requires-clause-counted : goal.alloc-answer-requires-clause-counted
-alloc-answer-requires-clause-counted g c =
+pub alloc_fit-answer-requires-clause-counted : goal.alloc_fit-answer-requires-clause-counted
+alloc_fit-answer-requires-clause-counted g c =
     let known = rw (← c.self.view_is) at c.requires.known in
     counted_before c.self.inside.limits _ _ _ _ _ _ c.args.memory_type _ (consistent _ _ _ _ _ _ _ _ _ c.self.invariant) known c.index_mut.ensures.value _ c.index_mut-2.result.now c.heap_index-heap.ensures c.index_mut-2.ensures.value
 
 -- A grant.
 
-given : (g : Over) (c : goal.After-new g)
+given : (g : Over) (c : goal.After-new-2 g)
     → Given c.self.inside.limits c.self.inside.heaps.items c.self.inside.buddies.items c.self.inside.free_lists.items c.self.inside.fits.items (whole c.self.inside.own c.self.inside.buddies.items c.self.inside.free_lists.items c.self.inside.fits.items) c.self.inside.allocations_remains c.args.memory_type c.heap_index-heap.result
     c.self.inside.fits.items c.index_mut.result.now c.index_mut-2.result.now (allocation_bits c.flags-flags.result) (g.D.ObjectDevice.properties c.args.device.now) (g.D.ObjectDevice.objects c.args.device.now)
 given g c =
@@ -66,32 +66,32 @@ given g c =
     let agrees = rw (← c.self.view_is) at c.requires.agrees in
     given_by c.self.inside.limits (consistent _ _ _ _ _ _ _ _ _ c.self.invariant) known c.index_mut.ensures.value c.heap_index-heap.ensures c.index_mut-2.ensures.value c.flags-flags.ensures agrees
 
-abbrev before : (g : Over) → goal.After-new g → State
+abbrev before : (g : Over) → goal.After-new-2 g → State
 before g c = state_in c.self.inside.limits c.self.inside.heaps.items c.self.inside.buddies.items c.self.inside.free_lists.items c.self.inside.fits.items (whole c.self.inside.own c.self.inside.buddies.items c.self.inside.free_lists.items c.self.inside.fits.items) c.self.inside.allocations_remains
 
-abbrev block : (g : Over) → goal.After-new g → Block
+abbrev block : (g : Over) → goal.After-new-2 g → Block
 block g c = fit_block (before g c) c.args.memory_type (span_of_slot c.in-Ok.block)
 
-block_is : (g : Over) (c : goal.After-new g) → c.new.result ≡ block g c
+block_is : (g : Over) (c : goal.After-new-2 g) → c.new-2.result ≡ block g c
 block_is g c =
     let slot = c.into_parts-memory.ensures.slot in
     let object = c.into_parts-memory.ensures.handle in
-    c.new.ensures ∙ (λ k. record (block g c) { object = object k; offset = (slot k).offset; size = (slot k).size; props = c.props-props.ensures k; atom = c.atom-atom.ensures k; kind = FitChunk })
+    c.new-2.ensures ∙ (λ k. record (block g c) { object = object k; offset = (slot k).offset; size = (slot k).size; props = c.props-props.ensures k; atom = c.atom-atom.ensures k; kind = FitChunk })
 
-serves_now : (g : Over) (c : goal.After-new g) → ServesFits (before g c) c.args.memory_type c.index_mut.result.now
+serves_now : (g : Over) (c : goal.After-new-2 g) → ServesFits (before g c) c.args.memory_type c.index_mut.result.now
 serves_now g c = serves_fits c.self.inside.limits _ _ _ _ _ _ c.args.memory_type c.index_mut.result.now (consistent _ _ _ _ _ _ _ _ _ c.self.invariant) (given g c).known c.index_mut.ensures.value
 
-abbrev after : (g : Over) → goal.After-new g → State
+abbrev after : (g : Over) → goal.After-new-2 g → State
 after g c =
-    let fits = set c.self.inside.fits.items c.args.memory_type c.alloc-answer.new.self in
-    state_in c.self.inside.limits (set c.self.inside.heaps.items c.heap_index-heap.result c.alloc-answer.new.heap) c.self.inside.buddies.items c.self.inside.free_lists.items fits (whole c.self.inside.own c.self.inside.buddies.items c.self.inside.free_lists.items fits) c.alloc-answer.new.allocations_remains
+    let fits = set c.self.inside.fits.items c.args.memory_type c.alloc_fit-answer.new.fits in
+    state_in c.self.inside.limits (set c.self.inside.heaps.items c.heap_index-heap.result c.alloc_fit-answer.new.heap) c.self.inside.buddies.items c.self.inside.free_lists.items fits (whole c.self.inside.own c.self.inside.buddies.items c.self.inside.free_lists.items fits) c.alloc_fit-answer.new.allocations_remains
 
-choice : (g : Over) (c : goal.After-new g) → c.self.inside.limits.sharing ≡ FitsChosen
+choice : (g : Over) (c : goal.After-new-2 g) → c.self.inside.limits.sharing ≡ FitsChosen
 choice g c = rw (← c.self.view_is) at c.requires.chosen
 
-is : (g : Over) (c : goal.After-new g)
+is : (g : Over) (c : goal.After-new-2 g)
     → IsServed c.self.inside.own (given g c) c.self.invariant.apart (choice g c) _ _ _ c.in-Ok.ensures.allocates.0 _ c.in-Ok.ensures.allocates.2 c.in-Ok.ensures.objects (some_bytes c.requires.askable.nonempty c.in-Ok.ensures.granted.enough) c.in-Ok.ensures.sound
-    (account c.alloc-answer.new.self c.alloc-answer.new.heap c.alloc-answer.new.allocations_remains)
+    (account c.alloc_fit-answer.new.fits c.alloc_fit-answer.new.heap c.alloc_fit-answer.new.allocations_remains)
 is g c = fit_served c.self.inside.own (given g c) c.self.invariant.apart (choice g c) _ _ _ c.in-Ok.ensures.allocates.0 _ c.in-Ok.ensures.allocates.2 c.in-Ok.ensures.objects (some_bytes c.requires.askable.nonempty c.in-Ok.ensures.granted.enough) c.in-Ok.ensures.sound
 
 pub invariant_of-self-2 : goal.invariant_of-self-2
@@ -128,9 +128,9 @@ returns-in-Err g c =
     let same = c.in-Err.ensures.refused in
     let told = c.in-Err.ensures.allocates in
     let fits = c.self.inside.fits.items in
-    let kept = same_set fits c.args.memory_type c.alloc-answer.new.self c.index_mut.result.now c.index_mut.ensures.value same.0 in
+    let kept = same_set fits c.args.memory_type c.alloc_fit-answer.new.fits c.index_mut.result.now c.index_mut.ensures.value same.0 in
     let left = state_refused c.self.inside.limits _ _ _ _ _ _ c.args.memory_type c.index_mut.result.now (consistent _ _ _ _ _ _ _ _ _ c.self.invariant) known c.index_mut.ensures.value c.heap_index-heap.result c.index_mut-2.result.now c.heap_index-heap.ensures
-    c.index_mut-2.ensures.value _ _ _ same.0 same.1.0 same.1.1 (whole c.self.inside.own c.self.inside.buddies.items c.self.inside.free_lists.items (set fits c.args.memory_type c.alloc-answer.new.self)) (ap (λ (fs : List Fitting). (whole c.self.inside.own c.self.inside.buddies.items c.self.inside.free_lists.items fs).held) kept) (ap (λ (fs : List Fitting). (whole c.self.inside.own c.self.inside.buddies.items c.self.inside.free_lists.items fs).live) kept) in
+    c.index_mut-2.ensures.value _ _ _ same.0 same.1.0 same.1.1 (whole c.self.inside.own c.self.inside.buddies.items c.self.inside.free_lists.items (set fits c.args.memory_type c.alloc_fit-answer.new.fits)) (ap (λ (fs : List Fitting). (whole c.self.inside.own c.self.inside.buddies.items c.self.inside.free_lists.items fs).held) kept) (ap (λ (fs : List Fitting). (whole c.self.inside.own c.self.inside.buddies.items c.self.inside.free_lists.items fs).live) kept) in
     let s : State = state_in c.self.inside.limits c.self.inside.heaps.items c.self.inside.buddies.items c.self.inside.free_lists.items c.self.inside.fits.items (whole c.self.inside.own c.self.inside.buddies.items c.self.inside.free_lists.items c.self.inside.fits.items) c.self.inside.allocations_remains in
     rw (c.passing.ensures, ← c.self.view_is, left) (record {
       tries = (
@@ -147,20 +147,20 @@ heap_index-heap-requires g c = rw (← c.self.view_is) at c.requires.known
 pub index_mut-requires : goal.index_mut-requires
 index_mut-requires g c = below refl (c.self.inside.fits.ok.0 ∙ c.self.invariant.fitted.count) (rw (← c.self.view_is) at c.requires.known)
 
-pub alloc-answer-requires-clause-nonempty : goal.alloc-answer-requires-clause-nonempty
-alloc-answer-requires-clause-nonempty g c = c.requires.askable.nonempty
+pub alloc_fit-answer-requires-clause-nonempty : goal.alloc_fit-answer-requires-clause-nonempty
+alloc_fit-answer-requires-clause-nonempty g c = c.requires.askable.nonempty
 
-pub alloc-answer-requires-clause-alignment : goal.alloc-answer-requires-clause-alignment
-alloc-answer-requires-clause-alignment g c = c.requires.askable.alignment
+pub alloc_fit-answer-requires-clause-alignment : goal.alloc_fit-answer-requires-clause-alignment
+alloc_fit-answer-requires-clause-alignment g c = c.requires.askable.alignment
 
-pub alloc-answer-requires-clause-address : goal.alloc-answer-requires-clause-address
-alloc-answer-requires-clause-address g c = address_there _ _ _ c.flags-flags.ensures (ap (λ (p : Properties). p.buffer_device_address) (c.requires.agrees.properties ∙ ap (λ (s : State). s.properties) (sym c.self.view_is)))
+pub alloc_fit-answer-requires-clause-address : goal.alloc_fit-answer-requires-clause-address
+alloc_fit-answer-requires-clause-address g c = address_there _ _ _ c.flags-flags.ensures (ap (λ (p : Properties). p.buffer_device_address) (c.requires.agrees.properties ∙ ap (λ (s : State). s.properties) (sym c.self.view_is)))
 
 pub props-props-requires : goal.props-props-requires
 props-props-requires g c = rw (← c.self.view_is) at c.requires.known
 
-pub new-requires : goal.new-requires
-new-requires g c =
+pub new-requires-2 : goal.new-requires-2
+new-requires-2 g c =
     let inside = c.in-Ok.ensures.granted.inside in
     let small = (c.in-Ok.ensures.sound.space.sizes c.in-Ok.block.chunk inside.0 inside.1).1 in
     let offset = ap (λ (slot : Slot). slot.offset) c.into_parts-memory.ensures.slot in

@@ -11,7 +11,9 @@ use Rattle.gpu_alloc_base.proofs.Books.{answers_counted, answers_total, answers_
 use Rattle.gpu_alloc_fit.specs.Fit.{Fitting}
 use Rattle.gpu_alloc_base.specs.declared.error.AllocationError.{AllocationError}
 use Rattle.gpu_alloc_base.specs.declared.free_list_block.Slot.{Slot}
+use Rattle.gpu_alloc_base.specs.Sizes.{up}
 use Rattle.gpu_alloc_base.proofs.ChunkSizes.{greater_mask}
+use Rattle.gpu_alloc_fit.proofs.FitLooks.{one_looked_at}
 use Rattle.gpu_alloc_fit.proofs.fit.FitAllocator.alloc.Given.{Over}
 use Rattle.gpu_alloc_fit.proofs.fit.FitAllocator.alloc.Goals.{After-alloc_rounded}
 use Rattle.gpu_alloc_fit.proofs.fit.FitAllocator.alloc.Goals as goal
@@ -111,3 +113,13 @@ pub returns-clause-ledger : goal.returns-clause-ledger
 returns-clause-ledger g c =
     let told = c.alloc_rounded.ensures.answers in
     answers_within (keeps_books (old g c) c.rounded_size-size.result (c.max-align_mask.result + 1) (allocation_bits c.args.flags)) told.0 c.alloc_rounded.result (new g c) told.2
+
+pub returns-clause-looks : goal.returns-clause-looks
+returns-clause-looks g c = rw (← c.rounded_size-size.ensures.is, ← alignment_is g c) c.alloc_rounded.ensures.looks
+
+pub returns-clause-one : goal.returns-clause-one
+returns-clause-one g c =
+    one_looked_at c.args.self.now (up c.args.size c.args.self.now.atom) c.args.align_mask c.args.looks.now c.alloc_rounded.new.looks c.alloc_rounded.ensures.was (returns-clause-looks g c)
+
+pub returns-clause-some : goal.returns-clause-some
+returns-clause-some g c = rw (← c.rounded_size-size.ensures.is, ← alignment_is g c) c.alloc_rounded.ensures.some

@@ -7,6 +7,7 @@ use Rattle.gpu_alloc_fit.specs.Fit.{fit_case}
 use Rattle.gpu_alloc_fit.specs.FitSound.{fitting_in}
 use Rattle.gpu_alloc_fit.specs.Fit.{Fitting}
 use Rattle.gpu_alloc_base.proofs.Unasked.{refuses_unasked}
+use Rattle.gpu_alloc_fit.proofs.FitLooks.{none_looked_at}
 use Rattle.gpu_alloc_fit.proofs.fit.FitAllocator.refuses_rounded.Goals as goal
 
 pub returns-in_err-refusal-clause-refuses : goal.returns-in_err-refusal-clause-refuses
@@ -21,3 +22,6 @@ returns-clause-refuses g c = λ flags.
     iff_false c.has_place.ensures.place c.if-has_place.false in
     refuses_unasked (fit_case (account c.args.self.now c.args.heap.now c.args.allocations_remains) c.args.size (c.args.align_mask + 1) flags) tt (subst (λ (x : Fitting). HasPlace x.space c.args.size (c.args.align_mask + 1) → ⊥) c.self.view_is none)
     c.in_ok-refusal.refusal (c.in_ok-refusal.ensures (c.args.align_mask + 1) flags)
+
+pub returns-in_err-refusal-clause-looks : goal.returns-in_err-refusal-clause-looks
+returns-in_err-refusal-clause-looks g c = none_looked_at c.args.self.now.space c.args.size (c.args.align_mask + 1) c.args.looks.now

@@ -20,7 +20,7 @@ here g c =
     (own_here (free_range (chunks_of_rows g.M.MemoryObject.object c.self.inside.chunks)) c.self.inside.tiles [] c.loop-node.ranges.items _ _ c.in-Some.field-0-0 c.in-Some.node.now c.in-Some.ensures.steps c.loop-node.invariant.2)
 
 pub list_free-requires : goal.list_free-requires
-list_free-requires g c = record { held = row_there c.self.inside.chunks c.self.inside.tiles c.in-Some.field-0-0 c.in-Some.node.now.tile c.self.invariant.kept (here g c) }
+list_free-requires g c = record { held = row_there c.self.inside.chunks c.self.inside.tiles c.in-Some.field-0-0 c.in-Some.node.now.tile c.self.invariant.stored.kept (here g c) }
 
 pub loop-node-preserved : goal.loop-node-preserved
 loop-node-preserved g c = (tt, tt, one_made (free_range (chunks_of_rows g.M.MemoryObject.object c.self.inside.chunks)) c.self.inside.tiles [] c.loop-node.ranges.items _ _ c.in-Some.field-0-0 c.in-Some.node.now c.in-Some.ensures.steps c.loop-node.invariant.2 _ c.in_ok-list_free.ensures)
@@ -28,12 +28,12 @@ loop-node-preserved g c = (tt, tt, one_made (free_range (chunks_of_rows g.M.Memo
 pub put_in_order-requires : goal.put_in_order-requires
 put_in_order-requires g c =
     subst (IsDistinct same_start) (sym (all_made (free_range (chunks_of_rows g.M.MemoryObject.object c.self.inside.chunks)) c.self.inside.tiles [] c.loop-node.ranges.items _ c.in-None.ensures.steps.0 c.loop-node.invariant.2))
-    (free_once g.M.MemoryObject.object c.self.inside.chunks c.self.inside.tiles c.self.invariant.kept c.self.invariant.one_object)
+    (free_once g.M.MemoryObject.object c.self.inside.chunks c.self.inside.tiles c.self.invariant.stored.kept c.self.invariant.stored.one_object)
 
 pub returns-clause-runs : goal.returns-clause-runs
 returns-clause-runs g c r =
     let is = all_made (free_range (chunks_of_rows g.M.MemoryObject.object c.self.inside.chunks)) c.self.inside.tiles [] c.loop-node.ranges.items _ c.in-None.ensures.steps.0 c.loop-node.invariant.2 in
-    let exact = free_all g.M.MemoryObject.object c.self.inside.chunks c.self.inside.tiles c.self.invariant.kept r in
+    let exact = free_all g.M.MemoryObject.object c.self.inside.chunks c.self.inside.tiles c.self.invariant.stored.kept r in
     let same = c.put_in_order.ensures.same r in
     rw (← c.self.view_is) (
       (λ has. exact.0 (subst (λ xs. Contains xs r) is (same.0 has))),

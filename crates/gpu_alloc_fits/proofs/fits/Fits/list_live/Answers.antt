@@ -19,10 +19,10 @@ here g c =
     (own_here (live_row (chunks_of_rows g.M.MemoryObject.object c.self.inside.chunks)) c.self.inside.tiles c.args.rows.now.items c.loop-node.rows.items _ _ c.in-Some.field-0-0 c.in-Some.node.now c.in-Some.ensures.steps c.loop-node.invariant.2)
 
 pub list_live-requires-clause-nonempty : goal.list_live-requires-clause-nonempty
-list_live-requires-clause-nonempty g c = omega (arith, c.self.invariant.kept.tiled.nonempty c.in-Some.field-0-0 c.in-Some.node.now.tile (here g c))
+list_live-requires-clause-nonempty g c = omega (arith, c.self.invariant.stored.kept.tiled.nonempty c.in-Some.field-0-0 c.in-Some.node.now.tile (here g c))
 
 pub list_live-requires-clause-held : goal.list_live-requires-clause-held
-list_live-requires-clause-held g c = row_there c.self.inside.chunks c.self.inside.tiles c.in-Some.field-0-0 c.in-Some.node.now.tile c.self.invariant.kept (here g c)
+list_live-requires-clause-held g c = row_there c.self.inside.chunks c.self.inside.tiles c.in-Some.field-0-0 c.in-Some.node.now.tile c.self.invariant.stored.kept (here g c)
 
 pub loop-node-preserved : goal.loop-node-preserved
 loop-node-preserved g c = (tt, tt, one_made (live_row (chunks_of_rows g.M.MemoryObject.object c.self.inside.chunks)) c.self.inside.tiles c.args.rows.now.items c.loop-node.rows.items _ _ c.in-Some.field-0-0 c.in-Some.node.now c.in-Some.ensures.steps c.loop-node.invariant.2 _ c.in_ok-list_live.ensures)
@@ -34,6 +34,6 @@ returns g c =
       added =
           all_made (live_row (chunks_of_rows g.M.MemoryObject.object c.self.inside.chunks)) c.self.inside.tiles c.args.rows.now.items c.loop-node.rows.items _ c.in-None.ensures.steps.0 c.loop-node.invariant.2
           ∙ ap (λ rows. c.args.rows.now.items ++ rows) (rows_made (chunks_of_rows g.M.MemoryObject.object c.self.inside.chunks) (entries c.self.inside.tiles));
-      exact = live_all g.M.MemoryObject.object c.self.inside.chunks c.self.inside.tiles c.self.invariant.kept;
-      once = live_once g.M.MemoryObject.object c.self.inside.chunks c.self.inside.tiles c.self.invariant.kept;
+      exact = live_all g.M.MemoryObject.object c.self.inside.chunks c.self.inside.tiles c.self.invariant.stored.kept;
+      once = live_once g.M.MemoryObject.object c.self.inside.chunks c.self.inside.tiles c.self.invariant.stored.kept;
     })

@@ -1,12 +1,12 @@
 use Rattle.std.proofs.Common.{ap, ◌∙◌}
 use Rattle.gpu_alloc_fits.specs.Fits.{FitStore}
-use Rattle.gpu_alloc_fits.proofs.Stored.{same_space, stored_same}
+use Rattle.gpu_alloc_fits.proofs.Stored.{same_space, store_same}
 use Rattle.gpu_alloc_fits.proofs.fits.Fits.reserve.Goals as goal
 
 pub invariant_of-self-2 : goal.invariant_of-self-2
 invariant_of-self-2 g c =
-    stored_same g.M.MemoryObject.object c.self.inside.chunks c.reserve.new.self c.self.inside.tiles c.reserve-2.new.self (ap (λ s. s.slots) c.reserve.ensures.rest_kept) (ap (λ s. s.slots) c.reserve-2.ensures.rest_kept)
-    c.self.inside.spare c.self.inside.known.full c.self.invariant
+    store_same g.M.MemoryObject.object c.self.inside.chunks c.reserve.new.self c.self.inside.tiles c.reserve-2.new.self (ap (λ s. s.slots) c.reserve.ensures.rest_kept) (ap (λ s. s.slots) c.reserve-2.ensures.rest_kept)
+    c.self.inside.classes c.self.inside.spare c.self.invariant
 
 pub returns-clause-kept : goal.returns-clause-kept
 returns-clause-kept g c =
