@@ -238,9 +238,10 @@ typedef struct wt_limits {
    in a free run that has room. Requests over the first fit chunk's size get an object of their own. (That size is
    starting_free_list_chunk, cut to 1/32 of the heap; where it is less than a grain, all requests do.) Later chunks grow
    up to four times the first, and no larger than a free list's largest. For each memory type at most one fit chunk
-   stays without a live block, until wt_cleanup. The same requests hold less memory. But where its lists show no place,
-   a call looks at all blocks and free runs in the fit chunks of each memory type that it tries, before it asks for a
-   chunk. */
+   stays without a live block, until wt_cleanup. The same requests hold less memory. For each memory type that it tries,
+   a call looks at five free runs at most where one is surely long enough, wherever it starts; otherwise, as before it
+   asks for a chunk, at no more than those that may be too short or misaligned. With WT_HELD_ONLY it looks twice at those
+   of the type that serves. */
 enum { WT_BUDDY = 0, WT_FIT = 1 };
 
 /* The sizes that steer the allocator, in bytes, as in gpu-alloc's Config, and how requests share objects. Any sizes

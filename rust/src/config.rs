@@ -75,8 +75,9 @@ pub enum Sharing {
     Buddy,
 
     /// In fit chunks: each block is as long as asked, in whole grains (256 bytes, or the non-coherent atom where that
-    /// is larger). They hold less memory for the same requests. Where its lists show no place, a call looks at all
-    /// blocks and free runs in the fit chunks of each memory type that it tries, before it asks for a chunk.
+    /// is larger). They hold less memory for the same requests. For each memory type that it tries, a call looks at five
+    /// free runs at most where one is surely long enough, wherever it starts; otherwise, as before it asks for a chunk,
+    /// at no more than those that may be too short or misaligned.
     ///
     /// Requests over the size of the first chunk ([`Config::starting_free_list_chunk`], at most a 32nd of the heap) get
     /// an object of their own; where that is less than a grain, all requests do. Later chunks grow up to four times the
