@@ -150,6 +150,9 @@ WT_API uint32_t wt_layout(uint32_t number);
     ROW(132, WT_BUDDY)                                          \
     ROW(133, WT_FIT)                                            \
     ROW(134, offsetof(wt_config, sharing))                      \
-    ROW(135, offsetof(wt_type_statistics, fit))
+    ROW(135, offsetof(wt_type_statistics, fit))                 \
+    ROW(136, offsetof(wt_kind_statistics, asked_bytes))         \
+    ROW(137, offsetof(wt_kind_statistics, asked_bytes_high))    \
+    ROW(138, offsetof(wt_kind_statistics, scattered))
 
 #endif

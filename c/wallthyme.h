@@ -92,7 +92,7 @@ extern "C" {
 #endif
 
 /* The version of header and library, their own: 0xMMmmpp. While MM is 0, those of another mm do not fit together. */
-#define WT_VERSION 0x000900u
+#define WT_VERSION 0x000a00u
 
 /* What a call answers. */
 enum {
@@ -345,9 +345,13 @@ typedef struct wt_kind_statistics {
     uint64_t blocks;          /* live blocks in them */
     uint64_t live_bytes;      /* the sizes of those blocks */
     uint64_t live_bytes_high;
-    uint64_t free_bytes;      /* the sizes of their free ranges */
+    uint64_t asked_bytes;     /* the bytes asked for of those blocks */
+    uint64_t asked_bytes_high;
+    uint64_t free_bytes;      /* the sizes of the objects' free ranges */
     uint64_t free_bytes_high;
     uint64_t largest_free;    /* the size of the largest free range, or 0 */
+    uint64_t scattered;       /* the share of the free bytes that lie in free ranges shorter than half of the longest
+                                 one, in thousandths, rounded down; 0 where nothing is free */
 } wt_kind_statistics;
 
 typedef struct wt_type_statistics {
@@ -476,8 +480,8 @@ WT_API uint32_t wt_free_ranges(wt_allocator *a, uint32_t memory_type, size_t fir
 WT_API uint32_t wt_statistics(wt_allocator *a, uint32_t memory_type, wt_type_statistics *statistics);
 
 /* A report of all that is held, as JSON: heaps, memory types, sums by type and kind, and each object with its live
-   blocks (by key and user) and free ranges. scripts/picture of the repository draws it. At most room bytes are written,
-   from the start of the text, without a terminating 0. *length is the length of the whole text, so a call with room 0
+   blocks (by key, with user and asked) and free ranges. wallthyme-picture draws it. At most room bytes
+   are written, from the start of the text, without a terminating 0. *length is the length of the whole text, so a call with room 0
    returns how much room is needed. WT_NOT_OPEN, WT_OUT_OF_HOST_MEMORY. */
 WT_API uint32_t wt_report(wt_allocator *a, char *text, size_t room, size_t *length);
 

@@ -256,15 +256,22 @@ static void check_statistics(wt_allocator *a) {
         expect(wt_import(a, DEVICE_SIDE, UINT64_MAX, 0, UINT64_MAX, &blocks[i]) == WT_OK, "no import");
     expect(wt_statistics(a, DEVICE_SIDE, &told) == WT_OK, "they are not told");
     expect(told.dedicated.objects == 1 && told.dedicated.blocks == 1 && told.dedicated.live_bytes == 5000, "dedicated");
+    expect(told.dedicated.asked_bytes == 5000 && told.dedicated.scattered == 0, "dedicated: the bytes asked for");
     expect(told.imported.objects == 2 && told.imported.blocks == 2, "imported");
     expect(told.imported.live_bytes == UINT64_MAX - 1 && told.imported.live_bytes_high == 1, "imported: its bytes");
+    expect(told.imported.asked_bytes == UINT64_MAX - 1 && told.imported.asked_bytes_high == 1,
+           "imported: the bytes asked for");
     expect(told.buddy.objects == 1 && told.buddy.blocks == 3 && told.buddy.live_bytes == 3 * 512, "buddy");
+    expect(told.buddy.asked_bytes == 3 * 300 && told.buddy.asked_bytes_high == 0, "buddy: the bytes asked for");
     expect(told.buddy.free_bytes == 32 * KIBIBYTE - 3 * 512 && told.buddy.free_bytes_high == 0,
            "buddy: its free bytes");
     expect(told.buddy.largest_free == 16 * KIBIBYTE, "buddy: its largest free range");
+    /* Free are 512, 2048, 4096, 8192 and 16384 bytes, of which the first three lie below half of the last. */
+    expect(told.buddy.scattered == 1000 * 6656 / 31232, "buddy: its scattered share");
     expect(told.free_list.objects == 1 && told.free_list.blocks == 2 && told.free_list.live_bytes == 1280, "free_list");
     expect(told.free_list.free_bytes == chunk - 1280 && told.free_list.largest_free == chunk - 1280,
            "free_list: its free bytes");
+    expect(told.free_list.asked_bytes == 1280 && told.free_list.scattered == 0, "free_list: the bytes asked for");
     expect(told.fit.objects == 0 && told.fit.blocks == 0 && told.fit.free_bytes == 0, "fit");
     for (size_t i = 0; i < LENGTH(blocks); i++) expect(wt_free(a, blocks[i].key) == WT_OK, "a block is not taken back");
     expect(wt_cleanup(a) == WT_OK, "it is not cleaned up");
@@ -285,6 +292,7 @@ static void check_fit(wt_allocator *a) {
     expect(wt_statistics(a, DEVICE_SIDE, &told) == WT_OK, "they are not told");
     expect(told.fit.objects == 1 && told.fit.blocks == 2 && told.fit.live_bytes == 1024
            && told.fit.live_bytes_high == 0, "fit");
+    expect(told.fit.asked_bytes == 600 && told.fit.asked_bytes_high == 0, "fit: the bytes asked for");
     expect(told.fit.free_bytes == 8 * KIBIBYTE - 1024 && told.fit.free_bytes_high == 0, "fit: its free bytes");
     expect(told.fit.largest_free == 8 * KIBIBYTE - 1024, "fit: its largest free range");
     expect(told.buddy.objects == 0 && told.free_list.objects == 0, "buddy or free_list");

@@ -1,5 +1,5 @@
 -- A session's named blocks against its allocator's live spans.
-use Rattle.std.proofs.Common.{◌≡◌, ◌↔◌, inl, inr, ℕ, List, [], ◌∷◌, map, Option, sym, subst}
+use Rattle.std.proofs.Common.{◌≡◌, ◌↔◌, inl, inr, ℕ, List, [], ◌∷◌, map, Option, refl, sym, subst}
 use Rattle.std.specs.List.{Contains}
 use Rattle.gpu_alloc_types.specs.Device.{Object}
 use Rattle.gpu_alloc_types.specs.Properties.{Properties}
@@ -27,6 +27,10 @@ module _ (s : Books) (rows : List NamedSpan) (exact : (row : NamedSpan) → Cont
   rows_named b has =
       let found = from_row rows b has in
       subst (λ (y : LiveBlock). OfBlock s y.name (λ x. span_of x ≡ live_block_span y)) found.2 ((exact found.0).0 found.1)
+
+  -- and its size counts as asked for
+  pub rows_whole : (b : LiveBlock) → Contains (map block_of rows) b → b.asked ≡ b.size
+  rows_whole b has = let found = from_row rows b has in subst (λ (y : LiveBlock). y.asked ≡ y.size) found.2 refl
 
   -- and each live span is one's
   pub none_lacks : (p : Properties) (objects : ℕ → Option Object) → IsSoundSession p objects s → LacksSpan s.allocator (map block_of rows) → ⊥

@@ -8,9 +8,10 @@ use Rattle.gpu_report.specs.Report.{IsReport}
 use Rattle.gpu_report.specs.declared.live.LiveBlock.{LiveBlock}
 use Rattle.gpu_report.specs.declared.report.Report.{Report}
 
--- the block lies where the live block of the key lies that it has as its name
-abbrev pub IsKeyed : DeskState → LiveBlock → Type 0
-IsKeyed s b = OfKey s b.name (λ x. span_of x ≡ live_block_span b)
+-- the block's name is the key of a live block that lies there, with its tag's number of bytes asked for
+pub record IsKeyed (s : DeskState) (b : LiveBlock) : Type 0 where
+  pub lies : OfKey s b.name (λ x. span_of x ≡ live_block_span b)
+  pub asked : b.asked ≡ (tag_of s b.name).asked
 
 -- these are the live blocks, under their keys
 abbrev pub AreKeyed : DeskState → List LiveBlock → Type 0

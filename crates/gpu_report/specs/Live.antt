@@ -33,3 +33,7 @@ pub record LacksSpan (s : State) (blocks : List LiveBlock) : Type 0 where
 -- the sizes of the live blocks in the held objects that are held as this
 abbrev pub live_sizes : List (ℕ × HeldObject) → Part → List LiveBlock → List ℕ
 live_sizes held p live = map (λ b. b.size) (filter (λ b. is_listed_as held p b.object) live)
+
+-- how many bytes were asked for of each of these blocks
+abbrev pub asked_sizes : List (ℕ × HeldObject) → Part → List LiveBlock → List ℕ
+asked_sizes held p live = map (λ b. b.asked) (filter (λ b. is_listed_as held p b.object) live)

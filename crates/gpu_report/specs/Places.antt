@@ -8,11 +8,11 @@ use Rattle.gpu_report.specs.declared.report.Place.{Place}
 
 -- a live block under its name
 abbrev pub block_place : LiveBlock → Place
-block_place b = record { block = Some b.name; offset = b.offset; size = b.size }
+block_place b = record { block = Some b.name; offset = b.offset; size = b.size; asked = b.asked }
 
--- a free range
+-- a free range, of which nothing was asked for
 abbrev pub free_place : FreeRange → Place
-free_place r = record { block = None; offset = r.start; size = r.end - r.start }
+free_place r = record { block = None; offset = r.start; size = r.end - r.start; asked = 0 }
 
 -- the live blocks and free ranges of an object
 abbrev pub places_in : List LiveBlock → List FreeRange → ℕ → List Place

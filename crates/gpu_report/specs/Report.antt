@@ -4,10 +4,10 @@ use Rattle.std.specs.FinMap as finite
 use Rattle.std.specs.List.{filter, flat_map}
 use Rattle.gpu_alloc_types.specs.declared.types.FreeRange.{FreeRange}
 use Rattle.gpu_alloc.specs.Budget.{heap_bytes, heap_budget}
-use Rattle.gpu_alloc.specs.State.{HeldObject, State, ledger}
+use Rattle.gpu_alloc.specs.State.{HeldObject, State, heap_limit, ledger}
 use Rattle.gpu_report.specs.Free.{AreFreeRanges, free_sizes, largest, scattered}
 use Rattle.gpu_report.specs.Held.{AreHeld, part_of, kind_of, parts, held_as}
-use Rattle.gpu_report.specs.Live.{AreLive, live_sizes}
+use Rattle.gpu_report.specs.Live.{AreLive, asked_sizes, live_sizes}
 use Rattle.gpu_report.specs.Places.{ArePlaces, Tile}
 use Rattle.gpu_report.specs.declared.part.Part.{Part}
 use Rattle.gpu_report.specs.declared.live.LiveBlock.{LiveBlock}
@@ -18,9 +18,14 @@ use Rattle.gpu_report.specs.declared.report.ObjectKind.TheVariants.{Dedicated, I
 use Rattle.gpu_report.specs.declared.report.ObjectReport.{ObjectReport}
 use Rattle.gpu_report.specs.declared.report.Report.{Report}
 
--- a heap's size, its ledger and its budget
+-- a heap's size, its limit, its ledger and its budget
 abbrev pub heap_told : State → ℕ → HeapReport
-heap_told s heap = record { size = heap_bytes s.properties heap; used = ledger s heap; budget = heap_budget s heap }
+heap_told s heap = record {
+  size = heap_bytes s.properties heap;
+  limit = heap_limit s heap;
+  used = ledger s heap;
+  budget = heap_budget s heap;
+}
 
 -- each heap by index
 pub record AreHeaps (s : State) (heaps : List HeapReport) : Type 0 where
@@ -60,14 +65,15 @@ pub record IsObjectTold (s : State) (live : List LiveBlock) (o : ObjectReport) :
   pub places : HasPlaces live free o
   pub tiled : is_chunk o.kind ≡ true → Tile 0 o.size o.places.items
 
--- The held objects of a memory type and a kind: how many there are, and the sums of the sizes of the live blocks in
--- them and of their free ranges. All are 0 where no object is held so.
+-- The held objects of a memory type and a kind: how many there are, the sums of the sizes of the live blocks in them,
+-- of the bytes asked for of these, and of the free ranges. All are 0 where no object is held so.
 pub record AreSums (s : State) (held : List (ℕ × HeldObject)) (live : List LiveBlock) (k : KindReport) : Type 0 where
   pub free : List FreeRange
   pub are_free : AreFreeRanges s k.memory_type free
   pub objects : k.objects ≡ length (held_as held (part_of k.memory_type k.kind))
   pub live_blocks : k.live_blocks ≡ length (live_sizes held (part_of k.memory_type k.kind) live)
   pub live_bytes : k.live_bytes ≡ sum (live_sizes held (part_of k.memory_type k.kind) live)
+  pub asked_bytes : k.asked_bytes ≡ sum (asked_sizes held (part_of k.memory_type k.kind) live)
   pub free_bytes : k.free_bytes ≡ sum (free_sizes held (part_of k.memory_type k.kind) free)
   pub largest_free : k.largest_free ≡ largest (free_sizes held (part_of k.memory_type k.kind) free)
   pub scattered : k.scattered ≡ scattered (free_sizes held (part_of k.memory_type k.kind) free)

@@ -17,8 +17,8 @@ member words number = words ++ decimal number
 
 abbrev pub heap_text : HeapReport → List ℕ
 heap_text h =
-    member (codes "{\"size\":") h.size ++ member (codes ",\"used\":") h.used ++ member (codes ",\"budget\":") h.budget
-    ++ codes "}"
+    member (codes "{\"size\":") h.size ++ member (codes ",\"limit\":") h.limit ++ member (codes ",\"used\":") h.used
+    ++ member (codes ",\"budget\":") h.budget ++ codes "}"
 
 abbrev pub type_text : MemoryType → List ℕ
 type_text t =
@@ -40,17 +40,19 @@ abbrev pub kind_text : KindReport → List ℕ
 kind_text k =
     codes "{" ++ part_text k.memory_type k.kind ++ member (codes ",\"objects\":") k.objects
     ++ member (codes ",\"live_blocks\":") k.live_blocks ++ member (codes ",\"live_bytes\":") k.live_bytes
-    ++ member (codes ",\"free_bytes\":") k.free_bytes ++ member (codes ",\"largest_free\":") k.largest_free
-    ++ member (codes ",\"scattered\":") k.scattered ++ codes "}"
+    ++ member (codes ",\"asked_bytes\":") k.asked_bytes ++ member (codes ",\"free_bytes\":") k.free_bytes
+    ++ member (codes ",\"largest_free\":") k.largest_free ++ member (codes ",\"scattered\":") k.scattered ++ codes "}"
 
--- a block's key and its caller's own value; null for free bytes
-abbrev pub key_text : (users : ℕ → ℕ) → Option ℕ → List ℕ
-key_text users None = codes "{\"key\":null,\"user\":null"
-key_text users (Some key) = member (codes "{\"key\":") key ++ member (codes ",\"user\":") (users key)
+-- a block's key, its caller's own value and how many bytes were asked for; null for free bytes
+abbrev pub key_text : (users : ℕ → ℕ) → Option ℕ → (asked : ℕ) → List ℕ
+key_text users None asked = codes "{\"key\":null,\"user\":null,\"asked\":null"
+key_text users (Some key) asked =
+    member (codes "{\"key\":") key ++ member (codes ",\"user\":") (users key) ++ member (codes ",\"asked\":") asked
 
 abbrev pub place_text : (users : ℕ → ℕ) → Place → List ℕ
 place_text users p =
-    key_text users p.block ++ member (codes ",\"offset\":") p.offset ++ member (codes ",\"size\":") p.size ++ codes "}"
+    key_text users p.block p.asked ++ member (codes ",\"offset\":") p.offset ++ member (codes ",\"size\":") p.size
+    ++ codes "}"
 
 -- what begins a row after n others
 abbrev pub lead : ℕ → List ℕ

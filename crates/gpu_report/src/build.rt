@@ -42,7 +42,8 @@ impl Report {
         }
     }
 
-    /// A report of what a session's allocator holds, with the live blocks under their names there. Nothing changes.
+    /// A report of what a session's allocator holds, with the live blocks under their names there. Nothing changes. A
+    /// session keeps no requests, so each block's size counts as asked for.
     ///
     /// The only error is want of host memory.
     pub fn of_session<M: MemoryObject, D: MemoryDevice<M>, A: Allocator + Copy>(
@@ -60,7 +61,7 @@ impl Report {
     }
 }
 
-/// A session's rows as blocks.
+/// A session's rows as blocks, whose sizes count as asked for.
 fn named_blocks(alloc: Global, rows: &[NamedSpan]) -> Result<Vec<LiveBlock>, AllocError>
     ensures { IfOk result (λ blocks. blocks.items ≡ mapped block_of rows.now) }
 {
@@ -71,6 +72,7 @@ fn named_blocks(alloc: Global, rows: &[NamedSpan]) -> Result<Vec<LiveBlock>, All
             object: row.object,
             offset: row.offset,
             size: row.size,
+            asked: row.size,
         })?;
     }
     Ok(blocks)

@@ -9,7 +9,8 @@ use gpu_desk::Desk;
 use std::alloc::{AllocError, Global};
 
 impl Report {
-    /// A report of what a desk's allocator holds, with the live blocks under their keys. Nothing changes.
+    /// A report of what a desk's allocator holds, with the live blocks under their keys, and as many bytes asked for as
+    /// their requests did. Nothing changes.
     ///
     /// The only error is want of host memory.
     pub fn of_desk(alloc: Global, desk: &Desk) -> Result<Report, AllocError>
@@ -24,8 +25,8 @@ impl Report {
     }
 }
 
-/// The live blocks of a desk, under their keys.
-fn keyed_blocks(alloc: Global, desk: &Desk) -> Result<Vec<LiveBlock>, AllocError>
+/// The live blocks of a desk, under their keys and with the bytes asked for.
+pub(crate) fn keyed_blocks(alloc: Global, desk: &Desk) -> Result<Vec<LiveBlock>, AllocError>
     ensures { IfOk result (λ blocks. AreKeyed desk.now blocks.items) }
 {
     let mut blocks = Vec::new(alloc);
@@ -36,6 +37,7 @@ fn keyed_blocks(alloc: Global, desk: &Desk) -> Result<Vec<LiveBlock>, AllocError
             object: grant.object,
             offset: grant.offset,
             size: grant.size,
+            asked: grant.asked,
         })?;
         after = grant.key;
     }

@@ -51,6 +51,7 @@ pub(crate) fn heap_reports<M: MemoryObject, A: Allocator>(
     for heap in 0..allocator.heap_count() {
         heaps.push(HeapReport {
             size: allocator.heap_bytes(heap),
+            limit: allocator.heap_limit(heap),
             used: allocator.heap_used(heap),
             budget: allocator.heap_budget(heap),
         })?;

@@ -20,7 +20,7 @@ use gpu_alloc::spans::HeldRow;
 use gpu_alloc::{FreeRange, GpuAllocator, MemoryObject};
 use std::alloc::{AllocError, Allocator, Global};
 
-/// The report of a memory type and a kind with `count` objects, or `None` where there are none.
+/// The report of a memory type and a kind, with zeros where no object is held so.
 pub(crate) fn kind_report<M: MemoryObject, A: Allocator>(
     alloc: Global,
     allocator: &GpuAllocator<M, A>,
@@ -35,6 +35,7 @@ pub(crate) fn kind_report<M: MemoryObject, A: Allocator>(
     ensures of { IfOk result (λ k. part_told k ≡ part) }
 {
     let live_sizes = part.live_sizes(alloc, held, live)?;
+    let asked_sizes = part.asked_sizes(alloc, held, live)?;
     let free_sizes = part.free_sizes(alloc, held, free)?;
     Ok(KindReport {
         memory_type: part.memory_type,
@@ -42,6 +43,7 @@ pub(crate) fn kind_report<M: MemoryObject, A: Allocator>(
         objects: part.count(held),
         live_blocks: live_sizes.len() as u64,
         live_bytes: total(&live_sizes),
+        asked_bytes: total(&asked_sizes),
         free_bytes: total(&free_sizes),
         largest_free: greatest(&free_sizes),
         scattered: scattered(&free_sizes),

@@ -14,7 +14,7 @@ use gpu_alloc::spans::LiveSpan;
 use gpu_alloc::{GpuAllocator, MemoryBlock, MemoryObject};
 use std::alloc::{AllocError, Allocator, Global};
 
-/// Where a live block lies, and its owner's name for it.
+/// Where a live block lies, its owner's name for it, and how many bytes were asked for.
 #[derive(Clone, Copy, Debug, PartialEq, Eq)]
 pub struct LiveBlock {
     /// The block's name: any number.
@@ -28,12 +28,17 @@ pub struct LiveBlock {
 
     /// Its size, in bytes.
     pub size: u64,
+
+    /// How many bytes its owner asked for.
+    pub asked: u64,
 }
 
 impl LiveBlock {
-    /// A block under a name.
-    pub fn of<M: MemoryObject>(name: u64, block: &MemoryBlock<M>) -> LiveBlock
+    /// A block under a name, of which its owner asked for `asked` bytes. Any number is taken as it is: a
+    /// [`MemoryBlock`] keeps no request.
+    pub fn of<M: MemoryObject>(name: u64, asked: u64, block: &MemoryBlock<M>) -> LiveBlock
         ensures name { result.name ≡ name }
+        ensures asked { result.asked ≡ asked }
         ensures span { live_block_span result ≡ span_of block.now }
     {
         LiveBlock {
@@ -41,6 +46,7 @@ impl LiveBlock {
             object: block.memory().object(),
             offset: block.offset(),
             size: block.size(),
+            asked,
         }
     }
 
@@ -88,33 +94,6 @@ fn find(blocks: &[LiveBlock], span: &LiveSpan) -> Option<LiveBlock>
         Ok(index) => Some(blocks[index]),
         Err(_) => None,
     }
-}
-
-/// Spans as blocks, each named 0.
-fn unnamed(alloc: Global, spans: &[LiveSpan]) -> Result<Vec<LiveBlock>, AllocError>
-    ensures { IfOk result (λ live. mapped live_block_span live.items ≡ mapped span_in spans.now) }
-{
-    let mut live = Vec::new(alloc);
-    for span in spans {
-        live.push(LiveBlock {
-            name: 0,
-            object: span.object,
-            offset: span.offset,
-            size: span.size,
-        })?;
-    }
-    Ok(live)
-}
-
-/// A block for each live span, by the name of their object, each named 0.
-pub(crate) fn live_unnamed<M: MemoryObject, A: Allocator>(
-    alloc: Global,
-    allocator: &GpuAllocator<M, A>,
-) -> Result<Vec<LiveBlock>, AllocError>
-    ensures { IfOk result (λ live. AreLive allocator.now live.items) }
-{
-    let spans = spans_by_object(alloc, allocator)?;
-    unnamed(alloc, &spans)
 }
 
 /// For each live span a block with that span, by the name of their object, or `None` where a span has no block.

@@ -8,7 +8,7 @@ ghost use Rattle.std.specs.Option.{option_map};
 ghost use Rattle.gpu_alloc.specs.Spans.{held_entry_of, held_of};
 ghost use Rattle.gpu_report.specs.Free.{free_sizes};
 ghost use Rattle.gpu_report.specs.Held.{held_as, is_found, is_of, kind_of, rank};
-ghost use Rattle.gpu_report.specs.Live.{live_sizes};
+ghost use Rattle.gpu_report.specs.Live.{asked_sizes, live_sizes};
 ghost use Rattle.gpu_report.specs.Report.{is_chunk};
 
 use crate::held::find;
@@ -108,6 +108,26 @@ impl Part {
         for block in live {
             if self.is_of(find(held, block.object)) {
                 sizes.push(block.size)?;
+            }
+        }
+        Ok(sizes)
+    }
+
+    /// How many bytes were asked for of each live block in the held objects that are held as this, by name.
+    pub(crate) fn asked_sizes(
+        &self,
+        alloc: Global,
+        held: &[(u64, HeldRow)],
+        live: &[LiveBlock],
+    ) -> Result<Vec<u64>, AllocError>
+        requires once { IsDistinct nat_eq (keys_of (mapped held_entry_of held.now)) }
+        requires rising { IsNonDecreasing (keys_of (mapped held_entry_of held.now)) }
+        ensures { IfOk result (λ sizes. sizes.items ≡ asked_sizes (mapped held_entry_of held.now) self.now live.now) }
+    {
+        let mut sizes = Vec::new(alloc);
+        for block in live {
+            if self.is_of(find(held, block.object)) {
+                sizes.push(block.asked)?;
             }
         }
         Ok(sizes)

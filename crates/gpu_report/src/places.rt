@@ -18,6 +18,7 @@ impl Place {
             block: Some(block.name),
             offset: block.offset,
             size: block.size,
+            asked: block.asked,
         }
     }
 
@@ -28,6 +29,7 @@ impl Place {
             block: None,
             offset: range.start,
             size: range.end.saturating_sub(range.start),
+            asked: 0,
         }
     }
 }

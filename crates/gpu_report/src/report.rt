@@ -21,6 +21,10 @@ pub struct HeapReport {
     /// Its size, in bytes.
     pub size: u64,
 
+    /// Its limit: how many bytes of it may be held before no more are asked for. It is at most the size, and equals it
+    /// where no limit was set.
+    pub limit: u64,
+
     /// Its ledger: how many bytes the held objects of its memory types count. Imports may bring it past the size.
     pub used: u128,
 
@@ -65,6 +69,9 @@ pub struct KindReport {
     /// How many bytes these blocks have in all.
     pub live_bytes: u128,
 
+    /// How many bytes were asked for of these blocks.
+    pub asked_bytes: u128,
+
     /// How many bytes their free ranges have in all.
     pub free_bytes: u128,
 
@@ -106,4 +113,7 @@ pub struct Place {
 
     /// Its size, in bytes.
     pub size: u64,
+
+    /// How many of a block's bytes were asked for, 0 for a free range.
+    pub asked: u64,
 }

@@ -1,14 +1,17 @@
 //! The sums of one memory type, for callers that need no more of it.
 
-ghost use Rattle.std.specs.Prelude.{◌≡◌, ◌<◌, ◌≤◌, ◌↔◌, IfOk, IfSome, None, OnErr, length};
-ghost use Rattle.gpu_report.specs.Statistics.{AreStatistics};
+ghost use Rattle.std.specs.Prelude.{◌≡◌, ◌<◌, ◌≤◌, ◌↔◌, IfErr, IfNone, IfOk, IfSome, None, OnErr, length};
+ghost use Rattle.gpu_report.specs.Live.{LacksSpan};
+ghost use Rattle.gpu_report.specs.Statistics.{AreDeskStatistics, AreStatistics};
+ghost use Rattle.gpu_report.specs.declared.error.ReportError.TheVariants.{BlockMissing};
 
 use crate::build::free_of;
+use crate::desk::keyed_blocks;
 use crate::held::held_by_name;
 use crate::kind::kind_report;
-use crate::live::live_unnamed;
+use crate::live::live_blocks;
 use crate::part::Part;
-use crate::{KindReport, ObjectKind};
+use crate::{KindReport, LiveBlock, ObjectKind, ReportError};
 use gpu_alloc::{GpuAllocator, MemoryObject};
 use gpu_desk::Desk;
 use std::alloc::{AllocError, Allocator, Global};
@@ -33,50 +36,30 @@ pub struct Statistics {
 }
 
 impl Statistics {
-    /// What an allocator holds of a memory type, which must exist. Nothing changes.
+    /// What an allocator holds of a memory type, which must exist, from its live blocks under names. Nothing changes.
     ///
-    /// The only error is want of host memory.
+    /// `blocks` must have a block for each live span: where one is missing, the error is `BlockMissing`. Blocks that
+    /// are not live are ignored, and of two with one span either may be used. The only other error is
+    /// `OutOfHostMemory`.
     pub fn of<M: MemoryObject, A: Allocator + Copy>(
         alloc: Global,
         allocator: &GpuAllocator<M, A>,
+        blocks: &[LiveBlock],
         memory_type: u32,
-    ) -> Result<Statistics, AllocError>
+    ) -> Result<Statistics, ReportError>
         requires { memory_type < length (allocator.now.properties).memory_types }
-        ensures { IfOk result (AreStatistics allocator.now memory_type) }
+        ensures told { IfOk result (AreStatistics allocator.now blocks.now memory_type) }
+        ensures missing { IfErr result (λ e. e ≡ BlockMissing → LacksSpan allocator.now blocks.now) }
     {
-        let live = live_unnamed(alloc, allocator)?;
-        let held = held_by_name(alloc, allocator)?;
-        let free = free_of(allocator, memory_type)?;
-        let dedicated = Part {
-            memory_type,
-            kind: ObjectKind::Dedicated,
-        };
-        let imported = Part {
-            memory_type,
-            kind: ObjectKind::Imported,
-        };
-        let buddy = Part {
-            memory_type,
-            kind: ObjectKind::BuddyChunk,
-        };
-        let free_list = Part {
-            memory_type,
-            kind: ObjectKind::FreeListChunk,
-        };
-        let fit = Part {
-            memory_type,
-            kind: ObjectKind::FitChunk,
-        };
-        Ok(Statistics {
-            dedicated: kind_report(alloc, allocator, dedicated, &held, &live, &free)?,
-            imported: kind_report(alloc, allocator, imported, &held, &live, &free)?,
-            buddy: kind_report(alloc, allocator, buddy, &held, &live, &free)?,
-            free_list: kind_report(alloc, allocator, free_list, &held, &live, &free)?,
-            fit: kind_report(alloc, allocator, fit, &held, &live, &free)?,
-        })
+        match statistics_of(alloc, allocator, blocks, memory_type) {
+            Ok(Some(statistics)) => Ok(statistics),
+            Ok(None) => Err(ReportError::BlockMissing),
+            Err(_) => Err(ReportError::OutOfHostMemory),
+        }
     }
 
-    /// What a desk holds of a memory type, or `None` exactly where the type does not exist. Nothing changes.
+    /// What a desk holds of a memory type, or `None` exactly where the type does not exist. As many bytes count as asked
+    /// for as the blocks' requests did. Nothing changes.
     ///
     /// The only error is want of host memory, and only for a type that exists.
     pub fn of_desk(
@@ -84,16 +67,64 @@ impl Statistics {
         desk: &Desk,
         memory_type: u32,
     ) -> Result<Option<Statistics>, AllocError>
-        ensures told { IfOk result (λ answer. IfSome answer (AreStatistics desk.now.allocator memory_type)) }
+        ensures told { IfOk result (λ answer. IfSome answer (AreDeskStatistics desk.now memory_type)) }
         ensures none { IfOk result (λ answer. (answer ≡ None)
             ↔ (length (desk.now.allocator.properties).memory_types ≤ memory_type)) }
         ensures known { OnErr result (memory_type < length (desk.now.allocator.properties).memory_types) }
     {
-        let allocator = desk.allocator();
-        if memory_type >= allocator.type_count() {
+        if memory_type >= desk.allocator().type_count() {
             return Ok(None);
         }
-        let statistics = Statistics::of(alloc, allocator, memory_type)?;
-        Ok(Some(statistics))
+        desk.keeps_sound();
+        let blocks = keyed_blocks(alloc, desk)?;
+        match statistics_of(alloc, desk.allocator(), &blocks, memory_type)? {
+            Some(statistics) => Ok(Some(statistics)),
+            None => unreachable!(),
+        }
     }
+}
+
+/// The sums of a memory type, or `None` where a live span has no block.
+fn statistics_of<M: MemoryObject, A: Allocator + Copy>(
+    alloc: Global,
+    allocator: &GpuAllocator<M, A>,
+    blocks: &[LiveBlock],
+    memory_type: u32,
+) -> Result<Option<Statistics>, AllocError>
+    requires { memory_type < length (allocator.now.properties).memory_types }
+    ensures told { IfOk result (λ answer. IfSome answer (AreStatistics allocator.now blocks.now memory_type)) }
+    ensures missing { IfOk result (λ answer. IfNone answer (LacksSpan allocator.now blocks.now)) }
+{
+    let Some(live) = live_blocks(alloc, allocator, blocks)? else {
+        return Ok(None);
+    };
+    let held = held_by_name(alloc, allocator)?;
+    let free = free_of(allocator, memory_type)?;
+    let dedicated = Part {
+        memory_type,
+        kind: ObjectKind::Dedicated,
+    };
+    let imported = Part {
+        memory_type,
+        kind: ObjectKind::Imported,
+    };
+    let buddy = Part {
+        memory_type,
+        kind: ObjectKind::BuddyChunk,
+    };
+    let free_list = Part {
+        memory_type,
+        kind: ObjectKind::FreeListChunk,
+    };
+    let fit = Part {
+        memory_type,
+        kind: ObjectKind::FitChunk,
+    };
+    Ok(Some(Statistics {
+        dedicated: kind_report(alloc, allocator, dedicated, &held, &live, &free)?,
+        imported: kind_report(alloc, allocator, imported, &held, &live, &free)?,
+        buddy: kind_report(alloc, allocator, buddy, &held, &live, &free)?,
+        free_list: kind_report(alloc, allocator, free_list, &held, &live, &free)?,
+        fit: kind_report(alloc, allocator, fit, &held, &live, &free)?,
+    }))
 }

@@ -17,8 +17,9 @@ use gpu_desk::Desk;
 /// whole text in bytes. The rest of `text` is unchanged.
 ///
 /// The members are those of a [`Report`], in that order, and `types`, the memory types, with `heap` and `properties`.
-/// In place of a block's name there are its `key` and its `user`, both null for free bytes. Each row is a line. The
-/// text has no 0 byte. `report` must be that of the desk as it is: for a key that has no live block the `user` is 0.
+/// In place of a block's name there are its `key`, its `user` and its `asked`, all null for free bytes. Each row is a
+/// line. The text has no 0 byte. `report` must be that of the desk as it is: for a key that has no live block the `user`
+/// is 0.
 pub fn write_report(desk: &Desk, report: &Report, text: &mut [u8]) -> u64
     ensures { IsTextWritten (report_text (user_of desk.now) (desk.now.allocator.properties).memory_types report.now)
         text.old text.new result }
@@ -100,7 +101,8 @@ fn put_heap(text: &mut [u8], at: u64, heap: &HeapReport) -> u64
     ensures { GoesOn text.old at (heap_text heap.now) text.new result }
 {
     let size = put_member(text, at, "{\"size\":", u128::from(heap.size));
-    let used = put_member(text, size, ",\"used\":", heap.used);
+    let limit = put_member(text, size, ",\"limit\":", u128::from(heap.limit));
+    let used = put_member(text, limit, ",\"used\":", heap.used);
     let budget = put_member(text, used, ",\"budget\":", u128::from(heap.budget));
     put_words(text, budget, "}")
 }
@@ -123,7 +125,8 @@ fn put_kind(text: &mut [u8], at: u64, kind: &KindReport) -> u64
     let blocks = u128::from(kind.live_blocks);
     let blocks = put_member(text, objects, ",\"live_blocks\":", blocks);
     let live = put_member(text, blocks, ",\"live_bytes\":", kind.live_bytes);
-    let free = put_member(text, live, ",\"free_bytes\":", kind.free_bytes);
+    let asked = put_member(text, live, ",\"asked_bytes\":", kind.asked_bytes);
+    let free = put_member(text, asked, ",\"free_bytes\":", kind.free_bytes);
     let largest = u128::from(kind.largest_free);
     let largest = put_member(text, free, ",\"largest_free\":", largest);
     let scattered = u128::from(kind.scattered);
@@ -168,21 +171,22 @@ fn put_object(desk: &Desk, text: &mut [u8], at: u64, object: &ObjectReport) -> u
 fn put_place(desk: &Desk, text: &mut [u8], at: u64, place: &Place) -> u64
     ensures { GoesOn text.old at (place_text (user_of desk.now) place.now) text.new result }
 {
-    let key = put_key(desk, text, at, place.block);
+    let key = put_key(desk, text, at, place.block, place.asked);
     let offset = put_member(text, key, ",\"offset\":", u128::from(place.offset));
     let size = put_member(text, offset, ",\"size\":", u128::from(place.size));
     put_words(text, size, "}")
 }
 
-/// The key of a block, and its caller's own value; null for free bytes.
-fn put_key(desk: &Desk, text: &mut [u8], at: u64, key: Option<u64>) -> u64
-    ensures { GoesOn text.old at (key_text (user_of desk.now) key) text.new result }
+/// The key of a block, its caller's own value and how many bytes were asked for; null for free bytes.
+fn put_key(desk: &Desk, text: &mut [u8], at: u64, key: Option<u64>, asked: u64) -> u64
+    ensures { GoesOn text.old at (key_text (user_of desk.now) key asked) text.new result }
 {
     match key {
         Some(key) => {
             let end = put_member(text, at, "{\"key\":", u128::from(key));
-            put_member(text, end, ",\"user\":", u128::from(user_of(desk, key)))
+            let end = put_member(text, end, ",\"user\":", u128::from(user_of(desk, key)));
+            put_member(text, end, ",\"asked\":", u128::from(asked))
         }
-        None => put_words(text, at, "{\"key\":null,\"user\":null"),
+        None => put_words(text, at, "{\"key\":null,\"user\":null,\"asked\":null"),
     }
 }

@@ -2,6 +2,7 @@
 
 ghost use Rattle.std.specs.Prelude.{◌<◌, ◌≤◌};
 
+use crate::names::{Escaped, width_of};
 use crate::words::{FREE, KINDS, PATTERNS, Title, fill, name};
 use gpu_report::strips::{ROW, Span, piece};
 use std::alloc::{AllocError, Global};
@@ -116,7 +117,7 @@ impl Drawing {
         &mut self,
         span: Span,
         colour: &str,
-        title: Title,
+        title: Title<'_>,
     ) -> Result<(), AllocError> {
         let Span { mut start, end } = span;
         while start < end {
@@ -145,20 +146,22 @@ impl Drawing {
         )
     }
 
-    /// Writes a block's name in the middle of its range, if there is room for it in one row.
-    pub(crate) fn number(&mut self, span: Span, ink: &str, number: u64) -> Result<(), AllocError> {
+    /// Writes a text in the middle of a block's range, and returns whether there is room for it in one row. Where there
+    /// is not, nothing is written.
+    pub(crate) fn within(&mut self, span: Span, ink: &str, text: &str) -> Result<bool, AllocError> {
         let width = span.end.saturating_sub(span.start);
         let into_row = span.start % ROW;
-        let digits = u64::from(number.checked_ilog10().unwrap_or(0)) + 1;
-        if into_row.saturating_add(width) > ROW || width < 7 * digits + 6 {
-            return Ok(());
+        if into_row.saturating_add(width) > ROW || width < width_of(text).saturating_add(6) {
+            return Ok(false);
         }
         let x = LEFT + into_row + width / 2;
         let y = self.row_at(span.start).saturating_add(12);
+        let text = Escaped(text);
         writeln!(
             self.body,
-            "<text x=\"{x}\" y=\"{y}\" font-size=\"11\" text-anchor=\"middle\" {ink} pointer-events=\"none\">{number}</text>"
-        )
+            "<text x=\"{x}\" y=\"{y}\" font-size=\"11\" text-anchor=\"middle\" {ink} pointer-events=\"none\">{text}</text>"
+        )?;
+        Ok(true)
     }
 
     /// The whole picture as a text.

@@ -46,7 +46,12 @@ pub(crate) fn draw_dump<R: Read>(alloc: Global, input: &mut R) -> Result<String,
     let text = read_all(alloc, input)?;
     let dump: Dump = serde_json::from_slice(alloc, text.as_slice())?;
     let heading = "GPU memory of a program";
-    Ok(picture(alloc, &dump.report, dump.types.as_slice(), heading)?)
+    let Dump {
+        report,
+        types,
+        names,
+    } = dump;
+    Ok(picture(alloc, &report, types.as_slice(), &names, heading)?)
 }
 
 /// Writes the picture, or why there is none: `no report:`, what is wrong, and at which line and column. The status is

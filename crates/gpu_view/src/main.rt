@@ -4,6 +4,7 @@
 
 mod drawing;
 mod dump;
+mod names;
 mod picture;
 mod rows;
 mod view;

@@ -1,25 +1,27 @@
 //! The picture: the heaps one below another, with their memory types, and what each type holds.
 //!
-//! It contains only words of this crate and numbers, in which nothing needs escaping.
+//! It contains only words of this crate, numbers and the names of blocks, which alone need escaping.
 
 ghost use Rattle.std.specs.Prelude.{◌<◌, ◌^◌};
 
 use crate::drawing::{Drawing, LEFT, LINE, MARGIN, Set};
+use crate::names::Names;
 use crate::words::{Amount, Count, FREE, NOTE, PROPERTIES, Share, Title, fill, ink, name};
 use gpu_alloc::MemoryType;
 use gpu_report::strips::{ROW, Span, Strip, start_of};
-use gpu_report::{HeapReport, KindReport, ObjectReport, Report};
+use gpu_report::{HeapReport, KindReport, ObjectKind, ObjectReport, Report};
 use std::alloc::{AllocError, Global};
 
 /// How many rows the objects of a kind and type take to scale, at most. What the least lengths add comes on top.
 const ROWS: u128 = 6;
 
-/// The picture of a report under a heading, as an SVG. `types` are the device's memory types. The only error is want of
-/// memory.
+/// The picture of a report under a heading, as an SVG. `types` are the device's memory types, and `names` those of the
+/// blocks that have one. The only error is want of memory.
 pub(crate) fn picture(
     alloc: Global,
     report: &Report,
     types: &[MemoryType],
+    names: &Names,
     heading: &str,
 ) -> Result<String, AllocError> {
     let drawing = Drawing::new(alloc);
@@ -28,6 +30,7 @@ pub(crate) fn picture(
         alloc,
         report,
         types,
+        names,
     };
     page.drawing.head(heading)?;
     for (index, heap) in report.heaps.iter().enumerate() {
@@ -41,14 +44,15 @@ pub(crate) fn picture(
 
 /// What is drawn so far, and of which report.
 #[derive(Drop)]
-struct Page<'r, 't> {
+struct Page<'r, 't, 'n> {
     drawing: Drawing,
     alloc: Global,
     report: &'r Report,
     types: &'t [MemoryType],
+    names: &'n Names,
 }
 
-impl Page<'_, '_> {
+impl Page<'_, '_, '_> {
     /// A heap, with its memory types.
     fn draw_heap(&mut self, index: u64, heap: &HeapReport) -> Result<(), AllocError> {
         self.drawing.leave(14);
@@ -59,7 +63,10 @@ impl Page<'_, '_> {
         let size = Amount(u128::from(heap.size));
         let used = Amount(heap.used);
         let budget = Amount(u128::from(heap.budget));
-        let told = format!(in self.alloc; "{used} of {size} held, budget left {budget}")?;
+        let mut told = format!(in self.alloc; "{used} of {size} held, budget left {budget}")?;
+        if heap.limit < heap.size {
+            write!(told, ", limit {}", Amount(u128::from(heap.limit)))?;
+        }
         self.drawing.write(LEFT, Set::Plain, told.as_str())?;
         self.drawing.leave(8);
         self.draw_ledger(index, heap)?;
@@ -126,6 +133,9 @@ impl Page<'_, '_> {
         let live = Amount(kind.live_bytes);
         let name = name(kind.kind);
         let mut told = format!(in self.alloc; "{name}: {objects}, {blocks}, {live} live")?;
+        if kind.asked_bytes != kind.live_bytes {
+            write!(told, " ({} asked)", Amount(kind.asked_bytes))?;
+        }
         if kind.free_bytes > 0 {
             let free = Amount(kind.free_bytes);
             let largest = Amount(u128::from(kind.largest_free));
@@ -178,21 +188,41 @@ impl Page<'_, '_> {
     ) -> Result<(), AllocError> {
         // An import counts from its block on.
         let base = object.places.first().map_or(0, |place| place.offset);
+        let names = self.names;
         for (index, place) in object.places.iter().enumerate() {
             let index = index as u64;
             if index < strip.count {
                 let offset = place.offset.saturating_sub(base);
                 let span = strip.span(index, offset, place.size).moved(start);
-                let title = Title::Place(*place, object.memory_type);
-                match place.block {
-                    Some(block) => {
-                        self.drawing.range(span, fill(object.kind), title)?;
-                        self.drawing.number(span, ink(object.kind), block)?;
-                    }
-                    None => self.drawing.range(span, FREE, title)?,
-                }
+                let Some(key) = place.block else {
+                    let title = Title::Place(*place, None, object.memory_type);
+                    self.drawing.range(span, FREE, title)?;
+                    continue;
+                };
+                let name = names.of(key);
+                let title = Title::Place(*place, name, object.memory_type);
+                self.drawing.range(span, fill(object.kind), title)?;
+                self.draw_name(span, object.kind, key, name)?;
             }
         }
+        Ok(())
+    }
+
+    /// The name of a block on its range, or its key where it has no name or there is no room for that.
+    fn draw_name(
+        &mut self,
+        span: Span,
+        kind: ObjectKind,
+        key: u64,
+        name: Option<&str>,
+    ) -> Result<(), AllocError> {
+        if let Some(name) = name {
+            if self.drawing.within(span, ink(kind), name)? {
+                return Ok(());
+            }
+        }
+        let key = format!(in self.alloc; "{key}")?;
+        self.drawing.within(span, ink(kind), key.as_str())?;
         Ok(())
     }
 

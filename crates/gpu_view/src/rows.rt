@@ -1,16 +1,18 @@
 //! The rows of a report, read member by member. A member that is missing, repeated or unknown is refused where it
-//! stands.
+//! stands; only the name of a block may be missing.
 
+use crate::names::Names;
 use gpu_alloc::{MemoryPropertyFlags, MemoryType};
 use gpu_report::{HeapReport, KindReport, ObjectKind, ObjectReport, Place, Report};
 use serde::{Deserialize, Deserializer, Format, Name};
 use std::alloc::Global;
 
-/// A report in which each block has its key as its name, with the memory types.
+/// A report in which each block is named by its key, with the memory types, and the names that blocks have besides.
 #[derive(Drop)]
 pub(crate) struct Dump {
     pub report: Report,
     pub types: Vec<MemoryType>,
+    pub names: Names,
 }
 
 impl<'de> Deserialize<'de> for Dump {
@@ -28,16 +30,17 @@ impl<'de> Deserialize<'de> for Dump {
         let mut types = None;
         let mut kinds = None;
         let mut objects = None;
+        let mut given = Names::new(alloc);
         from.begin_map()?;
         for _ in 0..u64::MAX {
             let Some(at) = from.next_key(&names)? else {
                 break;
             };
             match at {
-                0 if heaps.is_none() => heaps = Some(rows(alloc, from)?),
-                1 if types.is_none() => types = Some(rows(alloc, from)?),
-                2 if kinds.is_none() => kinds = Some(rows(alloc, from)?),
-                3 if objects.is_none() => objects = Some(rows(alloc, from)?),
+                0 if heaps.is_none() => heaps = Some(rows(alloc, from, &mut given)?),
+                1 if types.is_none() => types = Some(rows(alloc, from, &mut given)?),
+                2 if kinds.is_none() => kinds = Some(rows(alloc, from, &mut given)?),
+                3 if objects.is_none() => objects = Some(rows(alloc, from, &mut given)?),
                 _ => return Err(unexpected(from, &names, at)),
             }
         }
@@ -47,7 +50,11 @@ impl<'de> Deserialize<'de> for Dump {
             objects: present(from, "objects", objects)?,
         };
         let types = present(from, "types", types)?;
-        Ok(Dump { report, types })
+        Ok(Dump {
+            report,
+            types,
+            names: given,
+        })
     }
 }
 
@@ -75,15 +82,20 @@ fn unexpected<F: Format>(
     }
 }
 
-/// A value that a row is read into.
+/// A value that a row is read into. The names of blocks that stand in it are added to `given`.
 trait Row: Sized + Drop {
-    fn read<F: Format>(alloc: Global, from: &mut Deserializer<'_, '_, F>) -> Result<Self, F::Error>;
+    fn read<F: Format>(
+        alloc: Global,
+        from: &mut Deserializer<'_, '_, F>,
+        given: &mut Names,
+    ) -> Result<Self, F::Error>;
 }
 
 /// A list of rows.
 fn rows<T: Row, F: Format>(
     alloc: Global,
     from: &mut Deserializer<'_, '_, F>,
+    given: &mut Names,
 ) -> Result<Vec<T>, F::Error> {
     let mut rows = Vec::new(alloc);
     from.begin_seq()?;
@@ -91,7 +103,7 @@ fn rows<T: Row, F: Format>(
         if !from.next_item()? {
             break;
         }
-        let row = T::read(alloc, from)?;
+        let row = T::read(alloc, from, given)?;
         if rows.push(row).is_err() {
             return Err(from.no_memory());
         }
@@ -103,17 +115,20 @@ impl Row for HeapReport {
     fn read<F: Format>(
         _alloc: Global,
         from: &mut Deserializer<'_, '_, F>,
+        _given: &mut Names,
     ) -> Result<HeapReport, F::Error> {
         let names = [
             Name::exact("size"),
+            Name::exact("limit"),
             Name::exact("used"),
             Name::exact("budget"),
         ];
         let members = Members::read(&names, from)?;
         Ok(HeapReport {
             size: members.word(from, 0)?,
-            used: members.wide(from, 1)?,
-            budget: members.word(from, 2)?,
+            limit: members.word(from, 1)?,
+            used: members.wide(from, 2)?,
+            budget: members.word(from, 3)?,
         })
     }
 }
@@ -122,6 +137,7 @@ impl Row for MemoryType {
     fn read<F: Format>(
         _alloc: Global,
         from: &mut Deserializer<'_, '_, F>,
+        _given: &mut Names,
     ) -> Result<MemoryType, F::Error> {
         let names = [Name::exact("heap"), Name::exact("properties")];
         let members = Members::read(&names, from)?;
@@ -140,6 +156,7 @@ impl Row for KindReport {
     fn read<F: Format>(
         _alloc: Global,
         from: &mut Deserializer<'_, '_, F>,
+        _given: &mut Names,
     ) -> Result<KindReport, F::Error> {
         let names = [
             Name::exact("kind"),
@@ -147,6 +164,7 @@ impl Row for KindReport {
             Name::exact("objects"),
             Name::exact("live_blocks"),
             Name::exact("live_bytes"),
+            Name::exact("asked_bytes"),
             Name::exact("free_bytes"),
             Name::exact("largest_free"),
             Name::exact("scattered"),
@@ -158,9 +176,10 @@ impl Row for KindReport {
             objects: members.word(from, 2)?,
             live_blocks: members.word(from, 3)?,
             live_bytes: members.wide(from, 4)?,
-            free_bytes: members.wide(from, 5)?,
-            largest_free: members.word(from, 6)?,
-            scattered: members.word(from, 7)?,
+            asked_bytes: members.wide(from, 5)?,
+            free_bytes: members.wide(from, 6)?,
+            largest_free: members.word(from, 7)?,
+            scattered: members.word(from, 8)?,
         })
     }
 }
@@ -169,6 +188,7 @@ impl Row for ObjectReport {
     fn read<F: Format>(
         alloc: Global,
         from: &mut Deserializer<'_, '_, F>,
+        given: &mut Names,
     ) -> Result<ObjectReport, F::Error> {
         let names = [
             Name::exact("kind"),
@@ -184,10 +204,10 @@ impl Row for ObjectReport {
             let Some(at) = from.next_key(&names)? else {
                 break;
             };
-            if at == 4 && places.is_none() {
-                places = Some(rows(alloc, from)?);
-            } else {
-                members.put(from, at)?;
+            match at {
+                4 if places.is_none() => places = Some(rows(alloc, from, given)?),
+                4 => return Err(unexpected(from, &names, at)),
+                _ => members.put(from, at)?,
             }
         }
         Ok(ObjectReport {
@@ -200,52 +220,110 @@ impl Row for ObjectReport {
     }
 }
 
-/// A live block under its key, with its caller's value, or free bytes, which have neither.
+/// A live block under its key, with its caller's value, how many bytes were asked for, and its name if it has one; or
+/// free bytes, which have none of these.
 impl Row for Place {
     fn read<F: Format>(
-        _alloc: Global,
+        alloc: Global,
         from: &mut Deserializer<'_, '_, F>,
+        given: &mut Names,
     ) -> Result<Place, F::Error> {
         let names = [
             Name::exact("offset"),
             Name::exact("size"),
             Name::exact("key"),
             Name::exact("user"),
+            Name::exact("asked"),
+            Name::exact("name"),
         ];
-        let members = Members::read(&names, from)?;
-        let block = match members.numbers[2] {
-            Some(_) => Some(members.word(from, 2)?),
-            None => None,
-        };
+        let mut members = Members::new(&names);
+        let mut name = None;
+        from.begin_map()?;
+        for _ in 0..u64::MAX {
+            let Some(at) = from.next_key(&names)? else {
+                break;
+            };
+            match at {
+                5 if name.is_none() => name = Some(name_of_block(alloc, from)?),
+                5 => return Err(unexpected(from, &names, at)),
+                _ => members.put(from, at)?,
+            }
+        }
+        let block = members.word_or_null(from, 2)?;
         // (no picture shows the value)
-        let _user = match members.numbers[3] {
-            Some(_) => Some(members.word(from, 3)?),
-            None => None,
-        };
+        let user = members.word_or_null(from, 3)?;
+        let asked = members.word_or_null(from, 4)?;
+        if user.is_some() != block.is_some() || asked.is_some() != block.is_some() {
+            return Err(from.invalid());
+        }
+        keep_name(from, block, name.flatten(), given)?;
         Ok(Place {
             block,
             offset: members.word(from, 0)?,
             size: members.word(from, 1)?,
+            asked: asked.unwrap_or(0),
         })
     }
 }
 
-/// The most members of a row.
-const MOST: usize = 8;
+/// A block's name; `None` where it is null.
+fn name_of_block<F: Format>(
+    alloc: Global,
+    from: &mut Deserializer<'_, '_, F>,
+) -> Result<Option<String>, F::Error> {
+    if from.take_none()? {
+        return Ok(None);
+    }
+    Ok(Some(from.string(alloc)?))
+}
 
-/// The members of a row, in the order of its names: numbers, and for a kind its place among the kinds. A member that is
-/// missing or null has no number.
+/// Adds the name of a place, if it has one, under the key of its block. Free bytes have no name.
+fn keep_name<F: Format>(
+    from: &Deserializer<'_, '_, F>,
+    block: Option<u64>,
+    name: Option<String>,
+    given: &mut Names,
+) -> Result<(), F::Error> {
+    let Some(name) = name else {
+        return Ok(());
+    };
+    let Some(key) = block else {
+        return Err(from.invalid());
+    };
+    match given.add(key, name) {
+        Ok(()) => Ok(()),
+        Err(_) => Err(from.no_memory()),
+    }
+}
+
+/// The most members of a row.
+const MOST: usize = 9;
+
+/// A member of a row.
+#[derive(Clone, Copy)]
+enum Member {
+    /// It is not there.
+    Missing,
+
+    /// It is null.
+    Null,
+
+    /// A number, or for a kind its place among the kinds.
+    Number(u128),
+}
+
+/// The members of a row, in the order of its names.
 #[derive(Clone, Copy)]
 struct Members<'n> {
     names: &'n [Name<'n>],
-    numbers: [Option<u128>; MOST],
+    members: [Member; MOST],
 }
 
 impl<'n> Members<'n> {
     fn new(names: &'n [Name<'n>]) -> Members<'n> {
         Members {
             names,
-            numbers: [None; MOST],
+            members: [Member::Missing; MOST],
         }
     }
 
@@ -271,21 +349,46 @@ impl<'n> Members<'n> {
         from: &mut Deserializer<'_, '_, F>,
         at: usize,
     ) -> Result<(), F::Error> {
-        match (self.names.get(at), self.numbers.get_mut(at)) {
-            (Some(name), Some(number)) if number.is_none() => {
-                *number = member(from, name.name == "kind")?;
+        match (self.names.get(at), self.members.get_mut(at)) {
+            (Some(name), Some(place)) if matches!(place, Member::Missing) => {
+                *place = read_member(from, name.name == "kind")?;
                 Ok(())
             }
             _ => Err(unexpected(from, self.names, at)),
         }
     }
 
-    /// A number that must be there.
-    fn wide<F: Format>(&self, from: &Deserializer<'_, '_, F>, at: usize) -> Result<u128, F::Error> {
-        match (self.numbers.get(at), self.names.get(at)) {
-            (Some(Some(number)), _) => Ok(*number),
+    /// A number that must be there, or null.
+    fn wide_or_null<F: Format>(
+        &self,
+        from: &Deserializer<'_, '_, F>,
+        at: usize,
+    ) -> Result<Option<u128>, F::Error> {
+        match (self.members.get(at), self.names.get(at)) {
+            (Some(Member::Number(number)), _) => Ok(Some(*number)),
+            (Some(Member::Null), _) => Ok(None),
             (_, Some(name)) => Err(from.missing(name.name)),
             (_, None) => Err(from.invalid()),
+        }
+    }
+
+    /// The same, of at most 64 bits.
+    fn word_or_null<F: Format>(
+        &self,
+        from: &Deserializer<'_, '_, F>,
+        at: usize,
+    ) -> Result<Option<u64>, F::Error> {
+        match self.wide_or_null(from, at)? {
+            Some(_) => Ok(Some(self.word(from, at)?)),
+            None => Ok(None),
+        }
+    }
+
+    /// A number that must be there.
+    fn wide<F: Format>(&self, from: &Deserializer<'_, '_, F>, at: usize) -> Result<u128, F::Error> {
+        match self.wide_or_null(from, at)? {
+            Some(number) => Ok(number),
+            None => Err(from.invalid()),
         }
     }
 
@@ -318,16 +421,16 @@ impl<'n> Members<'n> {
     }
 }
 
-/// A number, or the place of a kind; `None` where it is null.
-fn member<F: Format>(
+/// Reads a member: a number, a kind or null.
+fn read_member<F: Format>(
     from: &mut Deserializer<'_, '_, F>,
     is_kind: bool,
-) -> Result<Option<u128>, F::Error> {
+) -> Result<Member, F::Error> {
     if from.take_none()? {
-        return Ok(None);
+        return Ok(Member::Null);
     }
     if !is_kind {
-        return Ok(Some(from.u128()?));
+        return Ok(Member::Number(from.u128()?));
     }
     let kinds = [
         Name::exact("Dedicated"),
@@ -337,5 +440,5 @@ fn member<F: Format>(
         Name::exact("FitChunk"),
     ];
     let kind = from.variant(&kinds)?;
-    Ok(Some(kind as u128))
+    Ok(Member::Number(kind as u128))
 }

@@ -4,6 +4,7 @@ ghost use Rattle.std.specs.Prelude.{◌≤◌, IfOk, length};
 ghost use Rattle.gpu_alloc_types.specs.Properties.{IsUsable};
 ghost use Rattle.gpu_script_language.specs.Setup.{offered};
 
+use crate::names::Names;
 use crate::picture::picture;
 use crate::wanted::{Form, Wanted};
 use gpu_report::Report;
@@ -28,7 +29,8 @@ pub(crate) fn view<R: Read>(alloc: Global, input: &mut R, wanted: Wanted) -> Res
         Some(line) => format!(in alloc; "GPU memory after line {line}")?,
         None => String::from_str(alloc, "GPU memory after the last command")?,
     };
-    Ok(picture(alloc, &report, types, heading.as_str())?)
+    let names = Names::new(alloc);
+    Ok(picture(alloc, &report, types, &names, heading.as_str())?)
 }
 
 /// The first lines of a text: `count`, or as many as it has.

@@ -1,5 +1,6 @@
 //! The picture's texts and colours.
 
+use crate::names::Escaped;
 use gpu_alloc::MemoryPropertyFlags;
 use gpu_report::{ObjectKind, Place};
 use std::fmt;
@@ -37,7 +38,7 @@ pub const PATTERNS: &str = "\
 
 /// The note below the picture.
 pub const NOTE: &str = "Rows are to scale, but each range is long enough to be seen. \
-On hovering a block tells its name, offset, size and type.";
+On hovering a block tells its name, offset, size, bytes asked for and type.";
 
 /// The colour of free bytes.
 pub const FREE: &str = "#e6e6e6";
@@ -129,9 +130,9 @@ impl fmt::Display for Share {
 
 /// The title of a range on hovering.
 #[derive(Clone, Copy)]
-pub enum Title {
-    /// A live block or free bytes, in an object of this memory type.
-    Place(Place, u32),
+pub enum Title<'n> {
+    /// A live block, with its name if it has one, or free bytes, in an object of this memory type.
+    Place(Place, Option<&'n str>, u32),
 
     /// How many bytes a kind's objects of a memory type count.
     Held(ObjectKind, u32, u128),
@@ -140,16 +141,28 @@ pub enum Title {
     Budget(u64),
 }
 
-impl fmt::Display for Title {
+impl fmt::Display for Title<'_> {
     fn fmt<W: fmt::Write>(&self, f: &mut fmt::Formatter<W>) -> fmt::Result {
         match *self {
-            Title::Place(place, memory_type) => {
-                match place.block {
-                    Some(block) => write!(f, "block {block}")?,
-                    None => write!(f, "free")?,
+            Title::Place(place, name, memory_type) => {
+                let Place {
+                    offset,
+                    size,
+                    asked,
+                    ..
+                } = place;
+                let Some(block) = place.block else {
+                    return write!(f, "free: offset {offset}, size {size}, type {memory_type}");
+                };
+                write!(f, "block {block}")?;
+                if let Some(name) = name {
+                    let name = Escaped(name);
+                    write!(f, " \"{name}\"")?;
                 }
-                let Place { offset, size, .. } = place;
-                write!(f, ": offset {offset}, size {size}, type {memory_type}")
+                write!(
+                    f,
+                    ": offset {offset}, size {size}, asked {asked}, type {memory_type}"
+                )
             }
             Title::Held(kind, memory_type, bytes) => {
                 write!(f, "{}, type {memory_type}: {bytes} bytes", name(kind))

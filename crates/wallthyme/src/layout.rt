@@ -176,9 +176,12 @@ pub struct KindStatistics {
     pub blocks: u64,
     pub live_bytes: u64,
     pub live_bytes_high: u64,
+    pub asked_bytes: u64,
+    pub asked_bytes_high: u64,
     pub free_bytes: u64,
     pub free_bytes_high: u64,
     pub largest_free: u64,
+    pub scattered: u64,
 }
 
 /// `wt_type_statistics`.
@@ -485,9 +488,12 @@ impl From<KindReport> for KindStatistics {
             blocks: sums.live_blocks,
             live_bytes: (sums.live_bytes % (1 << 64)) as u64,
             live_bytes_high: (sums.live_bytes / (1 << 64)) as u64,
+            asked_bytes: (sums.asked_bytes % (1 << 64)) as u64,
+            asked_bytes_high: (sums.asked_bytes / (1 << 64)) as u64,
             free_bytes: (sums.free_bytes % (1 << 64)) as u64,
             free_bytes_high: (sums.free_bytes / (1 << 64)) as u64,
             largest_free: sums.largest_free,
+            scattered: sums.scattered,
         }
     }
 }

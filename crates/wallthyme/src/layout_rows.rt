@@ -78,8 +78,9 @@ static PLACES: [u32; 53] = [
 ];
 
 /// What came later: statuses, flags, the ways to share objects, the offsets of the last fields of `Limits`, `Config`,
-/// `Request`, `Block` and `HeapCounts`. Then the size of each struct of statistics, with the offsets of its fields.
-static LATER: [u32; 30] = [
+/// `Request`, `Block` and `HeapCounts`. Then the size of each struct of statistics, with the offsets of its fields, and
+/// last those of the bytes asked for and of the scattered share.
+static LATER: [u32; 33] = [
     status::BAD_FLAGS,
     ALLOCATE_OWN,
     OPTIMAL,
@@ -96,20 +97,23 @@ static LATER: [u32; 30] = [
     8,
     16,
     24,
-    32,
-    40,
     48,
+    56,
+    64,
     size_of::<TypeStatistics>() as u32,
     0,
-    56,
-    112,
-    168,
+    80,
+    160,
+    240,
     status::WOULD_ASK,
     HELD_ONLY,
     BUDDY as u32,
     FIT as u32,
     56,
-    224,
+    320,
+    32,
+    40,
+    72,
 ];
 
 /// The bits of flags. They stand between the numbers and the places.

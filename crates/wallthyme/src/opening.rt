@@ -21,7 +21,7 @@ use gpu_desk::{Desk, DeviceProperties, MemoryHeap, MemoryType, OpenError};
 use std::alloc::{AllocError, Global};
 
 /// `WT_VERSION` of the header that this library is built for.
-pub(crate) const VERSION: u32 = 0x000900;
+pub(crate) const VERSION: u32 = 0x000a00;
 
 #[unsafe(no_mangle)]
 pub extern "C" fn wt_version() -> u32

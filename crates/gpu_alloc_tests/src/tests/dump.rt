@@ -5,7 +5,7 @@ use gpu_alloc::{
     Config, DeviceProperties, MemoryHeap, MemoryPropertyFlags, MemoryType, Request, UsageFlags,
 };
 use gpu_desk::{Answer, Answered, Denial, Desk, Grant, Wish};
-use gpu_report::{ObjectKind, ObjectReport, Place, Report, Statistics, write_report};
+use gpu_report::{KindReport, ObjectKind, ObjectReport, Place, Report, Statistics, write_report};
 use serde_json::{Value, json};
 use std::alloc::{AllocError, Global};
 use std::process::Abort;
@@ -86,21 +86,46 @@ fn granted(
     never(rt, "too many questions")
 }
 
-/// A place's members, with the value of its block.
+/// A place's members, with the value of its block and the bytes asked for.
 fn place_of(
     rt: &impl Abort,
     alloc: Global,
     desk: &Desk,
     place: &Place,
 ) -> Result<Value, AllocError> {
-    let user = match place.block {
-        Some(key) => match desk.block(key) {
-            Ok(grant) => Some(grant.user),
-            Err(e) => never_with(rt, "no block of the key:", &e),
-        },
+    let grant = match place.block {
+        Some(key) => Some(grant_of(rt, desk, key)),
         None => None,
     };
-    json!(in alloc; {"key": place.block, "user": user, "offset": place.offset, "size": place.size})
+    let user = grant.map(|grant| grant.user);
+    let asked = grant.map(|grant| grant.asked);
+    json!(in alloc; {
+        "key": place.block, "user": user, "asked": asked, "offset": place.offset, "size": place.size
+    })
+}
+
+/// The desk's grant of a live block.
+fn grant_of(rt: &impl Abort, desk: &Desk, key: u64) -> Grant {
+    match desk.block(key) {
+        Ok(grant) => grant,
+        Err(e) => never_with(rt, "no block of the key:", &e),
+    }
+}
+
+/// How many bytes were asked for of the blocks in the objects of a memory type and kind, by the desk's grants.
+fn asked_of(rt: &impl Abort, desk: &Desk, report: &Report, kind: &KindReport) -> u128 {
+    let mut asked = 0u128;
+    for object in &report.objects {
+        if object.memory_type == kind.memory_type && object.kind == kind.kind {
+            for place in &object.places {
+                if let Some(key) = place.block {
+                    let grant = grant_of(rt, desk, key);
+                    asked = asked.saturating_add(u128::from(grant.asked));
+                }
+            }
+        }
+    }
+    asked
 }
 
 /// An object's members.
@@ -175,6 +200,8 @@ fn compare(rt: &impl Abort, alloc: Global, desk: &Desk) -> Result<(), Fail> {
             ObjectKind::FitChunk => all.fit,
         };
         same(rt, "the same sums alone", &told, kind);
+        let asked = asked_of(rt, desk, &report, kind);
+        same(rt, "the bytes asked for", &kind.asked_bytes, &asked);
     }
     same(rt, "no type", &Statistics::of_desk(alloc, desk, 2)?, &None);
     Ok(())
@@ -191,6 +218,7 @@ fn the_text_of_a_report_is_read_back_as_the_report(rt: HostRuntime) -> Result<()
     }
     holds(&rt, desk.free(keys[1]).is_ok(), "a block comes back");
     holds(&rt, desk.import(1, 65536, 4096, 32768).is_ok(), "an import");
+    holds(&rt, desk.set_heap_limit(1, 1 << 21).is_some(), "a limit");
     let compared = compare(&rt, alloc, &desk);
     ended(&rt, desk);
     compared

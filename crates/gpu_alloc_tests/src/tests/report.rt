@@ -14,18 +14,18 @@ const SCRIPT: &str =
 
 /// 64 + 256 + 512 + 1024 + 2048 + 4096 bytes are free, the first four of them in ranges below 2048.
 const REPORT: &str = concat!(
-    r#"{"heaps":[{"size":1048576,"used":8292,"budget":1040284}],"#,
+    r#"{"heaps":[{"size":1048576,"limit":1048576,"used":8292,"budget":1040284}],"#,
     r#""kinds":[{"memory_type":0,"kind":"Dedicated","objects":1,"live_blocks":1,"live_bytes":100,"#,
-    r#""free_bytes":0,"largest_free":0,"scattered":0},"#,
+    r#""asked_bytes":100,"free_bytes":0,"largest_free":0,"scattered":0},"#,
     r#"{"memory_type":0,"kind":"BuddyChunk","objects":1,"live_blocks":2,"live_bytes":192,"#,
-    r#""free_bytes":8000,"largest_free":4096,"scattered":232}],"#,
+    r#""asked_bytes":192,"free_bytes":8000,"largest_free":4096,"scattered":232}],"#,
     r#""objects":[{"object":2,"memory_type":0,"kind":"Dedicated","size":100,"#,
-    r#""places":[{"block":3,"offset":0,"size":100}]},"#,
+    r#""places":[{"block":3,"offset":0,"size":100,"asked":100}]},"#,
     r#"{"object":1,"memory_type":0,"kind":"BuddyChunk","size":8192,"places":["#,
-    r#"{"block":1,"offset":0,"size":128},{"block":2,"offset":128,"size":64},"#,
-    r#"{"block":null,"offset":192,"size":64},{"block":null,"offset":256,"size":256},"#,
-    r#"{"block":null,"offset":512,"size":512},{"block":null,"offset":1024,"size":1024},"#,
-    r#"{"block":null,"offset":2048,"size":2048},{"block":null,"offset":4096,"size":4096}]}]}"#,
+    r#"{"block":1,"offset":0,"size":128,"asked":128},{"block":2,"offset":128,"size":64,"asked":64},"#,
+    r#"{"block":null,"offset":192,"size":64,"asked":0},{"block":null,"offset":256,"size":256,"asked":0},"#,
+    r#"{"block":null,"offset":512,"size":512,"asked":0},{"block":null,"offset":1024,"size":1024,"asked":0},"#,
+    r#"{"block":null,"offset":2048,"size":2048,"asked":0},{"block":null,"offset":4096,"size":4096,"asked":0}]}]}"#,
 );
 
 /// The same with fit chunks. The second block takes the rest of the first chunk, of 8192 bytes, so the third one is at
@@ -37,17 +37,17 @@ const FITTED_SCRIPT: &str = concat!(
 
 /// 256 + 16128 bytes are free, of which the first 256 lie in a range below 8064.
 const FITTED_REPORT: &str = concat!(
-    r#"{"heaps":[{"size":1048576,"used":24676,"budget":1023900}],"#,
+    r#"{"heaps":[{"size":1048576,"limit":1048576,"used":24676,"budget":1023900}],"#,
     r#""kinds":[{"memory_type":0,"kind":"Dedicated","objects":1,"live_blocks":1,"live_bytes":100,"#,
-    r#""free_bytes":0,"largest_free":0,"scattered":0},"#,
+    r#""asked_bytes":100,"free_bytes":0,"largest_free":0,"scattered":0},"#,
     r#"{"memory_type":0,"kind":"FitChunk","objects":2,"live_blocks":2,"live_bytes":8192,"#,
-    r#""free_bytes":16384,"largest_free":16128,"scattered":15}],"#,
+    r#""asked_bytes":8192,"free_bytes":16384,"largest_free":16128,"scattered":15}],"#,
     r#""objects":[{"object":3,"memory_type":0,"kind":"Dedicated","size":100,"#,
-    r#""places":[{"block":4,"offset":0,"size":100}]},"#,
+    r#""places":[{"block":4,"offset":0,"size":100,"asked":100}]},"#,
     r#"{"object":1,"memory_type":0,"kind":"FitChunk","size":8192,"places":["#,
-    r#"{"block":null,"offset":0,"size":256},{"block":2,"offset":256,"size":7936}]},"#,
+    r#"{"block":null,"offset":0,"size":256,"asked":0},{"block":2,"offset":256,"size":7936,"asked":7936}]},"#,
     r#"{"object":2,"memory_type":0,"kind":"FitChunk","size":16384,"places":["#,
-    r#"{"block":3,"offset":0,"size":256},{"block":null,"offset":256,"size":16128}]}]}"#,
+    r#"{"block":3,"offset":0,"size":256,"asked":256},{"block":null,"offset":256,"size":16128,"asked":0}]}]}"#,
 );
 
 #[test]

@@ -8,5 +8,5 @@ pub loop-index-preserved : goal.loop-index-preserved
 loop-index-preserved c =
     let lead = rw c.lead.ensures at c.put_words-end.ensures in
     subst (λ (xs : List ℕ). GoesOn c.args.text.now c.args.at xs c.put_heap-end.new.text c.put_heap-end.result)
-    (row_more heap_text c.args.heaps.now c.loop-index.index (record { size = 0; used = 0; budget = 0 }) c.loop-index-test.true)
+    (row_more heap_text c.args.heaps.now c.loop-index.index (record { size = 0; limit = 0; used = 0; budget = 0 }) c.loop-index-test.true)
     (goes_on c.loop-index.invariant (goes_on lead c.put_heap-end.ensures))

@@ -9,5 +9,5 @@ returns c =
     let scattered = rw c.from-scattered.ensures at c.put_member-scattered.ensures in
     let part = goes_on c.put_words-part.ensures c.put_part-part.ensures in
     let live = goes_on (goes_on (goes_on part objects) blocks) c.put_member-live.ensures in
-    let free = goes_on (goes_on live c.put_member-free.ensures) largest in
+    let free = goes_on (goes_on (goes_on live c.put_member-asked.ensures) c.put_member-free.ensures) largest in
     goes_on (goes_on free scattered) c.put_words.ensures

@@ -9,5 +9,5 @@ pub loop-index-preserved : goal.loop-index-preserved
 loop-index-preserved c =
     let lead = rw c.lead.ensures at c.put_words-end.ensures in
     subst (λ (xs : List ℕ). GoesOn c.args.text.now c.args.at xs c.put_place-end.new.text c.put_place-end.result)
-    (row_more (place_text (user_of c.args.desk.now)) c.args.places.now c.loop-index.index (record { block = None; offset = 0; size = 0 }) c.loop-index-test.true)
+    (row_more (place_text (user_of c.args.desk.now)) c.args.places.now c.loop-index.index (record { block = None; offset = 0; size = 0; asked = 0 }) c.loop-index-test.true)
     (goes_on c.loop-index.invariant (goes_on lead c.put_place-end.ensures))

@@ -1,6 +1,6 @@
 use Rattle.std.proofs.Common.{◌≡◌, ◌∙◌, map, ap}
 use Rattle.gpu_report.specs.Session.{block_of}
-use Rattle.gpu_report.proofs.Sessions.{rows_named, none_lacks}
+use Rattle.gpu_report.proofs.Sessions.{rows_named, rows_whole, none_lacks}
 use Rattle.gpu_report.proofs.report.Report.of_session.Goals as goal
 
 pub unreachable-requires : goal.unreachable-requires
@@ -17,6 +17,7 @@ returns g c =
       report = record {
         blocks = map block_of c.in_ok-rows.rows.items;
         named = rows_named c.args.session.now.books c.in_ok-rows.rows.items c.in_ok-rows.ensures.exact;
+        asked = rows_whole c.args.session.now.books c.in_ok-rows.rows.items c.in_ok-rows.ensures.exact;
         report = rw (c.allocator.ensures, all) at report;
       };
     }
