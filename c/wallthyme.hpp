@@ -106,7 +106,7 @@ inline wtv_create_info create_info(VkInstance instance, VkPhysicalDevice physica
    allocator (wtv_destroy), at once or later. It must not throw, and each thread may call it. */
 using LiveHandler = void (*)(wtv_allocator *allocator, std::size_t live);
 
-/* Prints the size, the key and the program's own value of each live block to standard error. */
+/* Prints the size, the key, the program's own value and the name, if any, of each live block to standard error. */
 inline void print_live(wtv_allocator *allocator, std::size_t live) {
     const std::size_t room = 16;
     wtv_block blocks[room];
@@ -119,9 +119,11 @@ inline void print_live(wtv_allocator *allocator, std::size_t live) {
             return;
         for (std::size_t i = 0; i < count; i++) {
             after = blocks[i].allocation;
-            std::fprintf(stderr, "wallthyme: live block: size %llu, key %llu, user %llu\n",
+            const bool has_name = blocks[i].name != nullptr;
+            std::fprintf(stderr, "wallthyme: live block: size %llu, key %llu, user %llu%s%s\n",
                          static_cast<unsigned long long>(blocks[i].size), static_cast<unsigned long long>(after),
-                         static_cast<unsigned long long>(blocks[i].user));
+                         static_cast<unsigned long long>(blocks[i].user), has_name ? ", name " : "",
+                         has_name ? blocks[i].name : "");
         }
     } while (count == room);
 }
@@ -316,7 +318,8 @@ public:
     /* Its name for calls of wallthyme_vulkan.h; 0 for an empty one. */
     wtv_allocation allocation() const noexcept { return allocation_; }
 
-    /* Reports the block: wtv_block_of. */
+    /* Reports the block: wtv_block_of. With WTV_MAPPED its mapped is a pointer that lasts as long as the block, and its
+       name is valid until it gets another one or ends. */
     Returned<wtv_block> info() const {
         wtv_block block = wtv_block();
         const VkResult result = detail::call(wtv_block_of, keeper_, allocation_, &block);
@@ -347,6 +350,11 @@ public:
         return detail::done(detail::call(wtv_set_user, keeper_, allocation_, user), "set_user");
     }
 
+    /* Gives the block a name, which is copied; null or an empty one takes it away: wtv_set_name. */
+    WALLTHYME_DONE set_name(const char *name) const {
+        return detail::done(detail::call(wtv_set_name, keeper_, allocation_, name), "set_name");
+    }
+
     /* A range of the block for Allocator::flush and invalidate, from offset on; VK_WHOLE_SIZE: to its end. */
     wtv_range range(VkDeviceSize offset = 0, VkDeviceSize size = VK_WHOLE_SIZE) const noexcept {
         const wtv_range made = {allocation_, offset, size};
@@ -367,7 +375,8 @@ protected:
 namespace detail {
 
 /* A buffer or an image with its block. */
-template <class Handle, VkResult (*destroy)(wtv_allocator *, Handle, wtv_allocation)>
+template <class Handle, VkResult (*destroy)(wtv_allocator *, Handle, wtv_allocation),
+          VkResult (*bind_at)(wtv_allocator *, wtv_allocation, VkDeviceSize, Handle)>
 class Resource : public Allocation {
 public:
     Resource() noexcept : handle_() {}
@@ -381,6 +390,11 @@ public:
 
     /* Vulkan's handle; null for an empty one. */
     Handle get() const noexcept { return handle_; }
+
+    /* Binds the resource to its block, where it was created with WTV_DONT_BIND: wtv_bind_buffer, wtv_bind_image. */
+    WALLTHYME_DONE bind() const {
+        return done(call(bind_at, keeper_, allocation_, VkDeviceSize(0), handle_), "bind");
+    }
 
     /* Ends it now: destroys the resource and frees its block. */
     void reset() noexcept { *this = Resource(); }
@@ -405,10 +419,10 @@ private:
 } // namespace detail
 
 /* A buffer with its memory. */
-class Buffer : public detail::Resource<VkBuffer, wtv_destroy_buffer> {};
+class Buffer : public detail::Resource<VkBuffer, wtv_destroy_buffer, wtv_bind_buffer> {};
 
 /* An image with its memory. */
-class Image : public detail::Resource<VkImage, wtv_destroy_image> {};
+class Image : public detail::Resource<VkImage, wtv_destroy_image, wtv_bind_image> {};
 
 /* Memory without a resource of its own. What is bound to it is the program's, to be destroyed before the block ends. */
 class Block : public Allocation {
@@ -467,7 +481,8 @@ public:
     /* Gives up its share: what it made lives on. */
     void reset() noexcept { keeper_ = detail::Keeper(); }
 
-    /* Creates a buffer or an image, allocates memory for it and binds it: wtv_create_buffer, wtv_create_image. */
+    /* Creates a buffer or an image, allocates memory for it and, without WTV_DONT_BIND, binds it: wtv_create_buffer,
+       wtv_create_image. */
     WALLTHYME_NODISCARD Returned<Buffer> create_buffer(const VkBufferCreateInfo &info,
                                                        const wtv_request &request = wtv_request()) const {
         return resource<Buffer>(wtv_create_buffer, info, request, "create_buffer");
@@ -477,8 +492,8 @@ public:
         return resource<Image>(wtv_create_image, info, request, "create_image");
     }
 
-    /* Allocates memory: wtv_allocate. The second and third do so for the program's own resource, and bind it:
-       wtv_allocate_for_buffer, wtv_allocate_for_image. */
+    /* Allocates memory: wtv_allocate. The second and third do so for the program's own resource and, without
+       WTV_DONT_BIND, bind it: wtv_allocate_for_buffer, wtv_allocate_for_image. */
     WALLTHYME_NODISCARD Returned<Block> allocate(const VkMemoryRequirements &requirements,
                                                  const wtv_request &request = wtv_request()) const {
         return block("allocate", wtv_allocate, &requirements, &request);

@@ -31,8 +31,16 @@
 enum {
     KNOWN_PROPERTIES = 0x3f, /* the bits of a memory type that wallthyme knows */
     KNOWN_FLAGS = 0x1f,      /* of wtv_create_info */
+    NEVER_CHOSEN = VK_MEMORY_PROPERTY_LAZILY_ALLOCATED_BIT | VK_MEMORY_PROPERTY_PROTECTED_BIT,
+    INTENTS = WTV_USAGE_AUTO | WTV_USAGE_AUTO_PREFER_DEVICE | WTV_USAGE_AUTO_PREFER_HOST,
+    BESIDE_INTENTS = WT_USAGE_TRANSIENT | WT_USAGE_DEVICE_ADDRESS,
+    OF_CORE = WT_OPTIMAL | WT_HELD_ONLY, /* flags that the core knows */
+    HOST_ACCESS = WTV_HOST_ACCESS_SEQUENTIAL_WRITE | WTV_HOST_ACCESS_RANDOM,
+    OF_REQUEST = WT_HELD_ONLY | WTV_MAPPED | WTV_DONT_BIND | HOST_ACCESS | WTV_HOST_ACCESS_ALLOW_TRANSFER_INSTEAD,
     NAMES_READ = 16,         /* by one wt_gone */
     BLOCKS_READ = 16,        /* by one wt_blocks */
+    FOR_LIFE = 1,            /* how a block is mapped: see wtv_allocator */
+    ONCE = 2,
     RANGES_AT_HAND = 32,     /* of a flush, before memory is taken for them */
     LEAST_SLOTS = 16,
 };
@@ -181,10 +189,11 @@ struct wtv_allocator {
     const VkAllocationCallbacks *callbacks; /* null, or the copy below */
     VkAllocationCallbacks copied_callbacks;
     uint32_t known_types; /* bit i: memory type i has no property that wallthyme does not know */
-    bool has_lock, has_budget, has_dedicated;
+    bool has_lock, has_budget, has_dedicated, is_integrated;
     mutex lock;
     table objects;  /* by their names, as pointers */
-    table mappings; /* how often a block is mapped, by its key */
+    table mappings; /* how a block is mapped, by its key: ONCE for each wtv_map, and FOR_LIFE for WTV_MAPPED */
+    table names;    /* of blocks, by their keys, as pointers to texts of malloc */
 };
 
 static inline void enter(wtv_allocator *a)
@@ -253,6 +262,13 @@ static inline void free_gone(wtv_allocator *a)
         free_named(a, names, count);
 }
 
+/* The name of a block, or null. */
+static inline const char *name_of(const wtv_allocator *a, wtv_allocation allocation)
+{
+    const uintptr_t *name = value_of(&a->names, allocation);
+    return name != NULL ? (const char *)*name : NULL;
+}
+
 static inline void tell_block(const wtv_allocator *a, const wt_block *block, wtv_block *told)
 {
     const object *held = object_of(a, block->object);
@@ -263,6 +279,7 @@ static inline void tell_block(const wtv_allocator *a, const wt_block *block, wtv
         .size = block->size,
         .asked = block->asked,
         .mapped = held->host == NULL ? NULL : held->host + (block->offset - held->host_offset),
+        .name = name_of(a, block->key),
         .user = block->user,
         .memory_type = block->memory_type,
         .properties = a->memory.memoryTypes[block->memory_type].propertyFlags,
@@ -273,6 +290,11 @@ static inline void tell_block(const wtv_allocator *a, const wt_block *block, wtv
 
 /* ---- Requests. ---- */
 
+/* What is asked of the properties of memory types. */
+typedef struct wants {
+    VkMemoryPropertyFlags required, preferred, unwanted;
+} wants;
+
 /* A request at work: whom an object of its own is for, and what was made for it so far. */
 typedef struct work {
     VkBuffer buffer; /* one of the two, or none */
@@ -281,6 +303,9 @@ typedef struct work {
     object *made;     /* or null */
     VkResult result;  /* of the last call of the driver */
     uint32_t refused; /* bit i: an object of memory type i for this request alone, for want of device memory */
+    bool is_plain;    /* it has nothing beyond what the core knows, and nothing below is used */
+    bool has_intent, is_mapped; /* the second: as long as the block lives */
+    wants wants;
 } work;
 
 static uint32_t answer_of(VkResult result)
@@ -355,6 +380,31 @@ static VkResult map_object(wtv_allocator *a, object *held, const wt_question *qu
         held->host_offset = question->offset;
     }
     return result;
+}
+
+/* Maps the whole of a block that is not mapped: once, or for its life. */
+static VkResult map_first(wtv_allocator *a, const wt_block *block, object *held, uintptr_t how)
+{
+    wt_question asked[2];
+    wt_range mapped;
+    uint32_t status;
+    VkResult result = VK_SUCCESS;
+    size_t n = 0;
+    if (!has_room(&a->mappings))
+        return VK_ERROR_OUT_OF_HOST_MEMORY;
+    while ((status = wt_map(&a->core, block->key, 0, block->size, asked, n, &mapped, &asked[n])) == WT_ASK) {
+        result = map_object(a, held, &asked[n]);
+        asked[n++].answer = answer_of(result);
+    }
+    if (status == WT_OK) {
+        put(&a->mappings, block->key, how);
+        return VK_SUCCESS;
+    }
+    if (n > 0 && result == VK_SUCCESS) { /* it was mapped in vain */
+        a->call.unmap_memory(a->device, held->memory);
+        held->host = NULL;
+    }
+    return result != VK_SUCCESS ? result : result_of(status);
 }
 
 /* Puts a question of an allocation to the driver. An object that was made for an earlier one is not needed any more. */
@@ -437,21 +487,6 @@ static inline VkResult serve(wtv_allocator *a, const wt_request *request, work *
     return status == WT_OK ? VK_SUCCESS : serve_otherwise(a, request, status, &first, w, block);
 }
 
-static bool is_in_chain(const void *chain, VkStructureType type)
-{
-    const VkBaseInStructure *structure = chain;
-    while (structure != NULL && structure->sType != type)
-        structure = structure->pNext;
-    return structure != NULL;
-}
-
-/* What this side chains itself may not come from the program. */
-static SELDOM bool is_chain(const void *chain)
-{
-    return !is_in_chain(chain, VK_STRUCTURE_TYPE_MEMORY_DEDICATED_ALLOCATE_INFO)
-           && !is_in_chain(chain, VK_STRUCTURE_TYPE_MEMORY_ALLOCATE_FLAGS_INFO);
-}
-
 static uint32_t greater(uint32_t one, uint32_t other)
 {
     return one > other ? one : other;
@@ -471,16 +506,221 @@ static inline wt_request request_of(const wtv_allocator *a, const VkMemoryRequir
     };
 }
 
+/* ---- Requests that this side orders or maps. ---- */
+
+/* Of a chain the structure of a type, or null. */
+static const void *found_in(const void *chain, VkStructureType type)
+{
+    const VkBaseInStructure *structure = chain;
+    while (structure != NULL && structure->sType != type)
+        structure = structure->pNext;
+    return structure;
+}
+
+static bool is_power_of_two_or_0(VkDeviceSize number)
+{
+    return (number & (number - 1)) == 0;
+}
+
+/* Whether the fields of a request go together. An intent wants a create-info to be seen. */
+static SELDOM VkResult check(const wtv_request *wish, uint32_t flags, bool sees_info)
+{
+    uint32_t intent = wish->usage & INTENTS, host = wish->flags & HOST_ACCESS;
+    bool is_intent = intent == 0
+                     || (sees_info && is_power_of_two_or_0(intent)
+                         && (wish->usage & ~(uint32_t)(INTENTS | BESIDE_INTENTS)) == 0);
+    bool is_access = host == 0 || (intent != 0 && host != HOST_ACCESS);
+    bool may_allow = host != 0 || (wish->flags & WTV_HOST_ACCESS_ALLOW_TRANSFER_INSTEAD) == 0;
+    /* What this side chains itself may not come from the program. */
+    bool is_chain = found_in(wish->next, VK_STRUCTURE_TYPE_MEMORY_DEDICATED_ALLOCATE_INFO) == NULL
+                    && found_in(wish->next, VK_STRUCTURE_TYPE_MEMORY_ALLOCATE_FLAGS_INFO) == NULL;
+    if (!is_intent || !is_access || !may_allow || !is_chain || !is_power_of_two_or_0(wish->min_alignment)
+        || (wish->flags & ~flags) != 0)
+        return VK_ERROR_VALIDATION_FAILED_EXT;
+    bool is_never_chosen = ((wish->required | wish->preferred) & NEVER_CHOSEN) != 0;
+    return is_never_chosen ? VK_ERROR_FEATURE_NOT_PRESENT : VK_SUCCESS;
+}
+
+/* Whether a request has nothing to check and nothing beyond what the core knows, which holds for most. */
+static inline bool is_plain(const wtv_request *wish, uint32_t flags)
+{
+    uint64_t more = (wish->usage & INTENTS) | (wish->flags & ~flags) | wish->required | wish->preferred;
+    return (more | wish->min_alignment | (uintptr_t)wish->next) == 0;
+}
+
+/* Begins to work at a request. */
+static inline VkResult begin(work *w, const wtv_request *wish, uint32_t flags, bool sees_info)
+{
+    w->is_plain = is_plain(wish, flags & OF_CORE);
+    w->wants = (wants){wish->required, wish->preferred, 0};
+    return w->is_plain ? VK_SUCCESS : check(wish, flags, sees_info);
+}
+
+/* What a request with an intent asks of memory types. A resource that the device uses for transfers alone has no device
+   access. */
+static wants wants_of(const wtv_allocator *a, const wtv_request *wish, bool has_device_access)
+{
+    bool prefers_device = (wish->usage & WTV_USAGE_AUTO_PREFER_DEVICE) != 0;
+    bool prefers_host = (wish->usage & WTV_USAGE_AUTO_PREFER_HOST) != 0;
+    bool is_random = (wish->flags & WTV_HOST_ACCESS_RANDOM) != 0;
+    bool is_sequential = (wish->flags & WTV_HOST_ACCESS_SEQUENTIAL_WRITE) != 0;
+    bool may_copy = (wish->flags & WTV_HOST_ACCESS_ALLOW_TRANSFER_INSTEAD) != 0 && has_device_access
+                    && !a->is_integrated && !prefers_host;
+    bool prefers_local = is_sequential && !has_device_access ? prefers_device : !prefers_host;
+    wants w = {wish->required, wish->preferred, 0};
+    if (is_random)
+        w.preferred |= VK_MEMORY_PROPERTY_HOST_CACHED_BIT;
+    if (is_sequential)
+        w.unwanted |= VK_MEMORY_PROPERTY_HOST_CACHED_BIT;
+    if (may_copy && is_sequential)
+        w.preferred |= VK_MEMORY_PROPERTY_HOST_VISIBLE_BIT;
+    if ((is_random || is_sequential) && !may_copy)
+        w.required |= VK_MEMORY_PROPERTY_HOST_VISIBLE_BIT;
+    if (may_copy || (!is_random && prefers_local))
+        w.preferred |= VK_MEMORY_PROPERTY_DEVICE_LOCAL_BIT;
+    else if (!is_random)
+        w.unwanted |= VK_MEMORY_PROPERTY_DEVICE_LOCAL_BIT;
+    return w;
+}
+
+static uint32_t count_bits(uint32_t bits)
+{
+    uint32_t count = 0;
+    for (; bits != 0; bits &= bits - 1)
+        count++;
+    return count;
+}
+
+/* Sorts memory types by what they lack of the preferred properties and have of the unwanted ones. */
+static void sort_by_cost(const wtv_allocator *a, const wants *w, uint32_t *types, size_t count)
+{
+    uint32_t costs[VK_MAX_MEMORY_TYPES];
+    for (size_t i = 0; i < count; i++) {
+        uint32_t type = types[i], properties = a->memory.memoryTypes[type].propertyFlags;
+        uint32_t cost = count_bits(w->preferred & ~properties) + count_bits(w->unwanted & properties);
+        size_t at = i;
+        for (; at > 0 && costs[at - 1] > cost; at--) {
+            costs[at] = costs[at - 1];
+            types[at] = types[at - 1];
+        }
+        costs[at] = cost;
+        types[at] = type;
+    }
+}
+
+/* The memory types that serve a request, in the order in which they are asked: by cost, and of equal ones by index with
+   an intent, and in the core's order without. */
+static uint32_t order_of(wtv_allocator *a, const wt_request *request, const work *w,
+                         uint32_t types[VK_MAX_MEMORY_TYPES], size_t *count)
+{
+    uint32_t status = WT_OK;
+    *count = 0;
+    if (w->has_intent) {
+        for (uint32_t i = 0; i < a->memory.memoryTypeCount; i++)
+            if ((request->memory_types >> i & 1) != 0 && (a->memory.memoryTypes[i].propertyFlags & NEVER_CHOSEN) == 0)
+                types[(*count)++] = i;
+    } else {
+        status = wt_candidates(&a->core, request->usage, request->memory_types, types, VK_MAX_MEMORY_TYPES, count);
+    }
+    if (status == WT_OK)
+        sort_by_cost(a, &w->wants, types, *count);
+    return status;
+}
+
+/* Maps a dedicated block for as long as it lives. What is shared is mapped so, and what the host does not see never. */
+static VkResult keep_mapped(wtv_allocator *a, const wt_block *block)
+{
+    object *held = object_of(a, block->object);
+    VkMemoryPropertyFlags properties = a->memory.memoryTypes[block->memory_type].propertyFlags;
+    if (!held->is_dedicated || (properties & VK_MEMORY_PROPERTY_HOST_VISIBLE_BIT) == 0)
+        return VK_SUCCESS;
+    return map_first(a, block, held, FOR_LIFE);
+}
+
+/* Serves a request as if nothing had been tried for it. */
+static VkResult serve_afresh(wtv_allocator *a, const wt_request *request, work *w, wt_block *block)
+{
+    w->result = VK_SUCCESS;
+    w->refused = 0;
+    return serve(a, request, w, block);
+}
+
+/* Serves a request whose block stays mapped. A memory type whose block is not mapped for want of device memory is left
+   out. */
+static VkResult serve_mapped(wtv_allocator *a, const wt_request *request, work *w, wt_block *block)
+{
+    wt_request left = *request;
+    VkResult first = VK_SUCCESS, result = serve_afresh(a, &left, w, block);
+    while (result == VK_SUCCESS) {
+        result = keep_mapped(a, block);
+        if (result == VK_SUCCESS)
+            return VK_SUCCESS;
+        wt_free(&a->core, block->key);
+        free_gone(a);
+        left.memory_types &= ~((uint32_t)1 << block->memory_type);
+        if (answer_of(result) != WT_NO_DEVICE_MEMORY)
+            return result;
+        first = first != VK_SUCCESS ? first : result;
+        result = serve_afresh(a, &left, w, block);
+    }
+    bool has_no_other = result == VK_ERROR_FEATURE_NOT_PRESENT || answer_of(result) == WT_NO_DEVICE_MEMORY;
+    return first != VK_SUCCESS && has_no_other ? first : result;
+}
+
+/* Serves a request from one memory type after the other. */
+static VkResult serve_in_order(wtv_allocator *a, const wt_request *request, work *w, wt_block *block)
+{
+    uint32_t types[VK_MAX_MEMORY_TYPES];
+    size_t count;
+    uint32_t status = order_of(a, request, w, types, &count);
+    if (status != WT_OK || count == 0)
+        return result_of(status != WT_OK ? status : WT_NO_COMPATIBLE_MEMORY_TYPES);
+    VkResult first = VK_SUCCESS, result = VK_SUCCESS;
+    for (size_t i = 0; i < count; i++) {
+        wt_request one = *request;
+        one.memory_types = (uint32_t)1 << types[i];
+        result = w->is_mapped ? serve_mapped(a, &one, w, block) : serve_afresh(a, &one, w, block);
+        if (answer_of(result) != WT_NO_DEVICE_MEMORY)
+            return result;
+        first = first != VK_SUCCESS ? first : result;
+    }
+    return first;
+}
+
+/* Of these memory types those that have all of some properties. */
+static uint32_t types_with(const wtv_allocator *a, uint32_t types, VkMemoryPropertyFlags required)
+{
+    for (uint32_t i = 0; i < a->memory.memoryTypeCount; i++)
+        if ((required & ~a->memory.memoryTypes[i].propertyFlags) != 0)
+            types &= ~((uint32_t)1 << i);
+    return types;
+}
+
+/* Serves a request that has more than the core knows. */
+static SELDOM VkResult serve_more(wtv_allocator *a, wt_request request, const wtv_request *wish, work *w,
+                                  wt_block *block)
+{
+    bool is_aligned = is_power_of_two_or_0(request.align_mask + 1); /* else the core refuses the request */
+    if (is_aligned && request.align_mask < wish->min_alignment)
+        request.align_mask = wish->min_alignment - 1;
+    request.memory_types = types_with(a, request.memory_types, w->wants.required);
+    request.flags &= OF_CORE;
+    w->next = wish->next;
+    w->is_mapped = (wish->flags & WTV_MAPPED) != 0;
+    if (w->has_intent || w->wants.preferred != 0)
+        return serve_in_order(a, &request, w, block);
+    return w->is_mapped ? serve_mapped(a, &request, w, block) : serve(a, &request, w, block);
+}
+
+/* ---- Allocations. ---- */
+
 static VkResult allocate(wtv_allocator *a, const VkMemoryRequirements *needs, const wtv_request *wish, work *w,
                          wtv_allocation *allocation, wtv_block *told)
 {
     wt_request request = request_of(a, needs, wish);
     wt_block block;
-    if (wish->next != NULL && !is_chain(wish->next))
-        return VK_ERROR_VALIDATION_FAILED_EXT;
-    w->next = wish->next;
     enter(a);
-    VkResult result = serve(a, &request, w, &block);
+    VkResult result = w->is_plain ? serve(a, &request, w, &block) : serve_more(a, request, wish, w, &block);
     if (result == VK_SUCCESS) {
         *allocation = block.key;
         if (told != NULL)
@@ -492,11 +732,22 @@ static VkResult allocate(wtv_allocator *a, const VkMemoryRequirements *needs, co
 
 static const wtv_request NO_WISH;
 
+static SELDOM VkResult allocate_more(wtv_allocator *a, const VkMemoryRequirements *needs, const wtv_request *wish,
+                                     wtv_allocation *allocation, wtv_block *told)
+{
+    work w = {.result = VK_SUCCESS};
+    VkResult result = begin(&w, wish, OF_REQUEST | WT_OPTIMAL, false);
+    return result == VK_SUCCESS ? allocate(a, needs, wish, &w, allocation, told) : result;
+}
+
 VkResult wtv_allocate(wtv_allocator *a, const VkMemoryRequirements *requirements, const wtv_request *request,
                       wtv_allocation *allocation, wtv_block *block)
 {
-    work w = {.result = VK_SUCCESS};
-    return allocate(a, requirements, request != NULL ? request : &NO_WISH, &w, allocation, block);
+    const wtv_request *wish = request != NULL ? request : &NO_WISH;
+    work w = {.is_plain = true};
+    if (!is_plain(wish, OF_CORE))
+        return allocate_more(a, requirements, wish, allocation, block);
+    return allocate(a, requirements, wish, &w, allocation, block);
 }
 
 /* The requirements of the resource that a request is for, and the wish, raised to what the driver asks for. */
@@ -529,7 +780,7 @@ static VkResult bind_to(const wtv_allocator *a, const work *w, VkDeviceMemory me
                                        : a->call.bind_image_memory(a->device, w->image, memory, offset);
 }
 
-/* Allocates for a resource, and binds it. */
+/* Allocates for a resource, and binds it unless the program will. */
 static VkResult allocate_and_bind(wtv_allocator *a, work *w, wtv_request wish, wtv_allocation *allocation,
                                   wtv_block *told)
 {
@@ -539,7 +790,8 @@ static VkResult allocate_and_bind(wtv_allocator *a, work *w, wtv_request wish, w
     VkResult result = allocate(a, &needs, &wish, w, &key, &block);
     if (result != VK_SUCCESS)
         return result;
-    result = bind_to(a, w, block.memory, block.offset);
+    if ((wish.flags & WTV_DONT_BIND) == 0)
+        result = bind_to(a, w, block.memory, block.offset);
     if (result != VK_SUCCESS) {
         wtv_free(a, key);
         return result;
@@ -553,20 +805,42 @@ static VkResult allocate_and_bind(wtv_allocator *a, work *w, wtv_request wish, w
 VkResult wtv_allocate_for_buffer(wtv_allocator *a, VkBuffer buffer, const wtv_request *request,
                                  wtv_allocation *allocation, wtv_block *block)
 {
-    work w = {.buffer = buffer, .result = VK_SUCCESS};
-    wtv_request wish = request != NULL ? *request : NO_WISH;
-    if (buffer == VK_NULL_HANDLE || (wish.flags & ~WT_HELD_ONLY) != 0)
-        return VK_ERROR_VALIDATION_FAILED_EXT;
-    return allocate_and_bind(a, &w, wish, allocation, block);
+    const wtv_request *wish = request != NULL ? request : &NO_WISH;
+    work w = {.buffer = buffer};
+    VkResult result = buffer != VK_NULL_HANDLE ? begin(&w, wish, OF_REQUEST, false) : VK_ERROR_VALIDATION_FAILED_EXT;
+    return result == VK_SUCCESS ? allocate_and_bind(a, &w, *wish, allocation, block) : result;
 }
 
 VkResult wtv_allocate_for_image(wtv_allocator *a, VkImage image, const wtv_request *request, wtv_allocation *allocation,
                                 wtv_block *block)
 {
-    work w = {.image = image, .result = VK_SUCCESS};
-    if (image == VK_NULL_HANDLE)
-        return VK_ERROR_VALIDATION_FAILED_EXT;
-    return allocate_and_bind(a, &w, request != NULL ? *request : NO_WISH, allocation, block);
+    const wtv_request *wish = request != NULL ? request : &NO_WISH;
+    work w = {.image = image};
+    VkResult result =
+        image != VK_NULL_HANDLE ? begin(&w, wish, OF_REQUEST | WT_OPTIMAL, false) : VK_ERROR_VALIDATION_FAILED_EXT;
+    return result == VK_SUCCESS ? allocate_and_bind(a, &w, *wish, allocation, block) : result;
+}
+
+/* Turns an intent into what it asks of memory types, and into a usage that any of them serves. */
+static SELDOM void settle(const wtv_allocator *a, work *w, wtv_request *wish, uint64_t usage)
+{
+    const uint64_t transfers = VK_BUFFER_USAGE_TRANSFER_SRC_BIT | VK_BUFFER_USAGE_TRANSFER_DST_BIT; /* and an image's */
+    w->has_intent = true;
+    w->wants = wants_of(a, wish, (usage & ~transfers) != 0);
+    wish->usage = (wish->usage & BESIDE_INTENTS) | WT_USAGE_FAST_DEVICE_ACCESS;
+}
+
+/* VkBufferUsageFlags2CreateInfo of Vulkan 1.4 and VK_KHR_maintenance5, which older headers lack. */
+typedef struct usage_flags2 {
+    VkStructureType type;
+    const void *next;
+    uint64_t usage;
+} usage_flags2;
+
+static uint64_t usage_of(const VkBufferCreateInfo *info)
+{
+    const usage_flags2 *chained = found_in(info->pNext, (VkStructureType)1000470006);
+    return chained != NULL ? chained->usage : info->usage;
 }
 
 VkResult wtv_create_buffer(wtv_allocator *a, const VkBufferCreateInfo *info, const wtv_request *request,
@@ -575,19 +849,23 @@ VkResult wtv_create_buffer(wtv_allocator *a, const VkBufferCreateInfo *info, con
     const VkBufferCreateFlags sparse = VK_BUFFER_CREATE_SPARSE_BINDING_BIT | VK_BUFFER_CREATE_SPARSE_RESIDENCY_BIT
                                        | VK_BUFFER_CREATE_SPARSE_ALIASED_BIT;
     wtv_request wish = request != NULL ? *request : NO_WISH;
-    VkBuffer created;
-    if ((info->flags & sparse) != 0)
-        return VK_ERROR_FEATURE_NOT_PRESENT;
-    if ((info->usage & VK_BUFFER_USAGE_SHADER_DEVICE_ADDRESS_BIT) != 0)
-        wish.usage = (wish.usage != 0 ? wish.usage : WT_USAGE_FAST_DEVICE_ACCESS) | WT_USAGE_DEVICE_ADDRESS;
-    VkResult result = a->call.create_buffer(a->device, info, a->callbacks, &created);
+    work w = {.result = VK_SUCCESS};
+    uint64_t usage = usage_of(info);
+    VkResult result = (info->flags & sparse) == 0 ? begin(&w, &wish, OF_REQUEST, true) : VK_ERROR_FEATURE_NOT_PRESENT;
     if (result != VK_SUCCESS)
         return result;
-    result = wtv_allocate_for_buffer(a, created, &wish, allocation, block);
+    if ((wish.usage & INTENTS) != 0)
+        settle(a, &w, &wish, usage);
+    if ((usage & VK_BUFFER_USAGE_SHADER_DEVICE_ADDRESS_BIT) != 0)
+        wish.usage = (wish.usage != 0 ? wish.usage : WT_USAGE_FAST_DEVICE_ACCESS) | WT_USAGE_DEVICE_ADDRESS;
+    result = a->call.create_buffer(a->device, info, a->callbacks, &w.buffer);
+    if (result != VK_SUCCESS)
+        return result;
+    result = allocate_and_bind(a, &w, wish, allocation, block);
     if (result == VK_SUCCESS)
-        *buffer = created;
+        *buffer = w.buffer;
     else
-        a->call.destroy_buffer(a->device, created, a->callbacks);
+        a->call.destroy_buffer(a->device, w.buffer, a->callbacks);
     return result;
 }
 
@@ -597,25 +875,35 @@ VkResult wtv_create_image(wtv_allocator *a, const VkImageCreateInfo *info, const
     const VkImageCreateFlags refused = VK_IMAGE_CREATE_SPARSE_BINDING_BIT | VK_IMAGE_CREATE_SPARSE_RESIDENCY_BIT
                                        | VK_IMAGE_CREATE_SPARSE_ALIASED_BIT | VK_IMAGE_CREATE_DISJOINT_BIT;
     wtv_request wish = request != NULL ? *request : NO_WISH;
-    VkImage created;
-    if ((info->flags & refused) != 0)
-        return VK_ERROR_FEATURE_NOT_PRESENT;
-    if ((wish.flags & ~WT_HELD_ONLY) != 0)
-        return VK_ERROR_VALIDATION_FAILED_EXT;
-    if (info->tiling != VK_IMAGE_TILING_LINEAR)
-        wish.flags |= WT_OPTIMAL;
-    VkResult result = a->call.create_image(a->device, info, a->callbacks, &created);
+    work w = {.result = VK_SUCCESS};
+    VkResult result = (info->flags & refused) == 0 ? begin(&w, &wish, OF_REQUEST, true) : VK_ERROR_FEATURE_NOT_PRESENT;
     if (result != VK_SUCCESS)
         return result;
-    result = wtv_allocate_for_image(a, created, &wish, allocation, block);
+    if ((wish.usage & INTENTS) != 0)
+        settle(a, &w, &wish, info->usage);
+    if (info->tiling != VK_IMAGE_TILING_LINEAR)
+        wish.flags |= WT_OPTIMAL;
+    result = a->call.create_image(a->device, info, a->callbacks, &w.image);
+    if (result != VK_SUCCESS)
+        return result;
+    result = allocate_and_bind(a, &w, wish, allocation, block);
     if (result == VK_SUCCESS)
-        *image = created;
+        *image = w.image;
     else
-        a->call.destroy_image(a->device, created, a->callbacks);
+        a->call.destroy_image(a->device, w.image, a->callbacks);
     return result;
 }
 
 /* ---- Returns. ---- */
+
+static SELDOM void take_name(wtv_allocator *a, wtv_allocation allocation)
+{
+    uintptr_t *name = value_of(&a->names, allocation);
+    if (name == NULL)
+        return;
+    free((char *)*name);
+    take_out(&a->names, allocation);
+}
 
 /* Takes a block back, mapped or not. */
 static inline uint32_t take_back(wtv_allocator *a, wtv_allocation allocation)
@@ -623,6 +911,8 @@ static inline uint32_t take_back(wtv_allocator *a, wtv_allocation allocation)
     uint32_t status = wt_free(&a->core, allocation);
     if (status == WT_OK && a->mappings.count > 0 && value_of(&a->mappings, allocation) != NULL)
         take_out(&a->mappings, allocation);
+    if (status == WT_OK && a->names.count > 0)
+        take_name(a, allocation);
     return status;
 }
 
@@ -769,6 +1059,64 @@ VkResult wtv_set_user(wtv_allocator *a, wtv_allocation allocation, uint64_t user
     return result_of(status);
 }
 
+/* How many bytes the character has that begins here, 0 where it is not UTF-8 (RFC 3629). A 0 ends the text. */
+static size_t length_of_character(const unsigned char *text)
+{
+    unsigned char lead = text[0], second;
+    size_t length = lead < 0x80 ? 1 : lead < 0xc2 ? 0 : lead < 0xe0 ? 2 : lead < 0xf0 ? 3 : lead < 0xf5 ? 4 : 0;
+    for (size_t i = 1; i < length; i++)
+        if ((text[i] & 0xc0) != 0x80)
+            return 0;
+    second = length > 2 ? text[1] : 0;
+    bool is_overlong = (lead == 0xe0 && second < 0xa0) || (lead == 0xf0 && second < 0x90);
+    bool is_no_character = (lead == 0xed && second > 0x9f) || (lead == 0xf4 && second > 0x8f);
+    return is_overlong || is_no_character ? 0 : length;
+}
+
+static bool is_utf8(const char *text)
+{
+    const unsigned char *at = (const unsigned char *)text;
+    size_t length = 1;
+    while (*at != 0 && length != 0) {
+        length = length_of_character(at);
+        at += length;
+    }
+    return length != 0;
+}
+
+/* Names a live block, under the lock. The name is this side's from then on. */
+static bool put_name(wtv_allocator *a, wtv_allocation allocation, char *name)
+{
+    if (!has_room(&a->names))
+        return false;
+    take_name(a, allocation);
+    put(&a->names, allocation, (uintptr_t)name);
+    return true;
+}
+
+VkResult wtv_set_name(wtv_allocator *a, wtv_allocation allocation, const char *name)
+{
+    size_t size = name != NULL ? strlen(name) + 1 : 1;
+    char *copied = NULL;
+    wt_block block;
+    if (name != NULL && !is_utf8(name))
+        return VK_ERROR_VALIDATION_FAILED_EXT;
+    if (size > 1 && (copied = malloc(size)) == NULL)
+        return VK_ERROR_OUT_OF_HOST_MEMORY;
+    if (copied != NULL)
+        memcpy(copied, name, size);
+    enter(a);
+    VkResult result = result_of(wt_block_of(&a->core, allocation, &block));
+    if (result == VK_SUCCESS && copied == NULL)
+        take_name(a, allocation);
+    else if (result == VK_SUCCESS && !put_name(a, allocation, copied))
+        result = VK_ERROR_OUT_OF_HOST_MEMORY;
+    leave(a);
+    if (result != VK_SUCCESS)
+        free(copied);
+    return result;
+}
+
 VkResult wtv_import(wtv_allocator *a, VkDeviceMemory memory, uint32_t memory_type, VkDeviceSize object_size,
                     VkDeviceSize offset, VkDeviceSize size, wtv_allocation *allocation, wtv_block *told)
 {
@@ -807,38 +1155,13 @@ VkResult wtv_candidates(wtv_allocator *a, uint32_t usage, uint32_t memory_type_b
 
 /* ---- The host's side. ---- */
 
-/* Maps the whole of a block that is not mapped. */
-static VkResult map_first(wtv_allocator *a, const wt_block *block, object *held)
-{
-    wt_question asked[2];
-    wt_range mapped;
-    uint32_t status;
-    VkResult result = VK_SUCCESS;
-    size_t n = 0;
-    if (!has_room(&a->mappings))
-        return VK_ERROR_OUT_OF_HOST_MEMORY;
-    while ((status = wt_map(&a->core, block->key, 0, block->size, asked, n, &mapped, &asked[n])) == WT_ASK) {
-        result = map_object(a, held, &asked[n]);
-        asked[n++].answer = answer_of(result);
-    }
-    if (status == WT_OK) {
-        put(&a->mappings, block->key, 1);
-        return VK_SUCCESS;
-    }
-    if (n > 0 && result == VK_SUCCESS) { /* it was mapped in vain */
-        a->call.unmap_memory(a->device, held->memory);
-        held->host = NULL;
-    }
-    return result != VK_SUCCESS ? result : result_of(status);
-}
-
 /* Maps a block, under the lock. */
 static VkResult map(wtv_allocator *a, const wt_block *block, object *held)
 {
-    uintptr_t *times = value_of(&a->mappings, block->key);
-    if (times == NULL)
-        return map_first(a, block, held);
-    ++*times;
+    uintptr_t *how = value_of(&a->mappings, block->key);
+    if (how == NULL)
+        return map_first(a, block, held, ONCE);
+    *how += ONCE;
     return VK_SUCCESS;
 }
 
@@ -852,10 +1175,11 @@ static unsigned char *bytes_of(const wt_block *block, const object *held)
 static VkResult unmap(wtv_allocator *a, wtv_allocation allocation)
 {
     uint64_t name = 0;
-    uintptr_t *times = value_of(&a->mappings, allocation);
-    if (times == NULL)
+    uintptr_t *how = value_of(&a->mappings, allocation);
+    if (how == NULL || *how < ONCE)
         return VK_ERROR_VALIDATION_FAILED_EXT;
-    if (--*times > 0)
+    *how -= ONCE;
+    if (*how > 0)
         return VK_SUCCESS;
     take_out(&a->mappings, allocation);
     uint32_t status = wt_unmap(&a->core, allocation, &name);
@@ -1105,28 +1429,62 @@ VkResult wtv_statistics(wtv_allocator *a, uint32_t memory_type, wt_type_statisti
     return result_of(status);
 }
 
-/* A text that grows. Once memory lacked it stays as it is. */
+/* A text that grows, and ends in a 0. Once memory lacked it stays as it is. */
 typedef struct writer {
     char *text;
     size_t length, room;
     bool lacks;
 } writer;
 
+/* Sees to it that so many more bytes can be added. */
+static bool has_place(writer *w, size_t more)
+{
+    if (w->room - w->length > more || w->lacks)
+        return !w->lacks;
+    size_t room = 2 * w->room + more + 1;
+    char *larger = realloc(w->text, room);
+    w->lacks = larger == NULL;
+    if (larger != NULL) {
+        w->text = larger;
+        w->room = room;
+    }
+    return !w->lacks;
+}
+
+static void add_bytes(writer *w, const char *bytes, size_t count)
+{
+    if (!has_place(w, count))
+        return;
+    memcpy(w->text + w->length, bytes, count);
+    w->length += count;
+    w->text[w->length] = '\0';
+}
+
 static void add(writer *w, const char *format, ...)
 {
     enum { LONGEST = 512 }; /* of what is added at once */
     va_list values;
-    if (w->room - w->length < LONGEST && !w->lacks) {
-        char *larger = realloc(w->text, 2 * w->room + LONGEST);
-        w->lacks = larger == NULL;
-        w->text = larger != NULL ? larger : w->text;
-        w->room = larger != NULL ? 2 * w->room + LONGEST : w->room;
-    }
-    if (w->lacks)
+    if (!has_place(w, LONGEST))
         return;
     va_start(values, format);
     w->length += (size_t)vsnprintf(w->text + w->length, LONGEST, format, values);
     va_end(values);
+}
+
+/* A text in JSON's quotes. */
+static void add_quoted(writer *w, const char *text)
+{
+    add(w, "\"");
+    for (; *text != '\0'; text++) {
+        unsigned char byte = (unsigned char)*text;
+        if (byte < 0x20)
+            add(w, "\\u%04x", byte);
+        else if (byte == '"' || byte == '\\')
+            add(w, "\\%c", byte);
+        else
+            add_bytes(w, text, 1);
+    }
+    add(w, "\"");
 }
 
 /* A number of 128 bits, of which the upper ones are mostly 0. */
@@ -1146,89 +1504,146 @@ static void add_sum(writer *w, const char *name, uint64_t high, uint64_t low)
         }
         *--first = (char)('0' + left);
     } while ((rest[0] | rest[1] | rest[2] | rest[3]) != 0);
-    add(w, "\"%s\":%s", name, first);
+    add(w, ",\"%s\":%s", name, first);
 }
 
-static void add_kind(writer *w, const char *name, const wt_kind_statistics *kind)
+/* What begins a row: the first stands after no other. */
+static const char *lead(bool *is_first)
 {
-    add(w, ",\"%s\":{\"objects\":%" PRIu64 ",\"blocks\":%" PRIu64 ",", name, kind->objects, kind->blocks);
-    add_sum(w, "live_bytes", kind->live_bytes_high, kind->live_bytes);
-    add(w, ",");
-    add_sum(w, "free_bytes", kind->free_bytes_high, kind->free_bytes);
-    add(w, ",\"largest_free\":%" PRIu64 "}", kind->largest_free);
+    const char *words = *is_first ? "\n" : ",\n";
+    *is_first = false;
+    return words;
 }
 
-static uint32_t add_heap(wtv_allocator *a, writer *w, uint32_t heap)
+static uint32_t add_heaps(wtv_allocator *a, writer *w)
 {
-    wt_heap_counts counts;
-    uint32_t status = wt_heap(&a->core, heap, &counts);
-    if (status == WT_OK) {
-        add(w, "%s{\"size\":%" PRIu64 ",\"limit\":%" PRIu64 ",", heap == 0 ? "" : ",",
-            (uint64_t)a->memory.memoryHeaps[heap].size, counts.limit);
+    uint32_t status = WT_OK;
+    bool is_first = true;
+    for (uint32_t i = 0; i < a->memory.memoryHeapCount && status == WT_OK; i++) {
+        wt_heap_counts counts;
+        status = wt_heap(&a->core, i, &counts);
+        if (status != WT_OK)
+            break;
+        add(w, "%s{\"size\":%" PRIu64 ",\"limit\":%" PRIu64, lead(&is_first), (uint64_t)a->memory.memoryHeaps[i].size,
+            counts.limit);
         add_sum(w, "used", counts.used_high, counts.used);
         add(w, ",\"budget\":%" PRIu64 "}", counts.budget);
     }
     return status;
 }
 
-static uint32_t add_type(wtv_allocator *a, writer *w, uint32_t type)
+static void add_types(const wtv_allocator *a, writer *w)
 {
-    wt_type_statistics statistics;
-    uint32_t status = wt_statistics(&a->core, type, &statistics);
-    if (status == WT_OK) {
-        const VkMemoryType *offered = &a->memory.memoryTypes[type];
-        add(w, "%s{\"heap\":%" PRIu32 ",\"properties\":%" PRIu32, type == 0 ? "" : ",", offered->heapIndex,
-            (uint32_t)offered->propertyFlags);
-        add_kind(w, "dedicated", &statistics.dedicated);
-        add_kind(w, "imported", &statistics.imported);
-        add_kind(w, "buddy", &statistics.buddy);
-        add_kind(w, "free_list", &statistics.free_list);
-        add_kind(w, "fit", &statistics.fit);
-        add(w, "}");
+    bool is_first = true;
+    for (uint32_t i = 0; i < a->memory.memoryTypeCount; i++)
+        add(w, "%s{\"heap\":%" PRIu32 ",\"properties\":%" PRIu32 "}", lead(&is_first),
+            a->memory.memoryTypes[i].heapIndex, (uint32_t)a->memory.memoryTypes[i].propertyFlags & KNOWN_PROPERTIES);
+}
+
+/* The sums of what is held of a memory type for one purpose, if anything is. */
+static void add_kind(writer *w, bool *is_first, uint32_t type, const char *kind, const wt_kind_statistics *sums)
+{
+    if (sums->objects == 0)
+        return;
+    add(w, "%s{\"memory_type\":%" PRIu32 ",\"kind\":\"%s\",\"objects\":%" PRIu64 ",\"live_blocks\":%" PRIu64,
+        lead(is_first), type, kind, sums->objects, sums->blocks);
+    add_sum(w, "live_bytes", sums->live_bytes_high, sums->live_bytes);
+    add_sum(w, "asked_bytes", sums->asked_bytes_high, sums->asked_bytes);
+    add_sum(w, "free_bytes", sums->free_bytes_high, sums->free_bytes);
+    add(w, ",\"largest_free\":%" PRIu64 ",\"scattered\":%" PRIu64 "}", sums->largest_free, sums->scattered);
+}
+
+static uint32_t add_kinds(wtv_allocator *a, writer *w)
+{
+    uint32_t status = WT_OK;
+    bool is_first = true;
+    for (uint32_t i = 0; i < a->memory.memoryTypeCount && status == WT_OK; i++) {
+        wt_type_statistics sums;
+        status = wt_statistics(&a->core, i, &sums);
+        if (status != WT_OK)
+            break;
+        add_kind(w, &is_first, i, "Dedicated", &sums.dedicated);
+        add_kind(w, &is_first, i, "Imported", &sums.imported);
+        add_kind(w, &is_first, i, "BuddyChunk", &sums.buddy);
+        add_kind(w, &is_first, i, "FreeListChunk", &sums.free_list);
+        add_kind(w, &is_first, i, "FitChunk", &sums.fit);
     }
     return status;
+}
+
+/* Hands a text out, or frees what there is of it. */
+static VkResult hand_out(writer *w, uint32_t status, char **text)
+{
+    if (w->lacks)
+        status = WT_OUT_OF_HOST_MEMORY;
+    if (status == WT_OK)
+        *text = w->text;
+    else
+        free(w->text);
+    return result_of(status);
 }
 
 VkResult wtv_statistics_text(wtv_allocator *a, char **text)
 {
     writer w = {NULL, 0, 0, false};
-    uint32_t status = WT_OK;
     enter(a);
     add(&w, "{\"heaps\":[");
-    for (uint32_t i = 0; i < a->memory.memoryHeapCount && status == WT_OK; i++)
-        status = add_heap(a, &w, i);
-    add(&w, "],\"types\":[");
-    for (uint32_t i = 0; i < a->memory.memoryTypeCount && status == WT_OK; i++)
-        status = add_type(a, &w, i);
-    add(&w, "]}");
-    leave(a);
-    if (w.lacks)
-        status = WT_OUT_OF_HOST_MEMORY;
+    uint32_t status = add_heaps(a, &w);
+    add(&w, "\n],\"types\":[");
+    add_types(a, &w);
+    add(&w, "\n],\"kinds\":[");
     if (status == WT_OK)
-        *text = w.text;
-    else
-        free(w.text);
-    return result_of(status);
+        status = add_kinds(a, &w);
+    add(&w, "\n]}\n");
+    leave(a);
+    return hand_out(&w, status, text);
+}
+
+/* The core's report, as a text of malloc. */
+static uint32_t report_of(wtv_allocator *a, writer *w)
+{
+    size_t length;
+    uint32_t status = wt_report(&a->core, NULL, 0, &length);
+    if (status != WT_OK || !has_place(w, length))
+        return status;
+    status = wt_report(&a->core, w->text, length, &w->length);
+    w->text[length] = '\0';
+    return status;
+}
+
+/* Copies the core's report with the names of blocks, each after the value of its user. The core writes no name. */
+static void add_names(const wtv_allocator *a, const char *report, writer *w)
+{
+    static const char key[] = "{\"key\":", user[] = ",\"user\":";
+    const char *from = report, *place;
+    while ((place = strstr(from, key)) != NULL) {
+        char *end;
+        const char *name = name_of(a, strtoull(place + sizeof key - 1, &end, 10));
+        if (name != NULL)
+            strtoull(end + sizeof user - 1, &end, 10);
+        add_bytes(w, from, (size_t)(end - from));
+        if (name != NULL) {
+            add(w, ",\"name\":");
+            add_quoted(w, name);
+        }
+        from = end;
+    }
+    add_bytes(w, from, strlen(from));
 }
 
 VkResult wtv_report_text(wtv_allocator *a, char **text)
 {
-    size_t length = 0;
-    char *written = NULL;
+    writer report = {NULL, 0, 0, false}, named = {NULL, 0, 0, false};
     enter(a);
-    uint32_t status = wt_report(&a->core, NULL, 0, &length);
-    if (status == WT_OK) {
-        written = malloc(length + 1);
-        status = written == NULL ? WT_OUT_OF_HOST_MEMORY : wt_report(&a->core, written, length, &length);
-    }
+    uint32_t status = report_of(a, &report);
+    bool has_names = status == WT_OK && !report.lacks && a->names.count > 0;
+    if (has_names)
+        add_names(a, report.text, &named);
     leave(a);
-    if (status == WT_OK) {
-        written[length] = '\0';
-        *text = written;
-    } else {
-        free(written);
-    }
-    return result_of(status);
+    if (!has_names)
+        return hand_out(&report, status, text);
+    free(report.text);
+    return hand_out(&named, status, text);
 }
 
 void wtv_free_text(char *text)
@@ -1363,6 +1778,7 @@ static VkResult open_core(wtv_allocator *a, const wtv_create_info *info)
         a->call.get_physical_device_properties2(a->physical_device, &properties);
     else
         a->call.get_physical_device_properties(a->physical_device, &properties.properties);
+    a->is_integrated = properties.properties.deviceType == VK_PHYSICAL_DEVICE_TYPE_INTEGRATED_GPU;
     a->call.get_physical_device_memory_properties(a->physical_device, &a->memory);
     for (uint32_t i = 0; i < a->memory.memoryTypeCount; i++) {
         VkMemoryPropertyFlags told = a->memory.memoryTypes[i].propertyFlags;
@@ -1465,6 +1881,7 @@ VkResult wtv_destroy(wtv_allocator *a, wtv_block *live, size_t room, size_t *cou
         mutex_end(&a->lock);
     free(a->objects.slots);
     free(a->mappings.slots);
+    free(a->names.slots);
     free(a);
     return VK_SUCCESS;
 }

@@ -18,9 +18,10 @@
  *   is also for memory that this side or the library lacks. A shared object is mostly larger than the request, and may
  *   be refused while memory is free: see wtv_create_buffer.
  * - VK_ERROR_TOO_MANY_OBJECTS: as many memory objects are held as the device allows.
- * - VK_ERROR_FEATURE_NOT_PRESENT: no permitted memory type serves the usage, or the resource is sparse or disjoint.
- * - VK_ERROR_VALIDATION_FAILED_EXT: an argument that the call forbids, such as an unknown allocation or a range that
- *   ends past its block.
+ * - VK_ERROR_FEATURE_NOT_PRESENT: no permitted memory type serves the usage with the required properties; lazily
+ *   allocated or protected memory is asked for; or the resource is sparse or disjoint.
+ * - VK_ERROR_VALIDATION_FAILED_EXT: an argument that the call forbids, such as an unknown allocation, a range that ends
+ *   past its block, or flags that do not go together.
  * Any other error is the driver's. wtv_create_buffer says which driver errors end a request and which do not.
  *
  * Threads. Calls may come from any thread. Each takes the allocator's lock and keeps it until its request or its free
@@ -114,21 +115,65 @@ typedef struct wtv_create_info {
     uint32_t other_objects; /* how many memory objects the program makes itself at most, outside this allocator */
 } wtv_create_info;
 
+/* wtv_request.usage, beside WT_USAGE_..: an intent. The resource's own usage and the flags WTV_HOST_ACCESS_.. then
+   order the memory types, so intents are for wtv_create_buffer and wtv_create_image alone. Of WT_USAGE_.. only
+   WT_USAGE_TRANSIENT and WT_USAGE_DEVICE_ADDRESS may be added. The rules are those of Vulkan Memory Allocator 3:
+
+   host access              required       preferred                    unwanted
+   none                     -              DEVICE_LOCAL (1)             else DEVICE_LOCAL
+   sequential write         HOST_VISIBLE   DEVICE_LOCAL (2)             HOST_CACHED, else DEVICE_LOCAL
+   the same, or a copy (3)  -              DEVICE_LOCAL, HOST_VISIBLE   HOST_CACHED
+   random                   HOST_VISIBLE   HOST_CACHED                  -
+   the same, or a copy (3)  -              HOST_CACHED, DEVICE_LOCAL    -
+
+   (1) Without PREFER_HOST. (2) Without PREFER_HOST, where the device uses the resource for more than transfers; with
+   PREFER_DEVICE, where for transfers alone. (3) With WTV_HOST_ACCESS_ALLOW_TRANSFER_INSTEAD and without PREFER_HOST,
+   where the device uses the resource for more than transfers and is not an integrated one.
+
+   The usage in a VkBufferUsageFlags2CreateInfo that is chained to a buffer's create-info counts in place of its own.
+   A memory type costs one for each preferred property that it lacks, and one for each unwanted one that it has. The
+   cheapest is asked first, and of equal ones that of the lowest index. */
+#define WTV_USAGE_AUTO 0x100u
+#define WTV_USAGE_AUTO_PREFER_DEVICE 0x200u
+#define WTV_USAGE_AUTO_PREFER_HOST 0x400u
+
+/* wtv_request.flags, beside WT_OPTIMAL and WT_HELD_ONLY. */
+/* The block is mapped as long as it lives: wtv_block.mapped is its first byte, or null where its memory is not
+   host-visible, as may be with an intent without WTV_HOST_ACCESS_.. In a shared object it costs nothing, as such an
+   object is mapped anyway; but which block is shared may change with its size. A dedicated object costs a vkMapMemory
+   when it is made, and address space as long as it lives. For an access now and then wtv_write, wtv_read or wtv_map are
+   enough. wtv_flush and wtv_invalidate are as for others, and wtv_map and wtv_unmap still nest. */
+#define WTV_MAPPED 0x10000u
+/* Nothing is bound; the program does it, at offset 0 of the block, by wtv_bind_buffer or wtv_bind_image, or by its own
+   call at wtv_block.offset of wtv_block.memory. The memory is still made for the resource. */
+#define WTV_DONT_BIND 0x20000u
+/* With an intent, at most one of these two: the host writes the block in order and never reads it, or it reads, or
+   writes anywhere. Without either it promises not to reach it. */
+#define WTV_HOST_ACCESS_SEQUENTIAL_WRITE 0x40000u
+#define WTV_HOST_ACCESS_RANDOM 0x80000u
+/* With one of those two: a copy by the device will do as well. VK_MEMORY_PROPERTY_HOST_VISIBLE_BIT in
+   wtv_block.properties says whether the host reaches the block itself. */
+#define WTV_HOST_ACCESS_ALLOW_TRANSFER_INSTEAD 0x100000u
+
 /* What memory a resource gets. Zeros are defaults. */
 typedef struct wtv_request {
-    uint32_t usage;        /* WT_USAGE_..; 0 means WT_USAGE_FAST_DEVICE_ACCESS. A buffer whose own usage has the shader
-                              device address gets WT_USAGE_DEVICE_ADDRESS by itself */
+    uint32_t usage;        /* WT_USAGE_.., or an intent; 0 means WT_USAGE_FAST_DEVICE_ACCESS. A buffer whose own usage
+                              has the shader device address gets WT_USAGE_DEVICE_ADDRESS by itself */
     uint32_t memory_types; /* bit i permits memory type i; 0 permits all. Types that the requirements exclude,
                               or that the library does not know, are left out */
     uint32_t dedicated;    /* WT_SHARED, WT_PREFERRED or WT_REQUIRED; raised to what the driver asks for */
-    uint32_t flags;        /* for wtv_allocate and wtv_allocate_for_image: WT_OPTIMAL for an image whose tiling is not
-                              linear. WT_HELD_ONLY: no memory object is made; VK_ERROR_OUT_OF_DEVICE_MEMORY where no
-                              held one has a place, so always where the driver requires a dedicated one */
+    uint32_t flags;        /* WTV_..; for wtv_allocate and wtv_allocate_for_image: WT_OPTIMAL for an image whose tiling
+                              is not linear. WT_HELD_ONLY: no memory object is made; VK_ERROR_OUT_OF_DEVICE_MEMORY where
+                              no held one has a place, so always where the driver requires a dedicated one */
     uint64_t user;         /* the program's own value, kept with the block */
     const void *next;      /* chained to VkMemoryAllocateInfo exactly where the object holds only this block: a
                               priority, an export. It stays the program's. A structure that must be chained needs
                               WT_REQUIRED. Neither VkMemoryDedicatedAllocateInfo nor VkMemoryAllocateFlagsInfo may be in
                               it: this side chains those */
+    VkMemoryPropertyFlags required;  /* a memory type without one of these does not serve */
+    VkMemoryPropertyFlags preferred; /* types that have more of these are asked first, as with an intent. Of equal ones
+                                        the usage's order decides (wtv_candidates) */
+    VkDeviceSize min_alignment; /* a power of two that divides wtv_block.offset too; 0: that of the requirements */
 } wtv_request;
 
 /* A block. */
@@ -140,6 +185,7 @@ typedef struct wtv_block {
     VkDeviceSize asked;    /* the requested size: bind nothing past these bytes */
     void *mapped;          /* its first byte while it is mapped, otherwise null. A block of a shared host-visible object
                               is mapped as long as it lives */
+    const char *name;      /* wtv_set_name; null: it has none. Valid until it gets another name or is freed */
     uint64_t user;
     uint32_t memory_type;
     VkMemoryPropertyFlags properties; /* of its memory type */
@@ -185,7 +231,9 @@ WTV_API void wtv_default_config(const VkPhysicalDeviceMemoryProperties *memory, 
 /* ---- Buffers and images. ---- */
 
 /* Creates a buffer, allocates memory for it and binds it. *block is what wtv_block_of returns; block may be null, and
-   so may request: it is then all zeros.
+   so may request: it is then all zeros. Two intents, flags WTV_HOST_ACCESS_.. without an intent or together where they
+   exclude each other, a min_alignment that is not a power of two, and flags without a name are refused
+   (VK_ERROR_VALIDATION_FAILED_EXT).
    Not for sparse buffers (VK_ERROR_FEATURE_NOT_PRESENT), nor for buffers with a flag for capture and replay, such as
    VK_BUFFER_CREATE_DEVICE_ADDRESS_CAPTURE_REPLAY_BIT, which is not checked: their memory needs
    VkMemoryAllocateFlagsInfo with flags that this side does not set. Allocate it yourself, and import it.
@@ -195,8 +243,11 @@ WTV_API void wtv_default_config(const VkPhysicalDeviceMemoryProperties *memory, 
    every memory type is tried shared before any is tried alone, and each block that is served so costs a memory object
    (maxMemoryAllocationCount). Where the second try fails too, for whatever cause, the result is that of the first one.
    There is no second try with WT_REQUIRED or WT_HELD_ONLY.
+   With an intent, or preferred properties, each memory type is asked alone, and the second try comes before the next
+   type. Where all are refused, the result is that of the first type asked.
+   With WTV_MAPPED a refused mapping of a dedicated object counts as a refused object, for that memory type.
    After an error whatever was made is destroyed. Where the bind is refused, the block is freed as by wtv_free: an
-   unused chunk of transient blocks, or an unused fit chunk, may stay. */
+   unused chunk of transient blocks, or an unused fit chunk, may stay, or go that was held before. */
 WTV_API VkResult wtv_create_buffer(wtv_allocator *a, const VkBufferCreateInfo *info, const wtv_request *request,
                                    VkBuffer *buffer, wtv_allocation *allocation, wtv_block *block);
 
@@ -215,7 +266,8 @@ WTV_API VkResult wtv_destroy_image(wtv_allocator *a, VkImage image, wtv_allocati
 /* ---- Blocks. ---- */
 
 /* Allocates a block for given requirements; nothing is bound to it. Errors, and a second try, are as for
-   wtv_create_buffer. */
+   wtv_create_buffer. An intent is refused here and by the two calls below (VK_ERROR_VALIDATION_FAILED_EXT): they see no
+   create-info. */
 WTV_API VkResult wtv_allocate(wtv_allocator *a, const VkMemoryRequirements *requirements, const wtv_request *request,
                               wtv_allocation *allocation, wtv_block *block);
 
@@ -223,7 +275,7 @@ WTV_API VkResult wtv_allocate(wtv_allocator *a, const VkMemoryRequirements *requ
    request has WT_OPTIMAL, and for a buffer whose address is used WT_USAGE_DEVICE_ADDRESS. What cannot be served, and
    which errors end a request, is as for wtv_create_buffer and wtv_create_image, but that no flag of the resource is
    checked. Where the bind is refused, the block is freed as by wtv_free: an unused chunk of transient blocks, or an
-   unused fit chunk, may stay. The resource stays the program's. */
+   unused fit chunk, may stay, or go that was held before. The resource stays the program's. */
 WTV_API VkResult wtv_allocate_for_buffer(wtv_allocator *a, VkBuffer buffer, const wtv_request *request,
                                          wtv_allocation *allocation, wtv_block *block);
 WTV_API VkResult wtv_allocate_for_image(wtv_allocator *a, VkImage image, const wtv_request *request,
@@ -266,11 +318,17 @@ WTV_API VkResult wtv_blocks(wtv_allocator *a, wtv_allocation after, wtv_block *b
 /* Sets the program's own value of a block. */
 WTV_API VkResult wtv_set_user(wtv_allocator *a, wtv_allocation allocation, uint64_t user);
 
+/* Gives a block a name in place of an earlier one: UTF-8 that ends in a 0, copied and kept until the block is freed.
+   Null or an empty text takes it away. It is in wtv_block.name, so also in what wtv_destroy lists, and in
+   wtv_report_text. VK_ERROR_VALIDATION_FAILED_EXT: the allocation is unknown, or the text is not UTF-8.
+   VK_ERROR_OUT_OF_HOST_MEMORY. */
+WTV_API VkResult wtv_set_name(wtv_allocator *a, wtv_allocation allocation, const char *name);
+
 /* ---- The host's side. ---- */
 
 /* Maps a block: *bytes is its first byte. Calls nest: each wtv_map needs its wtv_unmap, and the pointer is the same.
    VK_ERROR_MEMORY_MAP_FAILED: the memory is not host-visible, or the driver refused. Unmapping flushes nothing.
-   wtv_unmap of a block that is not mapped is refused. */
+   wtv_unmap without its wtv_map is refused (VK_ERROR_VALIDATION_FAILED_EXT), and a block of WTV_MAPPED stays mapped. */
 WTV_API VkResult wtv_map(wtv_allocator *a, wtv_allocation allocation, void **bytes);
 WTV_API VkResult wtv_unmap(wtv_allocator *a, wtv_allocation allocation);
 
@@ -308,7 +366,8 @@ WTV_API VkResult wtv_count(wtv_allocator *a, wt_counts *counts);
 WTV_API VkResult wtv_statistics(wtv_allocator *a, uint32_t memory_type, wt_type_statistics *statistics);
 
 /* All that is held, as JSON that ends in a 0: the sums of each heap and memory type, or a report that also has each
-   object, which scripts/picture of the repository draws. *text is the program's, which frees it with wtv_free_text. */
+   object, which wallthyme-picture draws. Their members are told in doc/REPORTS.md. A named block has its name there.
+   *text is the program's, which frees it with wtv_free_text. */
 WTV_API VkResult wtv_statistics_text(wtv_allocator *a, char **text);
 WTV_API VkResult wtv_report_text(wtv_allocator *a, char **text);
 WTV_API void wtv_free_text(char *text);
@@ -327,7 +386,7 @@ static inline const char *wtv_text(VkResult result) {
     case VK_ERROR_MEMORY_MAP_FAILED: return "The host does not see the memory, or the driver did not map it";
     case VK_ERROR_EXTENSION_NOT_PRESENT: return "VK_EXT_memory_budget is not enabled or not there";
     case VK_ERROR_FEATURE_NOT_PRESENT:
-        return "No permitted memory type serves the usage, or the resource is sparse or disjoint";
+        return "No permitted memory type serves the request, or the resource is sparse or disjoint";
     case VK_ERROR_TOO_MANY_OBJECTS: return "As many memory objects are held as the device allows";
     case VK_ERROR_VALIDATION_FAILED_EXT: return "An argument that the call forbids";
     default: return "An error of the driver";

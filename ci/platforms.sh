@@ -46,6 +46,13 @@ greets() { # HOW PROGRAM
     echo "the first use runs, $1"
 }
 
+# The program that draws reports, as it comes.
+draws() { # PROGRAM
+    "$1" c/tests/picture/triangle.json | cmp - c/tests/picture/triangle.svg ||
+        { echo "FAILED: $1 draws a report otherwise"; exit 1; }
+    echo "$(basename "$1") draws a report"
+}
+
 # Each kind of library: its words for the tests.
 tests() { # NAME LIBRARY WORDS ..
     local name=$1 library=$2 wanted
@@ -59,6 +66,7 @@ tests() { # NAME LIBRARY WORDS ..
 case $(uname -s) in
     MINGW* | MSYS* | CYGWIN*)
         cp "$at"/bin/*.dll "$out"
+        draws "$at/bin/wallthyme-picture.exe"
         if command -v cl > /dev/null; then
             (cd "$out" && cl -nologo -std:c11 -I"$at/include" "$at/examples/example.c" "$at/lib/wallthyme.lib" -Fe:cl.exe &&
                 cl -nologo -std:c11 -DWT_DLL -I"$at/include" "$at/examples/example.c" "$at/lib/wallthyme.dll.lib" \
@@ -67,6 +75,8 @@ case $(uname -s) in
             greets "built by cl with the DLL" "$out/cl_dll.exe"
             [ -z "$vulkan" ] || (cd "$out" && cl -nologo -std:c11 -W3 -c -I"$at/include" -I"$vulkan" \
                 "$at/src/wallthyme_vulkan.c")
+            (cd "$out" && cl -nologo -std:c11 -W3 "$at/src/wallthyme_picture.c" -Fe:cl_picture.exe)
+            draws "$out/cl_picture.exe"
         else
             echo 'left out: what is built by cl, since it is not on the path'
         fi
@@ -80,12 +90,15 @@ case $(uname -s) in
     Darwin)
         cc -I"$at/include" "$at/examples/example.c" "$at/lib/libwallthyme.a" -o "$out/example"
         greets "built by cc" "$out/example"
+        cc -O2 "$at/src/wallthyme_picture.c" -o "$out/wallthyme-picture"
+        draws "$out/wallthyme-picture"
         tests static "$at/lib/libwallthyme.a" \
             'WITHOUT=scarce,misuse_vulkan:this linker replaces no calls;stack,memory,size:macOS does not say it so'
         ;;
     *)
         cc -I"$at/include" "$at/examples/example.c" "$at/lib/libwallthyme.a" -o "$out/example"
         greets "built by cc" "$out/example"
+        draws "$at/bin/wallthyme-picture"
         tests static "$at/lib/libwallthyme.a"
         ;;
 esac

@@ -687,56 +687,87 @@ static uint64_t busy_objects(uint32_t type) {
 
 /* Of buddy and fit chunks there are those that were chosen. At most one fit chunk has no live block. */
 static void check_chosen(uint32_t type, const wt_type_statistics *told) {
+    static const wt_kind_statistics nothing;
     uint64_t busy = busy_objects(type);
     const wt_kind_statistics *chosen = sharing == WT_FIT ? &told->fit : &told->buddy;
     const wt_kind_statistics *none = sharing == WT_FIT ? &told->buddy : &told->fit;
-    expect(none->objects == 0 && none->blocks == 0 && none->live_bytes == 0 && none->free_bytes == 0
-               && none->largest_free == 0,
-           "requests share objects in another way than was chosen");
+    expect(memcmp(none, &nothing, sizeof nothing) == 0, "requests share objects in another way than was chosen");
     expect(chosen->objects >= busy && chosen->objects <= busy + (sharing == WT_FIT),
            "a chunk stays without a live block, or a second one does");
 }
 
-/* The sums of a memory type are those of the books: each object is held for one purpose. */
+/* The sums of a memory type, by what its objects are held for. */
+typedef struct {
+    wt_kind_statistics own, imported, transient, shared;
+} sums;
+
+static wt_kind_statistics *sums_of(sums *all, const object *of) {
+    if (of->is_imported) return &all->imported;
+    if (of->is_own) return &all->own;
+    return of->is_transient ? &all->transient : &all->shared;
+}
+
+/* What a walk over all blocks comes to. */
+static void add_walked(sums *all, uint32_t type) {
+    wt_block page[3];
+    uint64_t after = 0;
+    size_t count = LENGTH(page);
+    while (count == LENGTH(page)) {
+        expect(wt_blocks(&allocator, after, page, LENGTH(page), &count) == WT_OK, "a walk goes wrong");
+        for (size_t i = 0; i < count; i++) {
+            wt_kind_statistics *of = sums_of(all, find_object(page[i].object));
+            after = page[i].key;
+            if (page[i].memory_type != type) continue;
+            of->blocks++;
+            of->live_bytes += page[i].size;
+            of->asked_bytes += page[i].asked;
+        }
+    }
+}
+
+/* What free ranges come to: first their bytes and the largest, and then the bytes of those below half of it. */
+static void add_free(sums *all, uint32_t type) {
+    wt_range range;
+    size_t count;
+    uint64_t below[2] = { 0, 0 };
+    expect(wt_free_ranges(&allocator, type, 0, NULL, 0, &count) == WT_OK, "free ranges are not counted");
+    for (size_t i = 0; i < 2 * count; i++) {
+        wt_kind_statistics *of;
+        expect(wt_free_ranges(&allocator, type, i % count, &range, 1, &count) == WT_OK, "free ranges are not told");
+        of = sums_of(all, find_object(range.object));
+        if (i < count) {
+            of->free_bytes += range.size;
+            if (range.size > of->largest_free) of->largest_free = range.size;
+        } else if (2 * range.size < of->largest_free) {
+            below[of == &all->transient] += range.size;
+        }
+    }
+    if (all->shared.free_bytes) all->shared.scattered = 1000 * below[0] / all->shared.free_bytes;
+    if (all->transient.free_bytes) all->transient.scattered = 1000 * below[1] / all->transient.free_bytes;
+}
+
+static void check_sums(const wt_kind_statistics *told, wt_kind_statistics wanted, const char *what) {
+    wanted.objects = told->objects;
+    expect(memcmp(told, &wanted, sizeof wanted) == 0, what);
+}
+
+/* The sums of a memory type are those of the blocks and free ranges that there are: each object is held for one
+ * purpose, and no sum passes 64 bits. */
 static void step_statistics(void) {
     uint32_t type = (uint32_t)draw(TYPES);
     wt_type_statistics told;
-    wt_kind_statistics own = { 0, 0, 0, 0, 0, 0, 0 }, imported = own, shared = own, chosen;
-    uint64_t free_bytes = 0, largest = 0;
-    wt_range ranges[1];
-    size_t count = 1;
+    sums all;
+    memset(&all, 0, sizeof all);
+    add_walked(&all, type);
+    add_free(&all, type);
     expect(wt_statistics(&allocator, type, &told) == WT_OK, "statistics are refused");
-    for (size_t i = 0; i < blocks_len; i++) {
-        const object *of = find_object(blocks[i].at.object);
-        wt_kind_statistics *sums = of->is_imported ? &imported : of->is_own ? &own : &shared;
-        if (of->memory_type != type) continue;
-        sums->blocks++;
-        sums->live_bytes += blocks[i].at.size;
-    }
-    for (size_t first = 0; first < count; first++) {
-        expect(wt_free_ranges(&allocator, type, first, ranges, 1, &count) == WT_OK, "free ranges are not told");
-        if (first == count) break;
-        free_bytes += ranges[0].size;
-        if (ranges[0].size > largest) largest = ranges[0].size;
-    }
-    expect(told.dedicated.objects == own.blocks && told.dedicated.blocks == own.blocks
-               && told.dedicated.live_bytes == own.live_bytes && told.dedicated.free_bytes == 0,
-           "objects of their own are summed otherwise");
-    expect(told.imported.objects == imported.blocks && told.imported.blocks == imported.blocks
-               && told.imported.live_bytes == imported.live_bytes && told.imported.free_bytes == 0,
-           "imports are summed otherwise");
+    check_sums(&told.dedicated, all.own, "objects of their own are summed otherwise");
+    check_sums(&told.imported, all.imported, "imports are summed otherwise");
+    check_sums(&told.free_list, all.transient, "objects of transient blocks are summed otherwise");
+    check_sums(sharing == WT_FIT ? &told.fit : &told.buddy, all.shared, "shared objects are summed otherwise");
+    expect(told.dedicated.objects == all.own.blocks && told.imported.objects == all.imported.blocks,
+           "an object of one block has none or two");
     check_chosen(type, &told);
-    chosen = sharing == WT_FIT ? told.fit : told.buddy;
-    expect(chosen.blocks + told.free_list.blocks == shared.blocks
-               && chosen.live_bytes + told.free_list.live_bytes == shared.live_bytes
-               && chosen.free_bytes + told.free_list.free_bytes == free_bytes,
-           "shared objects are summed otherwise");
-    expect((chosen.largest_free > told.free_list.largest_free ? chosen : told.free_list).largest_free == largest,
-           "another free range is told as the largest");
-    expect(told.dedicated.live_bytes_high + told.imported.live_bytes_high + told.buddy.live_bytes_high
-               + told.free_list.live_bytes_high + told.fit.live_bytes_high + told.dedicated.free_bytes_high
-               + told.imported.free_bytes_high + told.buddy.free_bytes_high + told.free_list.free_bytes_high
-               + told.fit.free_bytes_high == 0, "sums pass 64 bits");
 }
 
 /* How many times words stand in a text. */
@@ -746,10 +777,11 @@ static size_t times_written(const char *text, const char *words) {
     return times;
 }
 
-/* A report is the same however much room there is, and has each live block with its value, and no other. */
+/* A report is the same however much room there is, and has each live block with its value and what was asked for, and
+ * no other. */
 static void step_report(void) {
     static char text[MOST * 128], some[MOST * 128];
-    char words[80];
+    char words[160];
     size_t length = SIZE_MAX, again = SIZE_MAX, room;
     expect(wt_report(&allocator, NULL, 0, &length) == WT_OK && length < sizeof text,
            "a report is refused, or too long");
@@ -763,9 +795,10 @@ static void step_report(void) {
     expect(wt_report(&allocator, some, room, &again) == WT_OK && again == length, "a report has another length");
     expect(memcmp(some, text, room) == 0 && some[room] == 'x', "a report with less room is another");
     for (size_t i = 0; i < blocks_len; i++) {
-        snprintf(words, sizeof words, "{\"key\":%llu,\"user\":%llu,\"offset\":%llu,\"size\":%llu}",
+        snprintf(words, sizeof words, "{\"key\":%llu,\"user\":%llu,\"asked\":%llu,\"offset\":%llu,\"size\":%llu}",
                  (unsigned long long)blocks[i].at.key, (unsigned long long)blocks[i].at.user,
-                 (unsigned long long)blocks[i].at.offset, (unsigned long long)blocks[i].at.size);
+                 (unsigned long long)blocks[i].at.asked, (unsigned long long)blocks[i].at.offset,
+                 (unsigned long long)blocks[i].at.size);
         expect(times_written(text, words) == 1, "a live block is not reported once");
     }
     expect(times_written(text, "{\"key\":") - times_written(text, "{\"key\":null,") == blocks_len,

@@ -134,6 +134,7 @@ static void open_commands(device *d, uint32_t family)
 {
     const VkCommandPoolCreateInfo pool = {
         .sType = VK_STRUCTURE_TYPE_COMMAND_POOL_CREATE_INFO,
+        .flags = VK_COMMAND_POOL_CREATE_RESET_COMMAND_BUFFER_BIT, /* for a program that records more than once */
         .queueFamilyIndex = family,
     };
     VkCommandBufferAllocateInfo commands = {

@@ -1,5 +1,5 @@
 /* Draws a textured triangle and writes it as triangle.png. On standard output: what memory it held, as JSON, which
-   scripts/picture of Wallthyme's repository draws. Statuses: 0, or 1 after an error or a message of the layer. */
+   wallthyme-picture draws. Statuses: 0, or 1 after an error or a message of the layer. */
 #include "triangle.h"
 #include "wallthyme_vulkan.h"
 

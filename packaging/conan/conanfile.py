@@ -15,7 +15,7 @@ PROCESSORS = {"x86_64": "x86_64", "armv8": "aarch64"}
 
 class Wallthyme(ConanFile):
     name = "wallthyme"
-    version = "0.9.0"
+    version = "0.10.0"
     description = "A GPU memory allocator that is proved, for Vulkan"
     license = "MIT OR Apache-2.0"
     package_type = "library"

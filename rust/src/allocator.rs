@@ -5,12 +5,14 @@ use crate::config::{Config, Sharing};
 use crate::error::{AllocationError, NewError};
 use crate::ffi;
 use crate::library::{unexpected, Library, ROOM};
+use crate::names::Names;
 use crate::objects::Objects;
 use crate::report::{report, Dropped, LiveBlock};
 use crate::request::{Dedicated, Request};
 use crate::types::{
     AllocationFlags, DeviceMapError, DeviceProperties, MemoryDevice, MemoryPropertyFlags, MemoryType, OutOfMemory,
 };
+use crate::usage::UsageFlags;
 use crate::vulkan::Resource;
 use std::fmt::{Debug, Formatter};
 use std::panic::{catch_unwind, AssertUnwindSafe};
@@ -32,6 +34,7 @@ static MADE: AtomicU64 = AtomicU64::new(0);
 pub struct GpuAllocator<M> {
     library: Library,
     objects: Objects<M>,
+    names: Names,
     /// Names of released objects that the device has not freed yet.
     gone: Vec<u64>,
     /// Those of these objects in which no other block was. Which name belongs to which does not matter: all are freed.
@@ -105,6 +108,7 @@ impl<M> GpuAllocator<M> {
         Ok(GpuAllocator {
             library,
             objects: Objects::new(),
+            names: Names::new(),
             gone: Vec::with_capacity(ROOM),
             own: Vec::with_capacity(1),
             number: MADE.fetch_add(1, Ordering::Relaxed),
@@ -272,6 +276,9 @@ impl<M> GpuAllocator<M> {
     #[track_caller]
     pub unsafe fn dealloc(&mut self, device: &impl MemoryDevice<M>, block: MemoryBlock<M>) {
         self.assert_own(&block);
+        if block.name().is_some() {
+            self.names.take(block.key());
+        }
         let (key, memory) = block.into_parts();
         let own = match memory {
             Memory::Own(memory) => Some(memory),
@@ -304,6 +311,23 @@ impl<M> GpuAllocator<M> {
             unexpected("wt_set_user", status);
         }
         block.set_user(user);
+    }
+
+    /// Gives a block a name in place of an earlier one, which reports have ([`report`](GpuAllocator::report),
+    /// [`Dropped`]). It is copied, and kept until the block is returned. The empty text takes the name away.
+    ///
+    /// # Errors
+    ///
+    /// [`OutOfMemory::OutOfHostMemory`]. Nothing is changed.
+    ///
+    /// # Panics
+    ///
+    /// Where the block is another allocator's. Nothing is changed.
+    #[track_caller]
+    pub fn set_name(&mut self, block: &mut MemoryBlock<M>, name: &str) -> Result<(), OutOfMemory> {
+        self.assert_own(block);
+        block.set_name(self.names.set(block.key(), name)?);
+        Ok(())
     }
 
     /// The largest size of a request, in bytes.
@@ -373,6 +397,19 @@ impl<M> GpuAllocator<M> {
         }
     }
 
+    /// The memory types of these that serve a usage, the first one that a request tries first.
+    ///
+    /// # Errors
+    ///
+    /// [`AllocationError::OutOfHostMemory`].
+    ///
+    /// # Panics
+    ///
+    /// As for `alloc`.
+    pub(crate) fn candidates(&mut self, usage: UsageFlags, memory_types: u32) -> Result<Vec<u32>, AllocationError> {
+        self.library.candidates(usage.bits().into(), memory_types).map_err(refusal)
+    }
+
     /// Panics where a block is another allocator's.
     #[track_caller]
     pub(crate) fn assert_own(&self, block: &MemoryBlock<M>) {
@@ -380,14 +417,14 @@ impl<M> GpuAllocator<M> {
     }
 
     /// A report of all that is held, as JSON: heaps, memory types, sums by type and kind, and each object with its live
-    /// blocks and free ranges. `scripts/picture` of Wallthyme's repository draws it.
+    /// blocks and free ranges. `scripts/picture` of Wallthyme's repository draws it. A named block has its name there.
     ///
     /// # Errors
     ///
     /// [`OutOfMemory::OutOfHostMemory`]: the host has too little memory for it. Nothing is changed.
     pub fn report(&mut self) -> Result<String, OutOfMemory> {
         let text = self.library.report().ok_or(OutOfMemory::OutOfHostMemory)?;
-        Ok(String::from_utf8(text).expect("a report has to be text"))
+        self.names.shown_in(String::from_utf8(text).expect("a report has to be text"))
     }
 
     /// Frees each memory object that no block needs. After all blocks are returned none is held, and the allocator can
@@ -487,7 +524,10 @@ impl<M> Drop for GpuAllocator<M> {
         let objects = counts.held as usize + self.gone.len();
         if counts.blocks > 0 {
             report(&Dropped::Allocator { blocks: counts.blocks });
-            self.library.each_block(|block| report(&Dropped::BlockOfAllocator(place(block))));
+            self.library.each_block(|block| {
+                let live = LiveBlock { name: self.names.take(block.key), ..place(block) };
+                report(&Dropped::BlockOfAllocator(live));
+            });
         } else if objects > 0 {
             report(&Dropped::WithoutCleanup { objects });
         }
@@ -511,9 +551,10 @@ impl<M> Debug for GpuAllocator<M> {
     }
 }
 
+/// Where a block lies, without its name.
 fn place(block: &ffi::Block) -> LiveBlock {
     let &ffi::Block { key, user, size, object, offset, memory_type, .. } = block;
-    LiveBlock { key, user, size, object, offset, memory_type }
+    LiveBlock { key, user, name: None, size, object, offset, memory_type }
 }
 
 /// An object that was made for a request, where it is mapped, and whether it is for that request's block alone, and

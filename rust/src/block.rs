@@ -54,7 +54,8 @@ struct Unreturned(LiveBlock);
 
 impl Drop for Unreturned {
     fn drop(&mut self) {
-        report(&Dropped::Block(self.0));
+        let name = self.0.name.take();
+        report(&Dropped::Block(LiveBlock { name, ..self.0 }));
     }
 }
 
@@ -67,6 +68,8 @@ pub struct MemoryBlock<M> {
     atom_mask: u64,
     props: MemoryPropertyFlags,
     mapped: bool,
+    /// The address of its first byte, where it stays mapped as long as it lives.
+    start: Option<Start>,
     memory: Memory<M>,
     made_for: Option<Resource>,
     unreturned: Unreturned,
@@ -89,6 +92,7 @@ impl<M> MemoryBlock<M> {
             atom_mask: parts.atom_mask,
             props: parts.props,
             mapped: false,
+            start: None,
             memory,
             made_for: parts.made_for,
             unreturned: Unreturned(parts.place),
@@ -109,14 +113,31 @@ impl<M> MemoryBlock<M> {
         self.unreturned.0.user = user;
     }
 
+    pub(crate) fn set_name(&mut self, name: Option<Box<str>>) {
+        self.unreturned.0.name = name;
+    }
+
     /// Whether the block is mapped.
     pub(crate) fn is_mapped(&self) -> bool {
-        self.mapped
+        self.mapped || self.start.is_some()
+    }
+
+    /// From now on the block stays mapped as long as it lives, if the host sees it: an object of its own from this
+    /// address on, where all of it was mapped, a shared one where it is mapped anyway.
+    pub(crate) fn stay_mapped(&mut self, own: Option<Start>) {
+        let (base, distance) = match &self.memory {
+            Memory::Own(_) => (own, 0),
+            Memory::Shared(shared) => (shared.start, self.offset()),
+        };
+        let distance = usize::try_from(distance).expect("a mapping has to fit the host's memory");
+        // SAFETY: the object is mapped from that address on, and the block lies in it that far behind.
+        self.start = base.map(|Start(base)| Start(unsafe { base.add(distance) }));
     }
 
     /// Ends the block, so that its allocator can free it.
-    pub(crate) fn into_parts(self) -> (u64, Memory<M>) {
+    pub(crate) fn into_parts(mut self) -> (u64, Memory<M>) {
         let key = self.key();
+        self.set_name(None);
         std::mem::forget(self.unreturned);
         (key, self.memory)
     }
@@ -141,6 +162,24 @@ impl<M> MemoryBlock<M> {
     #[inline]
     pub fn user(&self) -> u64 {
         self.place().user
+    }
+
+    /// The program's name for the block, if [`GpuAllocator::set_name`](crate::GpuAllocator::set_name) gave it one.
+    #[inline]
+    pub fn name(&self) -> Option<&str> {
+        self.place().name.as_deref()
+    }
+
+    /// The block's bytes, where they stay mapped as long as it lives
+    /// ([`MemoryRequest::mapped`](crate::vulkan::MemoryRequest::mapped), and host-visible memory); `None` otherwise.
+    /// The address is valid until the block is freed, for reads and writes that no command of the device conflicts
+    /// with. After writes through it flush, and before reads invalidate, as with [`map`](MemoryBlock::map), which may
+    /// be called too.
+    #[inline]
+    pub fn mapped(&self) -> Option<NonNull<[u8]>> {
+        let Start(start) = self.start?;
+        // It was mapped, so that its size fits.
+        Some(NonNull::slice_from_raw_parts(start, self.size() as usize))
     }
 
     /// Where the block starts, in bytes from the start of its memory object.
@@ -208,6 +247,11 @@ impl<M> MemoryBlock<M> {
         assert!(offset < self.size(), "`offset` has to be less than the block's size");
         assert!(size <= self.size() - offset, "`offset + size` has to be at most the block's size");
         self.may_be_mapped()?;
+        if let Some(Start(start)) = self.start {
+            self.mapped = true;
+            // SAFETY: the whole block is mapped from that address on, and has a byte at `offset`.
+            return Ok(unsafe { start.add(offset as usize) });
+        }
         let range = self.whole_atoms(offset, size.max(1));
         let base = if let Memory::Own(_) = self.memory { range.start } else { 0 };
         let distance = usize::try_from(self.offset() + offset - base).expect("a mapping has to fit the host's memory");
@@ -224,7 +268,8 @@ impl<M> MemoryBlock<M> {
         Ok(unsafe { start.add(distance) })
     }
 
-    /// Unmaps the block, and returns whether it was mapped.
+    /// Unmaps the block, and returns whether it was mapped by [`map`](MemoryBlock::map). One that stays mapped as long
+    /// as it lives ([`mapped`](MemoryBlock::mapped)) does so still.
     ///
     /// # Safety
     ///
@@ -235,7 +280,7 @@ impl<M> MemoryBlock<M> {
             return false;
         }
         self.mapped = false;
-        if let Memory::Own(memory) = &mut self.memory {
+        if let (Memory::Own(memory), None) = (&mut self.memory, self.start) {
             // SAFETY: the device is the object's, as the caller says; the object is mapped, as this block was.
             unsafe { device.unmap_memory(memory) };
         }
@@ -259,6 +304,7 @@ impl<M> MemoryBlock<M> {
     /// * `device` is the one that the block was allocated from, or that its memory was imported from.
     /// * The device is not reading or writing those bytes, rounded to whole atoms where the memory is not
     ///   host-coherent.
+    /// * `data` is none of the block's own bytes ([`mapped`](MemoryBlock::mapped)).
     #[inline]
     #[track_caller]
     pub unsafe fn write_bytes(
@@ -272,8 +318,8 @@ impl<M> MemoryBlock<M> {
         }
         // SAFETY: the device is the block's, as the caller says; the address is used only for `data`'s length below.
         let start = unsafe { self.map(device, offset, data.len()) }?;
-        // SAFETY: as many bytes as `data` has were mapped, for writes too. `data` cannot overlap them: it is borrowed,
-        // and they are reached only through a mapping, which the block did not have before.
+        // SAFETY: as many bytes as `data` has were mapped, for writes too. `data` does not overlap them, as the caller
+        // says.
         unsafe { copy_nonoverlapping(data.as_ptr(), start.as_ptr(), data.len()) };
         let range = self.to_flush(offset, data.len() as u64);
         // SAFETY: the range is of whole atoms or ends with the block, and is mapped.
@@ -299,6 +345,7 @@ impl<M> MemoryBlock<M> {
     ///
     /// * `device` is the one that the block was allocated from, or that its memory was imported from.
     /// * The device is not writing those bytes, rounded to whole atoms where the memory is not host-coherent.
+    /// * `data` is none of the block's own bytes ([`mapped`](MemoryBlock::mapped)).
     #[inline]
     #[track_caller]
     pub unsafe fn read_bytes(
@@ -316,8 +363,8 @@ impl<M> MemoryBlock<M> {
         // SAFETY: the range is of whole atoms or ends with the block, and is mapped.
         let seen = range.map_or(Ok(()), |range| unsafe { device.invalidate_memory_ranges(&[range]) });
         if seen.is_ok() {
-            // SAFETY: as many bytes as `data` has were mapped, for reads too. `data` cannot overlap them: it is
-            // borrowed, and they are reached only through a mapping, which the block did not have before.
+            // SAFETY: as many bytes as `data` has were mapped, for reads too. `data` does not overlap them, as the
+            // caller says.
             unsafe { copy_nonoverlapping(start.as_ptr(), data.as_mut_ptr(), data.len()) };
         }
         // SAFETY: the device is the block's, as the caller says.

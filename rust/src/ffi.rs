@@ -37,7 +37,7 @@ macro_rules! structs {
 }
 
 constants! {
-    VERSION: u32 = 0x0000_0900;
+    VERSION: u32 = 0x0000_0a00;
 
     OK: u32 = 0;
     ASK: u32 = 1;
@@ -207,6 +207,14 @@ extern "C" {
     ) -> u32;
     pub(crate) fn wt_set_user(a: *mut Allocator, key: u64, user: u64) -> u32;
     pub(crate) fn wt_blocks(a: *mut Allocator, after: u64, blocks: *mut Block, room: usize, count: *mut usize) -> u32;
+    pub(crate) fn wt_candidates(
+        a: *mut Allocator,
+        usage: u32,
+        memory_types: u32,
+        types: *mut u32,
+        room: usize,
+        count: *mut usize,
+    ) -> u32;
     pub(crate) fn wt_free(a: *mut Allocator, key: u64) -> u32;
     pub(crate) fn wt_cleanup(a: *mut Allocator) -> u32;
     pub(crate) fn wt_gone(a: *mut Allocator, names: *mut u64, room: usize, count: *mut usize) -> u32;

@@ -26,6 +26,7 @@ mod error;
 mod ffi;
 mod flags;
 mod library;
+mod names;
 mod objects;
 mod report;
 mod request;

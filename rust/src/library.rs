@@ -133,6 +133,18 @@ impl Library {
         }
     }
 
+    /// The memory types of these that serve a usage, the best one first, or the status.
+    pub(crate) fn candidates(&mut self, usage: u32, memory_types: u32) -> Result<Vec<u32>, u32> {
+        const MOST: usize = u32::BITS as usize;
+        let (mut types, mut count) = ([0; MOST], 0);
+        let handle = &mut self.state.handle;
+        // SAFETY: the handle is open, and both pointers are good until the call ends, with room for that many.
+        match unsafe { ffi::wt_candidates(handle, usage, memory_types, types.as_mut_ptr(), MOST, &mut count) } {
+            ffi::OK => Ok(types[..count].to_vec()),
+            status => Err(status),
+        }
+    }
+
     /// Frees a block, or returns the status where no block has this key.
     pub(crate) fn free(&mut self, key: u64) -> Result<(), u32> {
         // SAFETY: the handle is open.

@@ -5,13 +5,15 @@ use std::io::{stderr, Write};
 use std::sync::{Arc, Mutex, PoisonError};
 
 /// A block that is not returned yet, and where it lies.
-#[derive(Clone, Copy, Debug, PartialEq, Eq, Hash)]
+#[derive(Clone, Debug, PartialEq, Eq, Hash)]
 #[non_exhaustive]
 pub struct LiveBlock {
     /// Its key ([`MemoryBlock::key`](crate::MemoryBlock::key)).
     pub key: u64,
     /// The program's value ([`GpuAllocator::set_user`](crate::GpuAllocator::set_user)), or 0.
     pub user: u64,
+    /// The program's name for it ([`GpuAllocator::set_name`](crate::GpuAllocator::set_name)), if it has one.
+    pub name: Option<Box<str>>,
     /// Its size in bytes: at least what was asked for.
     pub size: u64,
     /// The name of its memory object, as [`GpuAllocator::report`](crate::GpuAllocator::report) has it.
@@ -26,7 +28,7 @@ pub struct LiveBlock {
 ///
 /// In a debug build it is printed on standard error, and in a release build not reported, unless a handler takes it
 /// ([`set_drop_handler`]). It is not reported while the thread unwinds: what is dropped then was not forgotten.
-#[derive(Clone, Copy, Debug, PartialEq, Eq, Hash)]
+#[derive(Clone, Debug, PartialEq, Eq, Hash)]
 #[non_exhaustive]
 pub enum Dropped {
     /// A [`MemoryBlock`](crate::MemoryBlock). Its memory stays taken.
@@ -50,11 +52,16 @@ pub enum Dropped {
 
 impl Display for LiveBlock {
     fn fmt(&self, formatter: &mut Formatter<'_>) -> Result {
-        let LiveBlock { key, user, size, object, offset, memory_type } = self;
+        let LiveBlock { key, user, name, size, object, offset, memory_type } = self;
         write!(
             formatter,
             "{size} bytes at byte {offset} of object {object}, memory type {memory_type}, key {key}, user {user}"
-        )
+        )?;
+        match name {
+            // Escaped, so that the text stays one line.
+            Some(name) => write!(formatter, ", name {name:?}"),
+            None => Ok(()),
+        }
     }
 }
 

@@ -47,6 +47,7 @@ impl World {
             8..=12 => self.free(),
             13 => self.import(),
             14 => self.clean(),
+            15 => self.name(),
             _ => self.use_bytes(),
         }
         let held = self.device.held();
@@ -130,6 +131,22 @@ impl World {
     fn clean(&mut self) {
         // SAFETY: there is one device.
         unsafe { self.allocator.cleanup(&self.device) };
+    }
+
+    /// A block gets a name, or loses it. The report has each name of a live block, and no other.
+    fn name(&mut self) {
+        if !self.live.is_empty() {
+            let index = self.random.below(self.live.len() as u64) as usize;
+            let number = self.random.below(1000);
+            let name = if number < 300 { String::new() } else { format!("block {number}") };
+            let block = &mut self.live[index].block;
+            self.allocator.set_name(block, &name).expect("the host has memory");
+            assert_eq!(block.name().unwrap_or_default(), name);
+        }
+        let report = self.allocator.report().expect("the host has memory");
+        let named: Vec<_> = self.live.iter().filter_map(|live| live.block.name()).collect();
+        assert_eq!(report.matches(r#","name":"#).count(), named.len());
+        assert!(named.iter().all(|name| report.contains(&format!(r#","name":"{name}""#))));
     }
 
     /// The host writes a part of a block, or the device all of it, and the other one sees it.

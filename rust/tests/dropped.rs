@@ -54,6 +54,11 @@ fn one_case() {
             drop(block);
             std::mem::forget(allocator);
         }
+        "named" => {
+            allocator.set_name(&mut block, "wild\n\"thyme\"").unwrap();
+            drop(allocator);
+            drop(block);
+        }
         "both" => {
             drop(allocator);
             drop(block);
@@ -128,6 +133,15 @@ fn an_allocator_with_a_live_block_is_reported() {
     assert!(told[0].contains("with blocks that were not given back: 1"));
     assert!(told[1].contains("a block was not given back") && told[1].contains(PLACE), "{told:?}");
     assert!(told[2].contains("a memory block was dropped") && told[2].contains(PLACE), "{told:?}");
+}
+
+/// A name is reported with its block, in the same line.
+#[test]
+fn a_name_is_reported() {
+    let told = told("named");
+    let ends = format!(r#"{PLACE}, name "wild\n\"thyme\"""#);
+    assert_eq!(told.len(), 3, "{told:?}");
+    assert!(told[1].ends_with(&ends) && told[2].ends_with(&ends), "{told:?}");
 }
 
 /// More than are read at once: each is reported once.

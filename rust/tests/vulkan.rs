@@ -33,6 +33,7 @@ fn drawn_resources() {
     world.run(300);
     let counts = &world.counts;
     assert!(counts.compared > 1 << 20 && counts.own > 10 && counts.refused == 0, "{counts:?}");
+    assert!(counts.intents > 50 && counts.mapped > 50 && counts.named > 50, "{counts:?}");
     drop(world);
     assert_eq!(device.close(), 0);
 }
@@ -49,6 +50,7 @@ fn drawn_resources_and_refusals() {
         let counts = &world.counts;
         assert!(counts.compared > 1 << 19 && counts.refused > 5 && counts.beside > 0, "{counts:?}");
         assert!(counts.limits > 5 && counts.below > 5 && counts.limited > 5, "{counts:?}");
+        assert!(counts.intents > 20 && counts.mapped > 20 && counts.named > 20, "{counts:?}");
     }
     let refused = plan(|plan| plan.refused.clone());
     assert!(pretend::refusing_names().all(|call| refused.contains_key(call)), "{refused:?}");

@@ -1,5 +1,5 @@
-"""The files of a platform to which the module is retargeted: static libraries, and for Windows x64 DLLs and the Vulkan
-side too. The libraries and the DLLs are held to their lists."""
+"""The files of a platform to which the module is retargeted: static libraries, and for Windows x64 DLLs, the Vulkan side
+and the program that draws reports too. The libraries and the DLLs are held to their lists."""
 import os
 import re
 import shutil
@@ -18,6 +18,8 @@ VULKAN_HEADERS = "vulkan", "vk_video"
 DLL, IMPORTS = "wallthyme.dll", "wallthyme.dll.lib"
 WHOLE = ("-Wl,--whole-archive", "libwallthyme.a", "-Wl,--no-whole-archive")
 SIDE_DLL, SIDE_IMPORTS, SIDE = "wallthyme-vulkan.dll", "wallthyme-vulkan.dll.lib", "libwallthyme-vulkan.a"
+# The program that draws reports.
+PROGRAM = "wallthyme-picture"
 # The sections that objects have here: code, constants, what unwinds them, and lists of the linker's. Those that a program
 # writes are empty, but for the byte of c/heap.ll to which a refusal points.
 SECTIONS = {".text", ".rodata", ".rdata", ".data.rel.ro", ".eh_frame", ".xdata", ".pdata", ".rela", ".note", ".comment",
@@ -109,6 +111,12 @@ def make_dlls(given):
     hold_dll(f"{given.build}/{SIDE_DLL}", given.processor, names, given.tool("OBJDUMP"), DLL)
 
 
+def make_program(given):
+    """Makes the program that draws reports. It needs no DLL of its own."""
+    compiled(given, ["-std=c99", "-O2", "-s", "-static", "-Wl,--no-insert-timestamp", f"{ROOT}/c/wallthyme_picture.c", "-o",
+                     f"{PROGRAM}.exe"])
+
+
 def make_all(given):
     """Makes all files of a platform, in its folder. Returns lines that say how."""
     shutil.rmtree(given.build, ignore_errors=True)
@@ -117,5 +125,6 @@ def make_all(given):
     lines = [f"edit of the module: {line}" for line in dict.fromkeys(edits)] + list(inspect(given))
     if given.tools:
         make_dlls(given)
+        make_program(given)
         lines.append(f"{DLL}: the {len(exports())} calls of the headers")
     return lines

@@ -10,7 +10,7 @@ from captured import capture, kept
 from edits import read
 from ending import FAILED, Stopped
 from inspected import exports, hold_to_lists
-from made import DLL, HEADERS, IMPORTS, SIDE, SIDE_DLL, SIDE_IMPORTS, has_vulkan, make_all
+from made import DLL, HEADERS, IMPORTS, PROGRAM, SIDE, SIDE_DLL, SIDE_IMPORTS, has_vulkan, make_all
 from platforms import X86_64
 from proved import OUT, ROOT, say, sources
 from wine import windows
@@ -76,6 +76,16 @@ def emulated(platform):
     return said.splitlines()[0]
 
 
+def run_program(platform, env):
+    """Runs the program that draws reports under wine. Returns what its test prints."""
+    command = [f"{ROOT}/c/tests/picture/check", f"{PROGRAM}.exe", "."]
+    ran = subprocess.run(command, cwd=platform.build, env={**env, "RUN": " ".join(platform.emulator)}, errors="replace",
+                         stdin=subprocess.DEVNULL, stdout=subprocess.PIPE, stderr=subprocess.STDOUT, text=True)
+    if ran.returncode:
+        raise Stopped(FAILED, f"{PROGRAM}.exe: its test ended with status {ran.returncode}\n{ran.stdout[-3000:]}")
+    return ran.stdout.splitlines()
+
+
 def run_portable(platform, kind, env):
     """Runs the tests of one kind of library under wine. Returns what they print."""
     library, more, over_vulkan = KINDS[kind]
@@ -96,6 +106,7 @@ def test_on_windows(platform):
     """Runs all tests that go there over each kind of library. Returns a line for each; all kinds print the same sum."""
     lines, sums = [f"under {emulated(platform)}"], set()
     with windows(platform.emulator, platform.build) as added:
+        lines += run_program(platform, {**os.environ, **added})
         for kind in KINDS:
             said = run_portable(platform, kind, {**os.environ, **added})
             hold_to_results(platform, said)
@@ -109,7 +120,7 @@ def test_on_windows(platform):
 def made(platform):
     """Makes the files of a platform. Returns lines that say how, and one for each file with its sum."""
     lines = make_all(platform)
-    for name in sorted(name for name in os.listdir(platform.build) if name.endswith((".a", ".lib", ".dll"))):
+    for name in sorted(name for name in os.listdir(platform.build) if name.endswith((".a", ".lib", ".dll", ".exe"))):
         with open(f"{platform.build}/{name}", "rb") as file:
             lines.append(f"{MADE}{name} sha256 {hashlib.sha256(file.read()).hexdigest()}")
     return lines

@@ -14,6 +14,7 @@ import zipfile
 
 import proved
 from inspected import exports, hold_dll, hold_to_lists, hold_to_machine
+from made import PROGRAM
 from platforms import ANDROID, PLATFORMS, WINDOWS, X86_64
 from wine import display, windows
 
@@ -137,7 +138,7 @@ class Trial:
     def lay_dlls(self, folder):
         """Copies the DLLs to where programs of Windows find them, beside themselves."""
         if self.given.is_windows:
-            for dll in (self.stage / "bin").iterdir():
+            for dll in (self.stage / "bin").glob("*.dll"):
                 shutil.copy(dll, self.room / folder)
 
     # ---- The libraries ----
@@ -164,7 +165,7 @@ class Trial:
         shared = (self.stage / "lib/libwallthyme.so").resolve()
         if shared.exists() and self.has("what the shared object wants and has", given.tool("NM")):
             hold_to_lists(str(shared), given.processor, declared, "-D", nm=given.tool("NM"))
-        if (self.stage / "bin").exists() and self.has("what the DLLs want and have", given.tool("OBJDUMP")):
+        if (self.stage / "bin/wallthyme.dll").exists() and self.has("what the DLLs want and have", given.tool("OBJDUMP")):
             hold_dll(self.stage / "bin/wallthyme.dll", given.processor, declared, given.tool("OBJDUMP"))
             side = self.stage / "bin/wallthyme-vulkan.dll"
             if side.exists():
@@ -236,6 +237,18 @@ class Trial:
                 if header != library:
                     raise Stops(f"the header is of version {header}, and the library, built {how}, of {library}")
                 say(f"the header compiles as C++11, and its program runs, built {how}")
+
+    # ---- Pictures of reports ----
+
+    def picture(self):
+        """The program that draws reports draws what its tests in the repository have, as it comes and from its source."""
+        given, folder = self.given, ROOT / "c/tests/picture"
+        name = f"{PROGRAM}{'.exe' if given.is_windows else ''}"
+        self.run(given.tool("CC"), "-std=c99", "-O2", self.stage / "src/wallthyme_picture.c", "-o", name)
+        for program in (self.stage / "bin" / name, self.room / name):
+            if self.run(*given.emulator, program, folder / "triangle.json") != (folder / "triangle.svg").read_text("utf-8"):
+                raise Stops(f"{program} draws a report otherwise")
+        say("the program that draws reports runs, and builds from its source")
 
     # ---- Over Vulkan ----
 
@@ -364,7 +377,8 @@ def check_stage(stage, room):
     with contextlib.ExitStack() as stack:
         if given.is_windows:
             trial.env |= stack.enter_context(windows(given.emulator, room, stack.enter_context(display())))
-        for part in (trial.by_name, trial.by_pkg_config, trial.by_cmake, trial.as_cxx, trial.over_vulkan, trial.rust):
+        for part in (trial.by_name, trial.by_pkg_config, trial.by_cmake, trial.as_cxx, trial.picture, trial.over_vulkan,
+                     trial.rust):
             part()
 
 

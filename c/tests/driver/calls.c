@@ -33,9 +33,10 @@ static wt_counts counts_of(const worker *w)
     return counts;
 }
 
-void request_begins(worker *w)
+void request_begins(worker *w, const wtv_request *request)
 {
     refusing_begins();
+    w->request = request;
     if (!is_alone(w))
         return;
     w->report = report_of(w);
@@ -43,7 +44,8 @@ void request_begins(worker *w)
     w->driver = driver_counted();
 }
 
-/* Where a bind is refused, the block was there already, and a free list keeps its object for later requests. */
+/* Where a bind is refused, the block was there already, and is freed as any other: its chunk may stay unused, or a chunk
+   that was unused before may go with it. */
 static void check_unchanged(worker *w)
 {
     driver_counts driver = driver_counted();
@@ -52,7 +54,8 @@ static void check_unchanged(worker *w)
          "a refused request left a buffer or an image");
     must(counts.blocks == w->counts.blocks, "a refused request left a block");
     if (w->refuser.met.is_unbound) {
-        must(counts.held == w->counts.held || counts.held == w->counts.held + 1, "a refused request left objects");
+        must(counts.held <= w->counts.held + 1 && counts.held + 1 >= w->counts.held,
+             "a refused request left objects, or freed others");
         return;
     }
     char *after = report_of(w);
@@ -66,14 +69,24 @@ static bool has_no_object_left(const worker *w)
     return !is_alone(w) || counts_of(w).remaining == 0;
 }
 
-/* A request that lacked device memory is tried once more, alone. An error that ends that try is not returned, but what
-   was lacking before: an object, or memory, which a heap's limit may have refused without a call of the driver. */
-static bool is_ended_by(const met *met, VkResult result)
+/* Whether a request asks one memory type after the other, each of them twice. */
+static bool goes_on(const wtv_request *request)
 {
-    bool may_be_second = met->objects > 0 && !met->is_unbound;
+    const uint32_t intents = WTV_USAGE_AUTO | WTV_USAGE_AUTO_PREFER_DEVICE | WTV_USAGE_AUTO_PREFER_HOST;
+    return (request->usage & intents) != 0 || request->preferred != 0 || (request->flags & WTV_MAPPED) != 0;
+}
+
+/* A request that lacked device memory is tried once more, alone. An error that ends that try is not returned, but what
+   was lacking before: an object, or memory, which a heap's limit may have refused without a call of the driver. Or the
+   next memory type is asked, and grants it. */
+static bool is_ended_by(const worker *w, VkResult result)
+{
+    const met *met = &w->refuser.met;
+    bool may_be_second = met->objects > 0 && !met->is_unbound && w->request->dedicated != WT_REQUIRED;
     bool was_lacking =
         result == VK_ERROR_OUT_OF_DEVICE_MEMORY || (result == VK_ERROR_TOO_MANY_OBJECTS && met->has_no_object);
-    return result == met->ending || (may_be_second && was_lacking);
+    bool is_granted = result == VK_SUCCESS && goes_on(w->request);
+    return result == met->ending || (may_be_second && (was_lacking || is_granted));
 }
 
 /* An error that the driver did not return has a reason of the allocator's. */
@@ -102,21 +115,39 @@ static void count_granted(worker *w)
 {
     w->tally.after_device_memory += w->refuser.met.first == VK_ERROR_OUT_OF_DEVICE_MEMORY;
     w->tally.after_objects += w->refuser.met.first == VK_ERROR_TOO_MANY_OBJECTS;
+    w->tally.after_mapping += w->refuser.met.left_out != 0;
+}
+
+/* In a run of one thread: what was held before is not needed any more. */
+static void forget_before(worker *w)
+{
+    if (is_alone(w))
+        wtv_free_text(w->report);
 }
 
 VkResult request_ends(worker *w, VkResult result)
 {
     VkResult ending = w->refuser.met.ending;
     if (ending != VK_SUCCESS)
-        must(is_ended_by(&w->refuser.met, result), "a request does not return the error that ended it");
+        must(is_ended_by(w, result), "a request does not return the error that ended it");
     else if (result != VK_SUCCESS)
         check_own_error(w, result);
-    else
+    if (result == VK_SUCCESS)
         count_granted(w);
-    if (result != VK_SUCCESS && is_alone(w))
+    else if (is_alone(w))
         check_unchanged(w);
+    w->tally.unmapped += w->refuser.met.left_out != 0;
     count_error(&w->tally, result);
-    if (is_alone(w))
-        wtv_free_text(w->report);
+    forget_before(w);
     return result;
+}
+
+void request_is_forbidden(worker *w, VkResult result, VkResult error)
+{
+    must(result == error, "a forbidden request has another result");
+    must(w->refuser.met.calls == 0, "a forbidden request calls the driver");
+    if (is_alone(w))
+        check_unchanged(w);
+    w->tally.forbidden++;
+    forget_before(w);
 }

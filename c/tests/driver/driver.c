@@ -13,8 +13,9 @@ enum { MOST_OBJECTS = 512, LINGERING = 20 /* milliseconds */ };
 typedef struct object {
     VkDeviceMemory memory;
     VkDeviceSize size;
-    uint32_t heap;
-    bool is_own; /* the program made it, and the allocator does not have it yet */
+    uint32_t memory_type;
+    bool is_for_one; /* it was made for one resource */
+    bool is_own;     /* the program made it, and the allocator does not have it yet */
 } object;
 
 static driver_settings set;
@@ -91,7 +92,7 @@ static VkDeviceSize held_of(uint32_t heap, bool is_own)
 {
     VkDeviceSize held = 0;
     for (uint32_t i = 0; i < objects_count; i++)
-        if (objects[i].heap == heap && objects[i].is_own == is_own)
+        if (heap_of(objects[i].memory_type) == heap && objects[i].is_own == is_own)
             held += objects[i].size;
     return held;
 }
@@ -105,15 +106,19 @@ static object *object_of(VkDeviceMemory handle)
     return NULL;
 }
 
+static const VkMemoryDedicatedAllocateInfo *owner_of(const VkMemoryAllocateInfo *info)
+{
+    return chained(info->pNext, VK_STRUCTURE_TYPE_MEMORY_DEDICATED_ALLOCATE_INFO);
+}
+
 static void keep(const VkMemoryAllocateInfo *info, VkDeviceMemory handle, bool is_own)
 {
-    const VkMemoryDedicatedAllocateInfo *owner =
-        chained(info->pNext, VK_STRUCTURE_TYPE_MEMORY_DEDICATED_ALLOCATE_INFO);
+    const bool is_for_one = owner_of(info) != NULL;
     pthread_mutex_lock(&lock);
     must(objects_count < MOST_OBJECTS, "there is no room for an object");
-    objects[objects_count++] = (object){handle, info->allocationSize, heap_of(info->memoryTypeIndex), is_own};
+    objects[objects_count++] = (object){handle, info->allocationSize, info->memoryTypeIndex, is_for_one, is_own};
     counts.objects_made++;
-    counts.dedicated += owner != NULL;
+    counts.dedicated += is_for_one;
     pthread_mutex_unlock(&lock);
 }
 
@@ -185,6 +190,8 @@ static void cut_properties(VkPhysicalDeviceProperties *properties)
     VkPhysicalDeviceLimits *offered = &properties->limits;
     offered->maxMemoryAllocationCount = (uint32_t)lesser(offered->maxMemoryAllocationCount, set.max_objects);
     offered->bufferImageGranularity = set.granularity;
+    if (set.is_integrated)
+        properties->deviceType = VK_PHYSICAL_DEVICE_TYPE_INTEGRATED_GPU;
 }
 
 static void cut_memory(VkPhysicalDeviceMemoryProperties *reported)
@@ -291,6 +298,29 @@ void driver_compare(wtv_allocator *allocator)
 
 /* ---- Memory. ---- */
 
+/* Notes the object that is asked for, or that was made for it. */
+static void note_object(const VkMemoryAllocateInfo *info, VkDeviceMemory made)
+{
+    const VkMemoryDedicatedAllocateInfo *owner = owner_of(info);
+    met *met = refusing_met();
+    must(met->objects < MOST_ASKED, "a call asks for too many objects");
+    met->types[met->objects] = info->memoryTypeIndex;
+    met->made = made;
+    met->buffer = owner != NULL ? owner->buffer : VK_NULL_HANDLE;
+    met->image = owner != NULL ? owner->image : VK_NULL_HANDLE;
+    met->is_chained = chained(info->pNext, VK_STRUCTURE_TYPE_EXPORT_MEMORY_ALLOCATE_INFO) != NULL;
+}
+
+/* Notes that an object is not mapped. */
+static void note_unmapped(VkDeviceMemory handle, VkResult result)
+{
+    pthread_mutex_lock(&lock);
+    const object held = *object_of(handle);
+    pthread_mutex_unlock(&lock);
+    if (held.is_for_one && refusing_has_next(result))
+        refusing_met()->left_out |= (uint32_t)1 << held.memory_type;
+}
+
 static VKAPI_ATTR VkResult VKAPI_CALL allocate_memory(VkDevice device, const VkMemoryAllocateInfo *info,
                                                       const VkAllocationCallbacks *callbacks, VkDeviceMemory *made)
 {
@@ -302,8 +332,7 @@ static VKAPI_ATTR VkResult VKAPI_CALL allocate_memory(VkDevice device, const VkM
         result = vkAllocateMemory(device, info, callbacks, made);
     if (result == VK_SUCCESS)
         keep(info, *made, false);
-    refusing_met()->made = result == VK_SUCCESS ? *made : VK_NULL_HANDLE;
-    refusing_met()->is_chained = chained(info->pNext, VK_STRUCTURE_TYPE_EXPORT_MEMORY_ALLOCATE_INFO) != NULL;
+    note_object(info, result == VK_SUCCESS ? *made : VK_NULL_HANDLE);
     go_out();
     return refusing_noted(ALLOCATE_MEMORY, result);
 }
@@ -326,6 +355,8 @@ static VKAPI_ATTR VkResult VKAPI_CALL map_memory(VkDevice device, VkDeviceMemory
     if (result == VK_SUCCESS)
         result = vkMapMemory(device, handle, offset, size, flags, host);
     add_to(&counts.mapped, result == VK_SUCCESS);
+    if (result != VK_SUCCESS)
+        note_unmapped(handle, result);
     go_out();
     return refusing_noted(MAP_MEMORY, result);
 }

@@ -18,6 +18,7 @@ typedef struct driver_settings {
     uint32_t max_objects;     /* what is reported as maxMemoryAllocationCount at most */
     uint32_t other_objects;   /* as in wtv_create_info */
     bool hides_coherence;     /* no memory type is reported as coherent, so that there are ranges to flush */
+    bool is_integrated;       /* the device is reported as an integrated one */
     bool is_shifted;          /* planted: each bind is one byte off */
     bool drops_flushes;       /* planted: no flush reaches the driver */
     bool lingers;             /* each call inside the lock lasts, so that another thread comes in */

@@ -5,6 +5,8 @@
 #include "random.h"
 #include <string.h>
 
+enum { POINTER_PERCENT = 70 /* of what is mapped for life, without another mapping */ };
+
 static unsigned char byte_of(const content *bytes, uint64_t at)
 {
     return (unsigned char)(random_mixed(bytes->seed + at / 8) >> (at % 8 * 8));
@@ -85,13 +87,40 @@ unsigned char *resource_map(worker *w, const resource *r)
     while (is_refused(w, wtv_map(a, r->allocation, &host)));
     must(wtv_block_of(a, r->allocation, &block) == VK_SUCCESS && block.mapped == host,
          "a block is mapped elsewhere than it says");
-    must(r->block.mapped == NULL || r->block.mapped == host, "a block of a shared object is mapped elsewhere now");
+    must(r->block.mapped == NULL || r->block.mapped == host, "a block that stays mapped is mapped elsewhere now");
     if (random_in_hundred(&w->random, 25)) {
         refusing_begins();
         must(!is_refused(w, wtv_map(a, r->allocation, &again)) && again == host, "a nested mapping is another one");
         must(wtv_unmap(a, r->allocation) == VK_SUCCESS, "wtv_unmap");
     }
     return host;
+}
+
+/* The bytes of a resource while the host works at them: where its block is mapped for life, or by a mapping. */
+typedef struct view {
+    unsigned char *bytes;
+    bool is_mapped; /* by a mapping */
+} view;
+
+static view view_begin(worker *w, const resource *r)
+{
+    const bool is_for_life = (r->request.flags & WTV_MAPPED) != 0 && r->block.mapped != NULL;
+    if (is_for_life && random_in_hundred(&w->random, POINTER_PERCENT)) {
+        w->tally.by_pointer++;
+        return (view){r->block.mapped, false};
+    }
+    return (view){resource_map(w, r), true};
+}
+
+/* What is mapped for life, or shared, stays so. */
+static void view_end(worker *w, const resource *r, const view *ended)
+{
+    wtv_allocator *a = w->run->allocator;
+    wtv_block block;
+    must(!ended->is_mapped || wtv_unmap(a, r->allocation) == VK_SUCCESS, "wtv_unmap");
+    must(wtv_unmap(a, r->allocation) == VK_ERROR_VALIDATION_FAILED_EXT, "a block is unmapped twice");
+    must(wtv_block_of(a, r->allocation, &block) == VK_SUCCESS && block.mapped == r->block.mapped,
+         "a block is mapped otherwise than before its mapping");
 }
 
 /* The ranges of all rows, and their number. */
@@ -110,39 +139,38 @@ static size_t ranges_of(worker *w, resource *const *several, uint32_t count)
 static void write_by_pointers(worker *w, resource *const *several, uint32_t count)
 {
     wtv_allocator *a = w->run->allocator;
+    view views[MOST_TOGETHER];
     size_t ranges = ranges_of(w, several, count);
     for (uint32_t i = 0; i < count; i++) {
-        unsigned char *host = resource_map(w, several[i]);
+        views[i] = view_begin(w, several[i]);
         for (uint32_t j = 0; j < rows_of(several[i]); j++) {
             row part = row_of(several[i], j);
-            put_bytes(host + part.offset, &several[i]->content, part.from, part.size);
+            put_bytes(views[i].bytes + part.offset, &several[i]->content, part.from, part.size);
         }
     }
     do
         refusing_begins();
     while (is_refused(w, wtv_flush(a, w->ranges, ranges)));
     for (uint32_t i = 0; i < count; i++)
-        must(wtv_unmap(a, several[i]->allocation) == VK_SUCCESS, "wtv_unmap");
+        view_end(w, several[i], &views[i]);
 }
 
 static void compare_by_pointers(worker *w, resource *const *several, uint32_t count)
 {
     wtv_allocator *a = w->run->allocator;
-    unsigned char *hosts[MOST_TOGETHER];
+    view views[MOST_TOGETHER];
     size_t ranges = ranges_of(w, several, count);
     for (uint32_t i = 0; i < count; i++)
-        hosts[i] = resource_map(w, several[i]);
+        views[i] = view_begin(w, several[i]);
     do
         refusing_begins();
     while (is_refused(w, wtv_invalidate(a, w->ranges, ranges)));
     for (uint32_t i = 0; i < count; i++) {
         for (uint32_t j = 0; j < rows_of(several[i]); j++) {
             row part = row_of(several[i], j);
-            compare_bytes(w, hosts[i] + part.offset, &several[i]->content, part.from, part.size);
+            compare_bytes(w, views[i].bytes + part.offset, &several[i]->content, part.from, part.size);
         }
-        must(wtv_unmap(a, several[i]->allocation) == VK_SUCCESS, "wtv_unmap");
-        must(several[i]->block.mapped != NULL || wtv_unmap(a, several[i]->allocation) != VK_SUCCESS,
-             "a block is unmapped twice");
+        view_end(w, several[i], &views[i]);
     }
 }
 

@@ -1,13 +1,16 @@
 /* Wallthyme over a Vulkan device: buffers and images in drawn order, from several threads over one allocator, with each
    of their bytes compared.
 
-       vulkan SEED RESOURCES REFUSED_PERCENT THREADS [--buddy] [--incoherent] [--report FILE]
+       vulkan SEED RESOURCES REFUSED_PERCENT THREADS [--buddy] [--incoherent] [--integrated] [--report FILE]
               [--shift] [--half-page] [--unflushed] [--unlocked]
 
    The threads try as many resources, a few hundred of them alive at once. The percent of the driver's calls that may
-   fail is refused. Budgets limit the heaps, real ones where the driver reports them.
+   fail is refused. Budgets limit the heaps, real ones where the driver reports them. A request has a usage or an intent;
+   at times it requires or prefers properties or a larger alignment, has its block mapped for life, or leaves the bind to
+   the program. Some blocks have names.
    --buddy has requests share buddy chunks. Else they share fit chunks, as without a configuration.
    --incoherent reports no memory as coherent, so that there are ranges to flush.
+   --integrated reports an integrated device: the host itself reaches all that it accesses.
    --report writes what the allocator holds once all resources are tried, as JSON.
 
    The others plant a fault, and the run has to find it:
@@ -32,7 +35,9 @@ enum {
     LEAST_HEAP = 4 << 20,     /* drawn: up to eight times that */
     LEAST_OBJECTS = 24,       /* drawn: up to eight times that */
     ENOUGH_REFUSED = 150,
+    ENOUGH_UNMAPPED = 30,
     LEAST_GRANULARITY = 1024, /* taken where the device's is less, so that it matters */
+    ENOUGH_CREATED = 2000,    /* for each kind of request to be among them */
 };
 
 static const wt_config CONFIG = {
@@ -48,7 +53,7 @@ static const wt_config CONFIG = {
 typedef struct arguments {
     uint64_t seed;
     uint32_t resources, refused_percent, threads;
-    bool is_buddy, is_incoherent, is_shifted, is_half, is_unflushed, is_unlocked;
+    bool is_buddy, is_incoherent, is_integrated, is_shifted, is_half, is_unflushed, is_unlocked;
     const char *report; /* or null */
 } arguments;
 
@@ -79,8 +84,10 @@ static bool read_arguments(int count, char **texts, arguments *read)
         const char *name;
         bool *is_given;
     } flags[] = {
-        {"--buddy", &read->is_buddy},    {"--incoherent", &read->is_incoherent}, {"--shift", &read->is_shifted},
-        {"--half-page", &read->is_half}, {"--unflushed", &read->is_unflushed},   {"--unlocked", &read->is_unlocked},
+        {"--buddy", &read->is_buddy},       {"--incoherent", &read->is_incoherent},
+        {"--shift", &read->is_shifted},     {"--integrated", &read->is_integrated},
+        {"--half-page", &read->is_half},    {"--unflushed", &read->is_unflushed},
+        {"--unlocked", &read->is_unlocked},
     };
     const size_t flags_count = sizeof flags / sizeof *flags;
     if (!has_numbers(count, texts, read))
@@ -116,6 +123,7 @@ static void open_driver(run *r, const arguments *given, uint64_t *random)
         .max_objects = given->threads + ((uint32_t)LEAST_OBJECTS << random_below(random, 4)),
         .other_objects = given->threads,
         .hides_coherence = given->is_incoherent,
+        .is_integrated = given->is_integrated,
         .is_shifted = given->is_shifted,
         .drops_flushes = given->is_unflushed,
         .lingers = given->is_unlocked,
@@ -160,16 +168,25 @@ static void on_all_threads(run *r, share *shares, void *(*work)(void *))
         must(pthread_join(threads[i], NULL) == 0, "pthread_join");
 }
 
-static void write_report(wtv_allocator *a, const char *name)
+static void write_file(const char *name, const char *text)
 {
-    char *text;
-    must(wtv_report_text(a, &text) == VK_SUCCESS, "wtv_report_text");
     FILE *file = fopen(name, "wb");
     must(file != NULL && fputs(text, file) >= 0 && fclose(file) == 0, "the report is not written");
+}
+
+/* What the allocator holds, with the blocks' names, goes to a file where one is given. */
+static void report(run *r, const share *shares, const char *file)
+{
+    char *text;
+    must(wtv_report_text(r->allocator, &text) == VK_SUCCESS, "wtv_report_text");
+    for (uint32_t i = 0; i < r->threads; i++)
+        share_check_names(&shares[i], text);
+    if (file != NULL)
+        write_file(file, text);
     wtv_free_text(text);
 }
 
-/* An allocator with live blocks stays, and says which they are. */
+/* An allocator with live blocks stays, and says which they are, by their names too. */
 static void check_destroy_refused(run *r, const share *shares)
 {
     wtv_block live;
@@ -178,6 +195,8 @@ static void check_destroy_refused(run *r, const share *shares)
         alive += shares[i].count + 1;
     must(wtv_destroy(r->allocator, &live, 1, &count) == VK_ERROR_VALIDATION_FAILED_EXT && count == alive,
          "an allocator with live blocks is destroyed, or counts others");
+    const share *its = &shares[(live.user >> 32) - 1];
+    must(name_is(&share_resource_of(its, live.allocation)->name, live.name), "a live block has another name");
     must(wtv_block_of(r->allocator, live.allocation, &live) == VK_SUCCESS, "a live block is unknown");
 }
 
@@ -199,8 +218,7 @@ static void work(run *r, share *shares, const arguments *given, uint64_t *random
     on_all_threads(r, shares, share_work);
     driver_compare(r->allocator);
     check_destroy_refused(r, shares);
-    if (given->report != NULL)
-        write_report(r->allocator, given->report);
+    report(r, shares, given->report);
     lift_limits(r->allocator);
     on_all_threads(r, shares, share_end);
     must(wtv_cleanup(r->allocator) == VK_SUCCESS, "wtv_cleanup");
@@ -238,12 +256,46 @@ static void print_threads(const run *r, const share *shares)
 static void print_tally(const tally *t)
 {
     printf("created: %" PRIu64 ", %" PRIu64 " of them imports, %" PRIu64 " bound by hand; after an object was refused"
-           " for want of device memory %" PRIu64 ", of objects %" PRIu64 "\n",
-           t->created, t->imports, t->bound_by_hand, t->after_device_memory, t->after_objects);
+           " for want of device memory %" PRIu64 ", of objects %" PRIu64 ", or was not mapped %" PRIu64 "\n",
+           t->created, t->imports, t->bound_by_hand, t->after_device_memory, t->after_objects, t->after_mapping);
     printf("ended: for device memory %" PRIu64 ", host memory %" PRIu64 ", memory types %" PRIu64 ", objects %" PRIu64
-           ", a lost device %" PRIu64 "; %" PRIu64 " unasked for a heap's limit; after %" PRIu64 " all was as before\n",
+           ", a lost device %" PRIu64 "; %" PRIu64 " unasked for a heap's limit, %" PRIu64 " forbidden; after %" PRIu64
+           " all was as before\n",
            t->refused_device_memory, t->refused_host_memory, t->refused_types, t->refused_objects, t->refused_lost,
-           t->unasked, t->unchanged);
+           t->unasked, t->forbidden, t->unchanged);
+}
+
+static uint64_t sum_of_intent(const tally *t, uint32_t intent)
+{
+    uint64_t sum = 0;
+    for (uint32_t i = 0; i < ACCESSES; i++)
+        sum += t->intents[intent][i];
+    return sum;
+}
+
+static uint64_t sum_of_access(const tally *t, uint32_t access)
+{
+    uint64_t sum = 0;
+    for (uint32_t i = 0; i < INTENTS; i++)
+        sum += t->intents[i][access];
+    return sum;
+}
+
+static void print_requests(const tally *t)
+{
+    printf("intents: %" PRIu64 " automatic, %" PRIu64 " prefer the device, %" PRIu64 " prefer the host; of the host no"
+           " access %" PRIu64 ", sequential writes %" PRIu64 ", or a copy %" PRIu64 ", random access %" PRIu64
+           ", or a copy %" PRIu64 "\n",
+           sum_of_intent(t, 0), sum_of_intent(t, 1), sum_of_intent(t, 2), sum_of_access(t, 0), sum_of_access(t, 1),
+           sum_of_access(t, 2), sum_of_access(t, 3), sum_of_access(t, 4));
+    printf("where a copy would do: %" PRIu64 " filled by the host, %" PRIu64 " by a copy; memory types asked in order %"
+           PRIu64 " times\n",
+           t->filled, t->staged, t->ordered);
+    printf("mapped for life: %" PRIu64 ", %" PRIu64 " of them alone in an object; %" PRIu64 " accesses by their"
+           " pointers\n",
+           t->mapped, t->mapped_alone, t->by_pointer);
+    printf("%" PRIu64 " bound later, %" PRIu64 " aligned by the request, %" PRIu64 " named, %" PRIu64 " renamed\n",
+           t->bound_later, t->aligned, t->named, t->renamed);
 }
 
 static void print_refused(void)
@@ -277,6 +329,7 @@ static void print(const run *r, const share *shares, const tally *sum)
         fprintf(stderr, "vulkan: the validation layer is not installed\n");
     print_threads(r, shares);
     print_tally(sum);
+    print_requests(sum);
     print_refused();
     print_driver(r, sum);
     printf("%" PRIu64 " messages\n", r->device->messages);
@@ -300,6 +353,35 @@ static void check_refused(const arguments *given, const tally *sum)
         must(sum->after_device_memory > 0 && sum->after_objects > 0, "no other memory type is tried");
 }
 
+static bool has_unseen_memory(void)
+{
+    const VkPhysicalDeviceMemoryProperties memory = driver_memory();
+    for (uint32_t i = 0; i < memory.memoryTypeCount; i++)
+        if ((memory.memoryTypes[i].propertyFlags & VK_MEMORY_PROPERTY_HOST_VISIBLE_BIT) == 0)
+            return true;
+    return false;
+}
+
+/* Each intent came to pass with each access of the host, and so did all else that a request can have. The host itself
+   reaches all that it accesses where all memory is host-visible, or the device is an integrated one. */
+static void check_requests(const arguments *given, const tally *t)
+{
+    const bool may_copy = has_unseen_memory() && !given->is_integrated;
+    const uint64_t numbers[] = {t->filled,      t->ordered, t->mapped, t->mapped_alone, t->by_pointer,
+                                t->bound_later, t->aligned, t->named,  t->renamed,      t->forbidden};
+    must(may_copy || t->staged == 0, "what the host accesses is filled by a copy");
+    if (t->created < ENOUGH_CREATED || given->is_shifted)
+        return;
+    for (uint32_t i = 0; i < INTENTS; i++)
+        for (uint32_t j = 0; j < ACCESSES; j++)
+            must(t->intents[i][j] > 0, "an intent is never granted with some access of the host");
+    for (size_t i = 0; i < sizeof numbers / sizeof *numbers; i++)
+        must(numbers[i] > 0, "something that a request can have never comes to pass");
+    must(!may_copy || t->staged > 0, "nothing is filled by a copy");
+    must(driver_memory().memoryTypeCount == 1 || t->unmapped < ENOUGH_UNMAPPED || t->after_mapping > 0,
+         "no other memory type is tried after a mapping is refused");
+}
+
 static void check_returned(void)
 {
     const driver_counts counts = driver_counted();
@@ -313,14 +395,19 @@ int main(int count, char **texts)
     static device d;
     arguments given = {0};
     if (!read_arguments(count, texts, &given)) {
-        fprintf(stderr, "usage: vulkan SEED RESOURCES REFUSED_PERCENT THREADS [--buddy] [--incoherent] [--report FILE]"
-                        " [--shift] [--half-page] [--unflushed] [--unlocked]\n");
+        fprintf(stderr, "usage: vulkan SEED RESOURCES REFUSED_PERCENT THREADS [--buddy] [--incoherent]"
+                        " [--integrated] [--report FILE] [--shift] [--half-page] [--unflushed] [--unlocked]\n");
         return 2;
     }
     uint64_t random = random_mixed(given.seed);
     device_open(&d);
     static run r;
-    r = (run){.device = &d, .threads = given.threads, .is_shifted = given.is_shifted};
+    r = (run){
+        .device = &d,
+        .threads = given.threads,
+        .is_integrated = given.is_integrated,
+        .is_shifted = given.is_shifted,
+    };
     share *shares = calloc(r.threads, sizeof *shares);
     must(shares != NULL, "there is no memory for the threads");
     open_driver(&r, &given, &random);
@@ -332,6 +419,7 @@ int main(int count, char **texts)
     print(&r, shares, &sum);
     check_returned();
     check_refused(&given, &sum);
+    check_requests(&given, &sum);
     free(shares);
     return d.messages == 0 ? 0 : 1;
 }

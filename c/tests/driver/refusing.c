@@ -47,17 +47,16 @@ VkResult refusing_draw(enum refusable function)
 {
     const struct refused_function *drawn = &FUNCTIONS[function];
     __atomic_add_fetch(&calls[function], 1, __ATOMIC_RELAXED);
+    by->met.calls++;
     if (!random_in_hundred(&by->random, by->percent))
         return VK_SUCCESS;
     __atomic_add_fetch(&refused[function], 1, __ATOMIC_RELAXED);
     return drawn->errors[random_below(&by->random, drawn->count)];
 }
 
-/* Where device memory lacks for an object or for its mapping, the next memory type is tried. */
-static bool has_next(enum refusable function, VkResult result)
+bool refusing_has_next(VkResult result)
 {
-    return (function == ALLOCATE_MEMORY || function == MAP_MEMORY)
-           && (result == VK_ERROR_OUT_OF_DEVICE_MEMORY || result == VK_ERROR_TOO_MANY_OBJECTS);
+    return result == VK_ERROR_OUT_OF_DEVICE_MEMORY || result == VK_ERROR_TOO_MANY_OBJECTS;
 }
 
 VkResult refusing_noted(enum refusable function, VkResult result)
@@ -68,7 +67,7 @@ VkResult refusing_noted(enum refusable function, VkResult result)
         return result;
     if (met->first == VK_SUCCESS)
         met->first = result;
-    if (met->ending == VK_SUCCESS && !has_next(function, result))
+    if ((function != ALLOCATE_MEMORY && function != MAP_MEMORY) || !refusing_has_next(result))
         met->ending = result;
     met->has_no_object = met->has_no_object || result == VK_ERROR_TOO_MANY_OBJECTS;
     met->is_unbound = met->is_unbound || function == BIND_BUFFER || function == BIND_IMAGE;

@@ -17,15 +17,23 @@ enum refusable {
     REFUSABLES /* how many there are */
 };
 
+enum { MOST_ASKED = 128 /* objects, by one call of the allocator */ };
+
 /* What the driver returned during a call of the allocator. */
 typedef struct met {
-    uint32_t objects;    /* asked for */
-    VkResult first;      /* the first error, or VK_SUCCESS */
-    VkResult ending;     /* the first error that ends a request for memory, or VK_SUCCESS */
-    bool has_no_object;  /* an object was refused, as one too many */
-    bool is_unbound;     /* a bind was refused */
-    VkDeviceMemory made; /* the object that was made last, or null */
-    bool is_chained;     /* it has what the program chains to its requests */
+    uint32_t calls;             /* of the functions that may fail */
+    uint32_t objects;           /* asked for */
+    uint32_t types[MOST_ASKED]; /* of each of them: its memory type */
+    uint32_t left_out;          /* bit i: an object for one resource, of memory type i, was not mapped, and another
+                                   memory type may do */
+    VkResult first;             /* the first error, or VK_SUCCESS */
+    VkResult ending;            /* the last error that ends a try to get memory, or VK_SUCCESS */
+    bool has_no_object;         /* an object was refused, as one too many */
+    bool is_unbound;            /* a bind was refused */
+    VkDeviceMemory made;        /* the object that was made last, or null */
+    VkBuffer buffer;            /* the one resource that it was made for, or none */
+    VkImage image;
+    bool is_chained;            /* it has what the program chains to its requests */
 } met;
 
 /* A thread's draws. */
@@ -46,6 +54,9 @@ met *refusing_met(void);
 
 /* The error with which a call is refused, or VK_SUCCESS. */
 VkResult refusing_draw(enum refusable function);
+
+/* Whether a request goes on to the next memory type after that result, of an object or of its mapping. */
+bool refusing_has_next(VkResult result);
 
 /* Notes what a call came to, and returns it. */
 VkResult refusing_noted(enum refusable function, VkResult result);

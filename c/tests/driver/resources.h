@@ -2,6 +2,7 @@
 #ifndef RESOURCES_H
 #define RESOURCES_H
 
+#include "names.h"
 #include "run.h"
 
 enum { TEXEL = 4 /* bytes */, MOST_TOGETHER = 4 };
@@ -15,12 +16,21 @@ typedef struct content {
 
 enum kind { BUFFER, LINEAR_IMAGE, OPTIMAL_IMAGE };
 
+/* How the host reaches the bytes of a resource: by the device's copies, itself, or as its memory allows. */
+enum reach { BY_COPIES, ITSELF, EITHER };
+
+/* How a resource comes to its memory. The program itself creates it for all ways but the first: the allocator allocates
+   for it, or by its requirements, or imports an object of the program's. */
+enum way { CREATED, ALLOCATED_FOR, ALLOCATED, IMPORTED };
+
 typedef struct resource {
     content content;
     enum kind kind;
+    enum reach reach;
+    enum way way;
     bool is_seen; /* the host writes and reads it */
     bool has_address;
-    bool is_own; /* the program created it, and destroys it apart from its block */
+    bool is_used; /* by the device, for more than copies */
     VkBuffer buffer;
     VkImage image;
     VkImageLayout layout;
@@ -28,12 +38,19 @@ typedef struct resource {
     wtv_request request;
     wtv_allocation allocation;
     wtv_block block;
+    name name; /* of the block */
 } resource;
 
 /* ---- resources.c ---- */
 
 /* Creates a resource with its memory, in one of several ways. After an error there is no resource. */
-VkResult resource_open(worker *w, resource *r, const content *bytes, enum kind kind, bool is_seen);
+VkResult resource_open(worker *w, resource *r, const content *bytes, enum kind kind, enum reach reach);
+
+/* Asks for a resource of that content by a request that the allocator has to refuse. */
+void resource_ask_in_vain(worker *w, const content *bytes, enum kind kind);
+
+/* Gives its block another name, or none, or tries that with bytes that are no text. */
+void resource_rename(worker *w, resource *r);
 
 /* Destroys it and frees its memory. */
 void resource_close(worker *w, resource *r);

@@ -1,12 +1,14 @@
 #include "steps.h"
 
 #include "random.h"
+#include <inttypes.h>
+#include <stdio.h>
 #include <string.h>
 
 enum {
     TURN = 1200,       /* steps */
     FRAME = 50,        /* steps from one look at the budgets to the next */
-    CLEANUP = 700,     /* steps from one cleanup to the next */
+    CLEANUP = 700,     /* steps from one cleanup, and one look at the report, to the next */
     WALKED = 24,       /* blocks, by one wtv_blocks */
     READER_TRIES = 20, /* some draws permit no memory type that the host sees */
 };
@@ -28,13 +30,20 @@ static content drawn_content(share *s)
     return bytes;
 }
 
-/* The host sees each linear image, no optimal one, and half of the buffers. */
+static enum kind drawn_kind(share *s, const content *bytes)
+{
+    return bytes->width == 0 ? BUFFER : (enum kind)random_below(&s->worker.random, 3);
+}
+
+/* The host itself reaches each linear image, no optimal one, and a third of the buffers. Of another third it is left to
+   the memory. */
 static VkResult open_drawn(share *s, resource *r, const content *bytes)
 {
-    uint64_t *random = &s->worker.random;
-    enum kind kind = bytes->width == 0 ? BUFFER : (enum kind)random_below(random, 3);
-    bool is_seen = kind == LINEAR_IMAGE || (kind == BUFFER && random_in_hundred(random, 50));
-    return resource_open(&s->worker, r, bytes, kind, is_seen);
+    enum kind kind = drawn_kind(s, bytes);
+    enum reach reach = kind == LINEAR_IMAGE ? ITSELF : BY_COPIES;
+    if (kind == BUFFER)
+        reach = (enum reach)random_below(&s->worker.random, 3);
+    return resource_open(&s->worker, r, bytes, kind, reach);
 }
 
 /* Brings its content to a new resource: from another one, by the host, or by a buffer that exists for this alone. */
@@ -47,13 +56,15 @@ static VkResult fill(worker *w, resource *r, resource *from)
     }
     if (r->is_seen) {
         resources_write(w, &r, 1);
+        w->tally.filled += r->reach == EITHER;
         return VK_SUCCESS;
     }
-    VkResult result = resource_open(w, &staging, &r->content, BUFFER, true);
+    VkResult result = resource_open(w, &staging, &r->content, BUFFER, ITSELF);
     if (result != VK_SUCCESS)
         return result;
     resources_write(w, &filled, 1);
     resource_copy(w, &staging, r);
+    w->tally.staged += r->reach == EITHER;
     resource_close(w, &staging);
     return VK_SUCCESS;
 }
@@ -122,6 +133,12 @@ static void map_in_vain(share *s, const resource *r)
              "memory that the host does not see is mapped");
 }
 
+static void ask_in_vain(share *s)
+{
+    const content bytes = drawn_content(s);
+    resource_ask_in_vain(&s->worker, &bytes, drawn_kind(s, &bytes));
+}
+
 /* Steps that mostly add take turns with steps that mostly take away. */
 static void step(share *s)
 {
@@ -132,15 +149,19 @@ static void step(share *s)
         add(s);
     else if (drawn < 92)
         take_away(s, random_below(random, s->count));
-    else if (drawn < 98)
+    else if (drawn < 97)
         rewrite(s);
+    else if (drawn < 98)
+        resource_rename(&s->worker, &s->live[random_below(random, s->count)]);
+    else if (drawn < 99)
+        ask_in_vain(s);
     else
         map_in_vain(s, &s->live[random_below(random, s->count)]);
 }
 
 /* ---- Between the steps. ---- */
 
-static const resource *resource_of(const share *s, wtv_allocation allocation)
+const resource *share_resource_of(const share *s, wtv_allocation allocation)
 {
     if (s->reader.allocation == allocation)
         return &s->reader;
@@ -165,9 +186,9 @@ static void walk(share *s)
             after = blocks[i].allocation;
             if (blocks[i].user >> 32 != s->worker.number)
                 continue;
-            const resource *r = resource_of(s, blocks[i].allocation);
+            const resource *r = share_resource_of(s, blocks[i].allocation);
             must(r->block.memory == blocks[i].memory && r->block.offset == blocks[i].offset
-                     && r->block.user == blocks[i].user,
+                     && r->block.user == blocks[i].user && name_is(&r->name, blocks[i].name),
                  "a block is walked over as another one");
             found++;
         }
@@ -180,7 +201,39 @@ static void write_statistics(wtv_allocator *a)
     char *text;
     must(wtv_statistics_text(a, &text) == VK_SUCCESS, "wtv_statistics_text");
     size_t length = strlen(text);
-    must(strncmp(text, "{\"heaps\":[{", 11) == 0 && strcmp(text + length - 4, "}}]}") == 0, "the statistics are cut");
+    must(strncmp(text, "{\"heaps\":[\n{", 12) == 0 && strcmp(text + length - 4, "\n]}\n") == 0,
+         "the statistics are cut");
+    wtv_free_text(text);
+}
+
+/* A block's place begins with its key. Its name stands directly behind the user's value. */
+static void check_reported_name(const char *report, const resource *r)
+{
+    char key[MOST_NAME], words[2 * MOST_NAME];
+    const bool is_named = r->name.text[0] != '\0';
+    snprintf(key, sizeof key, "{\"key\":%" PRIu64 ",", r->allocation);
+    snprintf(words, sizeof words, "\"user\":%" PRIu64 ",%s%s%s", r->block.user, is_named ? "\"name\":\"" : "",
+             r->name.json, is_named ? "\"," : "");
+    const char *place = strstr(report, key);
+    must(place != NULL, "a block is not reported");
+    place += strlen(key);
+    must(strncmp(place, words, strlen(words)) == 0, "a block is reported under another name");
+    must(strncmp(place + strlen(words), "\"name\"", 6) != 0, "a block is reported under a name that it has not");
+}
+
+void share_check_names(const share *s, const char *report)
+{
+    check_reported_name(report, &s->reader);
+    for (uint32_t i = 0; i < s->count; i++)
+        check_reported_name(report, &s->live[i]);
+}
+
+/* What other threads hold may change, but not what this one does. */
+static void read_report(const share *s)
+{
+    char *text;
+    must(wtv_report_text(s->worker.run->allocator, &text) == VK_SUCCESS, "wtv_report_text");
+    share_check_names(s, text);
     wtv_free_text(text);
 }
 
@@ -192,8 +245,10 @@ static void look_around(share *s)
         walk(s);
         write_statistics(a);
     }
-    if (s->steps % CLEANUP == CLEANUP - 1)
+    if (s->steps % CLEANUP == CLEANUP - 1) {
         must(wtv_cleanup(a) == VK_SUCCESS, "wtv_cleanup");
+        read_report(s);
+    }
     if (s->worker.run->threads == 1)
         driver_compare(a);
 }
@@ -215,7 +270,7 @@ void share_open(share *s, run *r, uint32_t number, uint64_t seed, uint32_t resou
     commands_open(&w->commands, r->device);
     refusing_by(&w->refuser);
     for (int i = 0; i < READER_TRIES && !is_open; i++)
-        is_open = resource_open(w, &s->reader, &most, BUFFER, true) == VK_SUCCESS;
+        is_open = resource_open(w, &s->reader, &most, BUFFER, ITSELF) == VK_SUCCESS;
     must(is_open, "there is no memory to read from");
 }
 

@@ -23,6 +23,12 @@ void share_open(share *s, run *r, uint32_t number, uint64_t seed, uint32_t resou
 /* A thread: tries as many resources as are wanted. */
 void *share_work(void *s);
 
+/* Ends the program where the report has another name for a block of the share's than its resource has. */
+void share_check_names(const share *s, const char *report);
+
+/* The live resource of an allocation, which has to be there. */
+const resource *share_resource_of(const share *s, wtv_allocation allocation);
+
 /* A thread: frees what is left. */
 void *share_end(void *s);
 

@@ -16,9 +16,11 @@ enum {
     MOST_MAPS = 3,
     MOST_RANGES = 40,
     MOST_TRIES = 2000,
+    MOST_NAME = 32, /* bytes */
     RUN_OF_NOTE = 8000,    /* resources from which on each thing has to come to pass */
     MANY_REFUSALS = 50000, /* resources by percents */
     COARSE = 1024, /* a multiple of each atom */
+    INTENTS = WTV_USAGE_AUTO | WTV_USAGE_AUTO_PREFER_DEVICE | WTV_USAGE_AUTO_PREFER_HOST,
 };
 
 typedef enum kind { BUFFER, LINEAR_IMAGE, OPTIMAL_IMAGE, BLOCK, IMPORT, KINDS } kind;
@@ -31,8 +33,10 @@ typedef struct resource {
     VkBuffer buffer;
     VkImage image;
     wtv_block block;
-    unsigned maps;          /* how often it is mapped */
+    unsigned maps;          /* how often it is mapped, */
+    bool is_kept;           /* beside that it is as long as it lives */
     unsigned char *mapped;  /* its first byte then */
+    char name[MOST_NAME];   /* empty: it has none */
     unsigned char *bytes;   /* what it holds */
     size_t size;
 } resource;
@@ -55,6 +59,7 @@ typedef struct worker {
     resource live[MOST_LIVE];
     size_t live_count;
     uint64_t opened[KINDS], dedicated, refused, compared, flushes, mapped, over_limit;
+    uint64_t intents, preferred, kept, kept_alone, unbound, names, compared_kept; /* see print_wishes */
 } worker;
 
 static uint64_t drawn(worker *w, uint64_t bound)
@@ -94,6 +99,12 @@ static bool is_coherent(const resource *r)
 static bool is_visible(const resource *r)
 {
     return (r->block.properties & VK_MEMORY_PROPERTY_HOST_VISIBLE_BIT) != 0;
+}
+
+/* Whether the host has a pointer to it. */
+static bool is_pointed_at(const resource *r)
+{
+    return r->maps > 0 || r->is_kept;
 }
 
 /* ---- The device's side. ---- */
@@ -191,13 +202,13 @@ static void write_by_host(worker *w, resource *r)
 
 static void check_mapping(worker *w, const resource *r)
 {
-    bool is_held_mapped = is_visible(r) && (r->block.dedicated == 0 || r->maps > 0);
+    bool is_held_mapped = is_visible(r) && (r->block.dedicated == 0 || is_pointed_at(r));
     wtv_block now;
     must(wtv_block_of(w->world->allocator, r->block.allocation, &now) == VK_SUCCESS, "a live block is unknown");
     must((now.mapped != NULL) == is_held_mapped, "a block is mapped where it should not be, or is not");
     must(stub_object_of(w->world->driver, r->block.memory).is_mapped == is_held_mapped,
          "the driver disagrees on a mapping");
-    must(r->maps == 0 || now.mapped == r->mapped, "a block is mapped at two places");
+    must(!is_pointed_at(r) || now.mapped == r->mapped, "a block is mapped at two places");
 }
 
 static void map(worker *w, resource *r)
@@ -206,7 +217,7 @@ static void map(worker *w, resource *r)
     VkResult result = wtv_map(w->world->allocator, r->block.allocation, &mapped);
     must(result == VK_SUCCESS || is_refusal(w->world, result), "a block cannot be mapped");
     if (result == VK_SUCCESS) {
-        must(r->maps == 0 || mapped == r->mapped, "a nested mapping is another pointer");
+        must(!is_pointed_at(r) || mapped == r->mapped, "a nested mapping is another pointer");
         r->mapped = mapped;
         r->maps++;
         w->mapped++;
@@ -242,7 +253,7 @@ static void write_many(worker *w)
     unsigned tries = 0;
     for (size_t i = 0; i < 4 * wanted && count < wanted && w->live_count > 0; i++) {
         resource *r = &w->live[drawn(w, w->live_count)];
-        if (r->maps == 0)
+        if (!is_pointed_at(r))
             continue;
         catch_up(w, r);
         wtv_range range = drawn_range(w, r);
@@ -273,7 +284,7 @@ static void read_many(worker *w)
     unsigned tries = 0;
     for (size_t i = 0; i < w->live_count && count < MOST_RANGES; i++) {
         resource *r = &w->live[i];
-        if (r->maps == 0)
+        if (!is_pointed_at(r))
             continue;
         write_by_device(w, r);
         ranges[count] = (wtv_range){r->block.allocation, 0, drawn(w, 2) == 0 ? VK_WHOLE_SIZE : r->size};
@@ -290,7 +301,33 @@ static void read_many(worker *w)
         must(memcmp(read[i]->mapped, read[i]->bytes, read[i]->size) == 0, "a pointer shows a wrong byte");
         read[i]->is_stale = false;
         w->compared++;
+        w->compared_kept += read[i]->maps == 0;
     }
+}
+
+/* ---- Names. ---- */
+
+static void check_name(const resource *r, const wtv_block *block)
+{
+    must((block->name != NULL) == (r->name[0] != '\0'), "a block has a name, or has none");
+    must(block->name == NULL || strcmp(block->name, r->name) == 0, "a block has another name");
+}
+
+/* Another name, or none. What is refused leaves the name. */
+static void rename_block(worker *w, resource *r)
+{
+    wtv_allocator *a = w->world->allocator;
+    must(wtv_set_name(a, r->block.allocation, "\xff") == VK_ERROR_VALIDATION_FAILED_EXT, "a name is not UTF-8");
+    must(wtv_block_of(a, r->block.allocation, &r->block) == VK_SUCCESS, "a live block is unknown");
+    check_name(r, &r->block);
+    if (drawn(w, 4) == 0)
+        r->name[0] = '\0';
+    else
+        sprintf(r->name, "\"%llx\" \xe2\x80\xa0", (unsigned long long)mixed(++w->random));
+    must(wtv_set_name(a, r->block.allocation, r->name) == VK_SUCCESS, "a block is not named");
+    must(wtv_block_of(a, r->block.allocation, &r->block) == VK_SUCCESS, "a live block is unknown");
+    check_name(r, &r->block);
+    w->names += r->name[0] != '\0';
 }
 
 /* ---- Opened and closed. ---- */
@@ -299,6 +336,23 @@ static size_t drawn_size(worker *w)
 {
     uint64_t dice = drawn(w, 100);
     return 1 + (size_t)drawn(w, dice == 0 ? 400000 : dice < 12 ? 20000 : 2000);
+}
+
+static void add_wishes(worker *w, const resource *r, wtv_request *request)
+{
+    static const VkMemoryPropertyFlags preferred[] = {
+        VK_MEMORY_PROPERTY_HOST_CACHED_BIT, VK_MEMORY_PROPERTY_DEVICE_LOCAL_BIT,
+        VK_MEMORY_PROPERTY_HOST_COHERENT_BIT | VK_MEMORY_PROPERTY_HOST_VISIBLE_BIT};
+    if (drawn(w, 8) == 0)
+        request->preferred = preferred[drawn(w, LENGTH(preferred))];
+    if (r->is_seen && drawn(w, 4) == 0)
+        request->required = VK_MEMORY_PROPERTY_HOST_VISIBLE_BIT;
+    if (drawn(w, 8) == 0)
+        request->min_alignment = (VkDeviceSize)1 << drawn(w, 12);
+    if (drawn(w, 4) == 0)
+        request->flags |= WTV_MAPPED;
+    if (drawn(w, 16) == 0)
+        request->flags |= WTV_DONT_BIND;
 }
 
 static wtv_request drawn_request(worker *w, const resource *r)
@@ -316,14 +370,30 @@ static wtv_request drawn_request(worker *w, const resource *r)
     request.dedicated = dice == 0 ? WT_REQUIRED : dice == 1 ? WT_PREFERRED : WT_SHARED;
     if (drawn(w, 8) == 0)
         request.memory_types = 1u << STUB_LOCAL | 1u << STUB_COHERENT | 1u << STUB_CACHED | 1u << STUB_UNKNOWN;
+    add_wishes(w, r, &request);
     return request;
+}
+
+/* An intent in the place of a usage. Where the host has to see it no copy will do. Of the permitted types some images
+   may lie in none that the host sees. */
+static void draw_intent(worker *w, const resource *r, wtv_request *request)
+{
+    static const uint32_t intents[] = {WTV_USAGE_AUTO, WTV_USAGE_AUTO_PREFER_DEVICE, WTV_USAGE_AUTO_PREFER_HOST};
+    static const uint32_t accesses[] = {WTV_HOST_ACCESS_SEQUENTIAL_WRITE, WTV_HOST_ACCESS_RANDOM};
+    if (drawn(w, 3) > 0)
+        return;
+    request->usage = intents[drawn(w, LENGTH(intents))] | (request->usage & WT_USAGE_TRANSIENT);
+    if (r->is_seen)
+        request->flags |= accesses[drawn(w, LENGTH(accesses))];
+    else if (drawn(w, 2) == 0 && (r->kind != OPTIMAL_IMAGE || request->memory_types == 0))
+        request->flags |= accesses[drawn(w, LENGTH(accesses))] | WTV_HOST_ACCESS_ALLOW_TRANSFER_INSTEAD;
 }
 
 static bool is_same_block(const wtv_block *one, const wtv_block *other)
 {
     return one->allocation == other->allocation && one->memory == other->memory && one->offset == other->offset
            && one->size == other->size && one->asked == other->asked && one->mapped == other->mapped
-           && one->user == other->user && one->memory_type == other->memory_type
+           && one->name == other->name && one->user == other->user && one->memory_type == other->memory_type
            && one->properties == other->properties && one->flags == other->flags
            && one->dedicated == other->dedicated;
 }
@@ -337,13 +407,17 @@ static void check_block(worker *w, const resource *r, const VkMemoryRequirements
     must(block->allocation != 0 && block->memory != VK_NULL_HANDLE, "a block without a name");
     must(block->asked == needs->size && block->size >= needs->size, "a block of another size");
     must(block->offset % needs->alignment == 0, "a block that is not aligned");
+    must(request->min_alignment == 0 || block->offset % request->min_alignment == 0, "a block that is not aligned");
+    must((request->required & ~block->properties) == 0, "a required property lacks");
+    must(block->name == NULL, "a new block has a name");
     must(block->memory_type < STUB_SERVING && (types >> block->memory_type & 1) != 0, "a wrong memory type");
     must(block->properties == stub_types[block->memory_type].propertyFlags, "wrong properties");
     must(block->user == request->user, "another value than the program's");
     must(block->flags == (r->kind == OPTIMAL_IMAGE ? WT_OPTIMAL : 0), "wrong flags");
     must(block->dedicated <= 1 && (block->dedicated == 1 || request->dedicated != WT_REQUIRED), "no own object");
     must(block->dedicated == 0 || block->offset == 0, "an own object that does not begin with its block");
-    must((block->mapped != NULL) == (is_visible(r) && block->dedicated == 0), "a wrong mapping");
+    must((block->mapped != NULL) == (is_visible(r) && (block->dedicated == 0 || (request->flags & WTV_MAPPED) != 0)),
+         "a wrong mapping");
     must(is_visible(r) || !r->is_seen, "a block that the host does not see");
     must(stub_object_of(w->world->driver, block->memory).priority
              == (block->dedicated == 1 && priority != NULL ? priority->priority : -1),
@@ -382,6 +456,45 @@ static VkResult allocate_and_bind(worker *w, resource *r, const VkMemoryRequirem
     return result;
 }
 
+/* Binds what was created and is not bound, or destroys it. */
+static VkResult bind_created(worker *w, resource *r, const wtv_request *request)
+{
+    wtv_allocator *a = w->world->allocator;
+    wtv_allocation allocation = r->block.allocation;
+    bool is_buffer = r->buffer != VK_NULL_HANDLE;
+    if ((request->flags & WTV_DONT_BIND) == 0)
+        return VK_SUCCESS;
+    VkResult result =
+        is_buffer ? wtv_bind_buffer(a, allocation, 0, r->buffer) : wtv_bind_image(a, allocation, 0, r->image);
+    w->unbound += result == VK_SUCCESS;
+    if (result != VK_SUCCESS && is_buffer)
+        must(wtv_destroy_buffer(a, r->buffer, allocation) == VK_SUCCESS, "a buffer is not destroyed");
+    else if (result != VK_SUCCESS)
+        must(wtv_destroy_image(a, r->image, allocation) == VK_SUCCESS, "an image is not destroyed");
+    return result;
+}
+
+static VkResult create_buffer(worker *w, resource *r, VkBufferCreateInfo *buffer, wtv_request *request)
+{
+    wtv_allocation allocation = 0;
+    if (drawn(w, 2) == 0)
+        buffer->usage |= VK_BUFFER_USAGE_VERTEX_BUFFER_BIT;
+    draw_intent(w, r, request);
+    VkResult result =
+        wtv_create_buffer(w->world->allocator, buffer, request, &r->buffer, &allocation, &r->block);
+    return result == VK_SUCCESS ? bind_created(w, r, request) : result;
+}
+
+static VkResult create_image(worker *w, resource *r, VkImageCreateInfo *image, wtv_request *request)
+{
+    wtv_allocation allocation = 0;
+    if (drawn(w, 2) == 0)
+        image->usage |= VK_IMAGE_USAGE_SAMPLED_BIT;
+    draw_intent(w, r, request);
+    VkResult result = wtv_create_image(w->world->allocator, image, request, &r->image, &allocation, &r->block);
+    return result == VK_SUCCESS ? bind_created(w, r, request) : result;
+}
+
 static VkResult open_buffer(worker *w, resource *r, wtv_request *request)
 {
     const wtv_create_info *info = &w->world->info;
@@ -392,7 +505,8 @@ static VkResult open_buffer(worker *w, resource *r, wtv_request *request)
     if (has_address)
         buffer.usage |= VK_BUFFER_USAGE_SHADER_DEVICE_ADDRESS_BIT;
     if (drawn(w, 2) == 0)
-        return wtv_create_buffer(a, &buffer, request, &r->buffer, &allocation, &r->block);
+        return create_buffer(w, r, &buffer, request);
+    request->flags &= ~WTV_DONT_BIND;
     VkResult result = w->world->call.create_buffer(info->device, &buffer, info->callbacks, &r->buffer);
     if (result != VK_SUCCESS)
         return result;
@@ -414,12 +528,13 @@ static VkResult open_image(worker *w, resource *r, wtv_request *request)
     bool requires_own;
     r->size = (size_t)4 * width * height;
     if (drawn(w, 2) == 0)
-        return wtv_create_image(a, &image, request, &r->image, &allocation, &r->block);
+        return create_image(w, r, &image, request);
+    request->flags &= ~WTV_DONT_BIND;
     VkResult result = w->world->call.create_image(info->device, &image, info->callbacks, &r->image);
     if (result != VK_SUCCESS)
         return result;
     VkMemoryRequirements needs = stub_needs_of_image(w->world->driver, r->image, &requires_own);
-    request->flags = r->kind == OPTIMAL_IMAGE ? WT_OPTIMAL : 0;
+    request->flags |= r->kind == OPTIMAL_IMAGE ? WT_OPTIMAL : 0;
     result = drawn(w, 2) == 0 && !requires_own ? allocate_and_bind(w, r, &needs, request)
                                                : wtv_allocate_for_image(a, r->image, request, &allocation, &r->block);
     return result == VK_SUCCESS ? result : undo(w, r, result);
@@ -480,6 +595,16 @@ static void check_needs_met(worker *w, const resource *r, const wtv_request *req
     check_block(w, r, &needs, request);
 }
 
+static void note_wishes(worker *w, resource *r, const wtv_request *request)
+{
+    r->is_kept = r->kind != IMPORT && is_visible(r) && (request->flags & WTV_MAPPED) != 0;
+    r->mapped = r->block.mapped;
+    w->intents += (request->usage & INTENTS) != 0;
+    w->preferred += request->preferred != 0;
+    w->kept += r->is_kept;
+    w->kept_alone += r->is_kept && r->block.dedicated == 1;
+}
+
 static VkResult open_kind(worker *w, resource *r)
 {
     const VkMemoryPriorityAllocateInfoEXT priority = {
@@ -493,8 +618,10 @@ static VkResult open_kind(worker *w, resource *r)
                       : r->kind == BLOCK  ? open_block(w, r, &request)
                       : r->kind == IMPORT ? open_import(w, r, &request)
                                           : open_image(w, r, &request);
-    if (result == VK_SUCCESS)
+    if (result == VK_SUCCESS) {
         check_needs_met(w, r, &request);
+        note_wishes(w, r, &request);
+    }
     return result;
 }
 
@@ -627,6 +754,7 @@ static void walk(worker *w)
                     wtv_block known = w->live[j].block;
                     known.mapped = blocks[i].mapped;
                     must(is_same_block(&known, &blocks[i]), "a walk shows another block");
+                    check_name(&w->live[j], &blocks[i]);
                     seen[j]++;
                 }
         if (count > 0)
@@ -655,6 +783,28 @@ static void limit_heap(worker *w)
     w->over_limit += after.used > limit;
 }
 
+/* The requested bytes of each memory type are those of its blocks. */
+static void check_asked(worker *w)
+{
+    uint64_t asked[STUB_TYPES] = {0};
+    wtv_block blocks[16];
+    wtv_allocation after = 0;
+    size_t count;
+    do {
+        must(wtv_blocks(w->world->allocator, after, blocks, LENGTH(blocks), &count) == VK_SUCCESS, "a walk fails");
+        for (size_t i = 0; i < count; i++)
+            asked[blocks[i].memory_type] += blocks[i].asked;
+        after = count > 0 ? blocks[count - 1].allocation : 0;
+    } while (count == LENGTH(blocks));
+    for (uint32_t type = 0; type < STUB_TYPES; type++) {
+        wt_type_statistics sums;
+        must(wtv_statistics(w->world->allocator, type, &sums) == VK_SUCCESS, "no statistics");
+        uint64_t sum = sums.dedicated.asked_bytes + sums.imported.asked_bytes + sums.buddy.asked_bytes
+                       + sums.free_list.asked_bytes + sums.fit.asked_bytes;
+        must(sum == asked[type], "other bytes are asked for than blocks were");
+    }
+}
+
 static void look_at_all(worker *w)
 {
     wtv_allocator *a = w->world->allocator;
@@ -667,6 +817,8 @@ static void look_at_all(worker *w)
     must(wtv_heap(a, (uint32_t)drawn(w, STUB_HEAPS), &heap) == VK_SUCCESS, "a heap is not counted");
     if (drawn(w, 8) == 0)
         check_texts(w, NULL);
+    if (w->world->threads == 1)
+        check_asked(w);
 }
 
 static void follow_budgets(worker *w)
@@ -683,8 +835,10 @@ static void touch(worker *w, resource *r)
 {
     static const wtv_allocation unknown = UINT64_C(0xffffffff00000001);
     wtv_block block;
-    uint64_t dice = drawn(w, 16);
-    if (dice == 0) {
+    uint64_t dice = drawn(w, 17);
+    if (dice == 16) {
+        rename_block(w, r);
+    } else if (dice == 0) {
         write_by_device(w, r);
     } else if (dice == 1) {
         compare_by_device(w, r);
@@ -903,7 +1057,7 @@ static void begin(world *o, const fault *planted)
 }
 
 /* The sums of all live blocks and objects, by what the threads know, the allocator and the stub. */
-static void check_sums(world *o, const worker *workers)
+static void check_sums(world *o, worker *workers)
 {
     wt_counts counts;
     uint64_t live = 0, objects = 0, blocks = 0;
@@ -922,6 +1076,7 @@ static void check_sums(world *o, const worker *workers)
     must(wtv_count(o->allocator, &counts) == VK_SUCCESS, "what is held is not counted");
     must(counts.blocks == live && blocks == live, "other blocks are counted than are live");
     must(counts.held == held.objects && objects == held.objects, "other objects are counted than are held");
+    check_asked(&workers[0]);
 }
 
 /* An allocator with live blocks is not destroyed, but lists them. */
@@ -943,7 +1098,10 @@ static void check_not_destroyed(world *o, const worker *workers)
     for (size_t i = 0; i < count; i++)
         for (uint32_t j = 0; j < o->threads; j++)
             for (size_t k = 0; k < workers[j].live_count; k++)
-                known += live[i].allocation == workers[j].live[k].block.allocation;
+                if (live[i].allocation == workers[j].live[k].block.allocation) {
+                    check_name(&workers[j].live[k], &live[i]);
+                    known++;
+                }
     must(count == wanted && known == wanted, "a list of live blocks lacks one");
 }
 
@@ -980,6 +1138,20 @@ static void end(world *o, worker *workers, const char *folder)
     must(wtv_destroy(o->allocator, NULL, 0, NULL) == VK_SUCCESS, "an allocator is not destroyed");
 }
 
+/* How many had an intent or preferred properties, stayed mapped, and that with an object of their own, or were bound by
+   the program; how many names were given; and how often bytes were compared through a pointer that stays. */
+static void print_wishes(const worker *sum)
+{
+    printf("  %llu by intents, %llu by preferred properties, %llu kept mapped, %llu of these alone, %llu bound later, ",
+           (unsigned long long)sum->intents, (unsigned long long)sum->preferred, (unsigned long long)sum->kept,
+           (unsigned long long)sum->kept_alone, (unsigned long long)sum->unbound);
+    printf("%llu names, %llu compared by a lasting pointer\n", (unsigned long long)sum->names,
+           (unsigned long long)sum->compared_kept);
+    if (opened_of(sum) >= RUN_OF_NOTE)
+        must(sum->intents > 0 && sum->preferred > 0 && sum->kept > 0 && sum->kept_alone > 0 && sum->unbound > 0
+                 && sum->names > 0 && sum->compared_kept > 0, "something never came to pass");
+}
+
 static void print_run(const world *o, const worker *workers)
 {
     worker sum = {0};
@@ -993,6 +1165,13 @@ static void print_run(const world *o, const worker *workers)
         sum.flushes += w->flushes;
         sum.mapped += w->mapped;
         sum.over_limit += w->over_limit;
+        sum.intents += w->intents;
+        sum.preferred += w->preferred;
+        sum.kept += w->kept;
+        sum.kept_alone += w->kept_alone;
+        sum.unbound += w->unbound;
+        sum.names += w->names;
+        sum.compared_kept += w->compared_kept;
     }
     uint64_t below = sum.over_limit + stub_budgets_below(o->driver);
     printf("drawn %llu: %u threads, %u %% refused: ", (unsigned long long)o->seed, o->threads, o->percent);
@@ -1008,6 +1187,7 @@ static void print_run(const world *o, const worker *workers)
             must(sum.opened[j] > 0, "a kind of resource never came");
         must(sum.dedicated > 0 && sum.flushes > 0 && sum.mapped > 0 && below > 0, "something never came to pass");
     }
+    print_wishes(&sum);
 }
 
 int main(int argc, char **argv)

@@ -19,7 +19,7 @@
     type __wrap_##name parameters
 
 static long served_before = -1; /* how many requests are served before one is refused; below 0: each is served */
-static bool is_all_refused, is_lock_refused, is_in_vain;
+static bool is_all_refused, is_lock_refused, is_in_vain, is_mapped_in_vain;
 static unsigned refusals;
 static long live_memory; /* pieces */
 static uint32_t other_version;
@@ -147,7 +147,7 @@ WRAP(uint32_t, wt_block_of, (wt_allocator *a, uint64_t key, wt_block *block))
 WRAP(uint32_t, wt_map, (wt_allocator *a, uint64_t key, uint64_t offset, uint64_t size, const wt_question *asked,
                         size_t asked_len, wt_range *mapped, wt_question *question))
 {
-    if (is_in_vain && asked_len > 0)
+    if ((is_in_vain || is_mapped_in_vain) && asked_len > 0)
         return WT_OUT_OF_HOST_MEMORY;
     return __real_wt_map(a, key, offset, size, asked, asked_len, mapped, question);
 }
@@ -238,6 +238,7 @@ static void fill(world *w)
     expect(wtv_create_image(w->allocator, &image, NULL, &w->image, &w->at[IMAGE], NULL) == VK_SUCCESS,
            "no image is created");
     expect(wtv_free(w->allocator, w->at[FREED]) == VK_SUCCESS, "a block is not taken back");
+    expect(wtv_set_name(w->allocator, w->at[SHARED], "shared") == VK_SUCCESS, "a block is not named");
     w->loose_buffer = made_buffer(w);
     w->loose_image = made_image(w);
     w->loose_memory = stub_make_object(w->driver, STUB_CACHED, OBJECT_SIZE);
@@ -328,6 +329,7 @@ static void compare(picture before, picture after)
     for (size_t i = 0; i < before.blocks_len; i++)
         expect(before.blocks[i].allocation == after.blocks[i].allocation
                    && before.blocks[i].mapped == after.blocks[i].mapped
+                   && before.blocks[i].name == after.blocks[i].name
                    && before.blocks[i].user == after.blocks[i].user, "a block was changed");
     for (size_t i = 0; i < LENGTH(before.texts); i++) {
         wtv_free_text(before.texts[i]);
@@ -369,6 +371,9 @@ static const char bytes_of_program[BLOCK_SIZE];
 
 CALL(block_of, wtv_block_of(w->allocator, AT, &(wtv_block){0}))
 CALL(set_user, wtv_set_user(w->allocator, AT, 7))
+CALL(set_name, wtv_set_name(w->allocator, AT, r->name))
+CALL(take_name_away, wtv_set_name(w->allocator, AT, NULL))
+CALL(set_wrong_name, wtv_set_name(w->allocator, AT, "\xc3"))
 CALL(free, wtv_free(w->allocator, AT))
 CALL(unmap, wtv_unmap(w->allocator, AT))
 CALL(write, wtv_write(w->allocator, AT, r->offset, bytes_of_program, (size_t)r->size))
@@ -482,6 +487,12 @@ static void answer_in_vain(world *w, const row *r)
 {
     (void)w, (void)r;
     is_in_vain = true;
+}
+
+static void map_in_vain(world *w, const row *r)
+{
+    (void)w, (void)r;
+    is_mapped_in_vain = true;
 }
 
 static void refuse_in_vain(world *w, const row *r)
@@ -598,11 +609,14 @@ static const row rows[] = {
     {"import with all objects held", VK_ERROR_TOO_MANY_OBJECTS, call_import, .size = OBJECT_SIZE,
      .number = STUB_CACHED, .prepare = hold_all_objects},
     {"candidates for no usage", INVALID, call_candidates, .number = 0x40},
+    {"candidates for an intent", INVALID, call_candidates, .number = WTV_USAGE_AUTO},
     {"candidates for addresses", INVALID, call_candidates, .number = WT_USAGE_DEVICE_ADDRESS},
     {"limit no heap", INVALID, call_set_heap_limit, .number = STUB_HEAPS},
     {"count no heap", INVALID, call_heap, .number = STUB_HEAPS},
     {"statistics of no type", INVALID, call_statistics, .number = STUB_TYPES},
     {"budgets without the extension", VK_ERROR_EXTENSION_NOT_PRESENT, call_update_budget, .which = ZERO},
+    {"a name that is not UTF-8", INVALID, call_set_wrong_name, .which = SHARED},
+    {"a first name that is not UTF-8", INVALID, call_set_wrong_name, .which = OWN},
     {"destroy with live blocks", INVALID, call_destroy, .number = 2},
     {"destroy with live blocks and no room", INVALID, call_destroy, .number = 0},
 
@@ -613,6 +627,29 @@ static const row rows[] = {
     {"allocate for addresses", INVALID, ALLOCATE, .request.usage = WT_USAGE_DEVICE_ADDRESS},
     {"allocate with no such wish", INVALID, ALLOCATE, .request.dedicated = 3},
     {"allocate with no such flag", INVALID, ALLOCATE, .request.flags = 4},
+    {"allocate with no such flag of this side's", INVALID, ALLOCATE, .request.flags = 0x200000},
+    {"allocate for an intent", INVALID, ALLOCATE, .request.usage = WTV_USAGE_AUTO},
+    {"allocate for the host without an intent", INVALID, ALLOCATE, .request.usage = WT_USAGE_UPLOAD,
+     .request.flags = WTV_HOST_ACCESS_SEQUENTIAL_WRITE},
+    {"allocate with alignment 3 beside a greater one", INVALID, call_allocate, .size = 100, .number = 3,
+     .flags = STUB_ALL_TYPES, .request.min_alignment = 16},
+    {"allocate with a least alignment of 24", INVALID, ALLOCATE, .request.min_alignment = 24},
+    {"allocate with properties for no usage", INVALID, ALLOCATE, .request.usage = 0x40,
+     .request.preferred = VK_MEMORY_PROPERTY_HOST_CACHED_BIT},
+    {"allocate lazily allocated memory", ABSENT, ALLOCATE,
+     .request.required = VK_MEMORY_PROPERTY_LAZILY_ALLOCATED_BIT},
+    {"allocate protected memory, if there is some", ABSENT, ALLOCATE,
+     .request.preferred = VK_MEMORY_PROPERTY_PROTECTED_BIT},
+    {"allocate what no type has", ABSENT, ALLOCATE,
+     .request.required = VK_MEMORY_PROPERTY_HOST_CACHED_BIT | VK_MEMORY_PROPERTY_DEVICE_LOCAL_BIT},
+    {"allocate what is preferred of no type", ABSENT, OF_TYPES(0),
+     .request.preferred = VK_MEMORY_PROPERTY_HOST_CACHED_BIT},
+    {"allocate what is preferred over all limits", LACKING, ALLOCATE, .request.dedicated = WT_REQUIRED,
+     .request.preferred = VK_MEMORY_PROPERTY_HOST_CACHED_BIT, .prepare = limit_all_heaps},
+    {"allocate what is preferred in vain", VK_ERROR_OUT_OF_HOST_MEMORY, ALLOCATE, .request.dedicated = WT_REQUIRED,
+     .request.preferred = VK_MEMORY_PROPERTY_HOST_CACHED_BIT, .prepare = answer_in_vain},
+    {"allocate what is mapped in vain", VK_ERROR_OUT_OF_HOST_MEMORY, ALLOCATE, .request.usage = WT_USAGE_UPLOAD,
+     .request.dedicated = WT_REQUIRED, .request.flags = WTV_MAPPED, .prepare = map_in_vain},
     {"allocate with an owner chained", INVALID, ALLOCATE, .request.next = &owner},
     {"allocate with an address chained", INVALID, ALLOCATE, .request.next = &address},
     {"allocate with an owner chained behind", INVALID, ALLOCATE, .request.next = &before_owner},
@@ -641,6 +678,10 @@ static const row rows[] = {
 
     {"allocate for no buffer", INVALID, call_allocate_for_no_buffer, .which = ZERO},
     {"allocate for no image", INVALID, call_allocate_for_no_image, .which = ZERO},
+    {"allocate for a buffer and an intent", INVALID, call_allocate_for_buffer,
+     .request.usage = WTV_USAGE_AUTO_PREFER_HOST},
+    {"allocate for an image and an intent", INVALID, call_allocate_for_image,
+     .request.usage = WTV_USAGE_AUTO_PREFER_DEVICE},
     {"allocate for a buffer with a flag", INVALID, call_allocate_for_buffer, .request.flags = WT_OPTIMAL},
     {"allocate for a buffer with a wrong flag", INVALID, call_allocate_for_buffer, .request.flags = 4},
     {"allocate for an image with a wrong flag", INVALID, call_allocate_for_image, .request.flags = 4},
@@ -654,6 +695,25 @@ static const row rows[] = {
     {"a buffer with a flag beside one that it may have", INVALID, BUFFER_WITH,
      .request.flags = WT_OPTIMAL | WT_HELD_ONLY},
     {"a buffer with an object of its own where nothing may be made", LACKING, BUFFER_WITH, OWN_OF_HELD},
+    {"a buffer with two intents", INVALID, BUFFER_WITH,
+     .request.usage = WTV_USAGE_AUTO | WTV_USAGE_AUTO_PREFER_HOST},
+    {"a buffer with an intent and a usage", INVALID, BUFFER_WITH, .request.usage = WTV_USAGE_AUTO | WT_USAGE_UPLOAD},
+    {"a buffer with both kinds of access", INVALID, BUFFER_WITH, .request.usage = WTV_USAGE_AUTO,
+     .request.flags = WTV_HOST_ACCESS_SEQUENTIAL_WRITE | WTV_HOST_ACCESS_RANDOM},
+    {"a buffer that may be copied, without access", INVALID, BUFFER_WITH, .request.usage = WTV_USAGE_AUTO,
+     .request.flags = WTV_HOST_ACCESS_ALLOW_TRANSFER_INSTEAD},
+    {"a buffer of an intent over all limits", LACKING, BUFFER_WITH, .request.usage = WTV_USAGE_AUTO,
+     .request.dedicated = WT_REQUIRED, .prepare = limit_all_heaps},
+    {"a buffer of an intent with all objects held", VK_ERROR_TOO_MANY_OBJECTS, BUFFER_WITH,
+     .request.usage = WTV_USAGE_AUTO, .request.dedicated = WT_REQUIRED, .prepare = hold_all_objects},
+    {"a buffer of an intent with an object of its own where nothing may be made", LACKING, BUFFER_WITH, OWN_OF_HELD,
+     .request.usage = WTV_USAGE_AUTO},
+    {"a buffer of an intent and no permitted type", ABSENT, BUFFER_WITH, .request.usage = WTV_USAGE_AUTO,
+     .request.memory_types = 1u << STUB_UNKNOWN},
+    {"a buffer of an intent that is too large", LACKING, call_create_buffer, .size = 5 << 20,
+     .request.usage = WTV_USAGE_AUTO},
+    {"a buffer of an intent in vain", VK_ERROR_OUT_OF_HOST_MEMORY, BUFFER_WITH, .request.usage = WTV_USAGE_AUTO,
+     .request.dedicated = WT_REQUIRED, .prepare = answer_in_vain},
     {"a buffer with a wrong usage", INVALID, BUFFER_WITH, .request.usage = 0x80},
     {"a buffer with a wrong wish", INVALID, BUFFER_WITH, .request.dedicated = 4},
     {"a buffer with a wrong chain", INVALID, BUFFER_WITH, .request.next = &owner},
@@ -666,13 +726,16 @@ static const row rows[] = {
     {"an image with a flag", INVALID, IMAGE_WITH, .request.flags = WT_OPTIMAL},
     {"a linear image with a flag", INVALID, IMAGE_WITH, .number = 1, .request.flags = WT_OPTIMAL},
     {"an image with an object of its own where nothing may be made", LACKING, IMAGE_WITH, OWN_OF_HELD},
+    {"an image with an intent and a usage", INVALID, IMAGE_WITH,
+     .request.usage = WTV_USAGE_AUTO | WT_USAGE_FAST_DEVICE_ACCESS},
+    {"an image with access and no intent", INVALID, IMAGE_WITH, .request.flags = WTV_HOST_ACCESS_RANDOM},
     {"an image with a wrong chain", INVALID, IMAGE_WITH, .request.next = &before_address},
     {"an image that is too large", LACKING, call_create_image, .size = 1500},
 };
 
 static void undo_preparation(world *w)
 {
-    is_in_vain = false;
+    is_in_vain = is_mapped_in_vain = false;
     while (fillers_len > 0)
         expect(wtv_free(w->allocator, fillers[--fillers_len]) == VK_SUCCESS, "a block is not taken back");
 }
@@ -700,6 +763,9 @@ static void run_unknown(void)
     static const row calls[] = {
         {"wtv_block_of", INVALID, call_block_of, .which = ZERO},
         {"wtv_set_user", INVALID, call_set_user, .which = ZERO},
+        {"wtv_set_name", INVALID, call_set_name, .which = ZERO},
+        {"wtv_set_name of no name", INVALID, call_take_name_away, .which = ZERO},
+        {"wtv_set_name of no text", INVALID, call_set_wrong_name, .which = ZERO},
         {"wtv_free", INVALID, call_free, .which = ZERO},
         {"wtv_map", INVALID, call_map, .which = ZERO},
         {"wtv_unmap", INVALID, call_unmap, .which = ZERO},
@@ -874,11 +940,28 @@ typedef struct deed {
     const char *name;
     VkResult (*call)(world *);
     void (*undo)(world *);
-    bool has_next; /* another memory type serves too */
+    bool has_next;   /* another memory type serves too */
+    bool has_to_map; /* a memory type whose block is not mapped does not serve */
 } deed;
 
 static const wtv_request shared_wish = {.usage = WT_USAGE_UPLOAD | WT_USAGE_TRANSIENT};
 static const wtv_request own_wish = {.usage = WT_USAGE_UPLOAD, .dedicated = WT_REQUIRED};
+static const wtv_request mapped_wish = {.usage = WT_USAGE_UPLOAD | WT_USAGE_TRANSIENT, .flags = WTV_MAPPED};
+static const wtv_request own_mapped_wish = {
+    .usage = WT_USAGE_UPLOAD,
+    .dedicated = WT_REQUIRED,
+    .flags = WTV_MAPPED,
+};
+static const wtv_request intent_wish = {
+    .usage = WTV_USAGE_AUTO | WT_USAGE_TRANSIENT,
+    .flags = WTV_MAPPED | WTV_HOST_ACCESS_SEQUENTIAL_WRITE,
+};
+static const wtv_request own_intent_wish = {.usage = WTV_USAGE_AUTO_PREFER_HOST, .dedicated = WT_REQUIRED};
+static const wtv_request preferred_wish = {
+    .usage = WT_USAGE_UPLOAD | WT_USAGE_TRANSIENT,
+    .preferred = VK_MEMORY_PROPERTY_HOST_CACHED_BIT,
+    .min_alignment = 512,
+};
 static const wtv_request image_wish = {.usage = WT_USAGE_FAST_DEVICE_ACCESS | WT_USAGE_TRANSIENT};
 static const wtv_request optimal_wish = {
     .usage = WT_USAGE_FAST_DEVICE_ACCESS | WT_USAGE_TRANSIENT,
@@ -908,6 +991,12 @@ static VkResult create_image(world *w, const wtv_request *wish, bool is_optimal)
 
 DEED(create_shared_buffer, create_buffer(w, &shared_wish))
 DEED(create_own_buffer, create_buffer(w, &own_wish))
+DEED(create_mapped_buffer, create_buffer(w, &mapped_wish))
+DEED(create_own_mapped_buffer, create_buffer(w, &own_mapped_wish))
+DEED(create_buffer_of_intent, create_buffer(w, &intent_wish))
+DEED(create_own_image_of_intent, create_image(w, &own_intent_wish, true))
+DEED(allocate_preferred, wtv_allocate(w->allocator, SMALL_NEEDS, &preferred_wish, &w->made, NULL))
+DEED(allocate_own_mapped, wtv_allocate(w->allocator, SMALL_NEEDS, &own_mapped_wish, &w->made, NULL))
 DEED(create_shared_image, create_image(w, &image_wish, true))
 DEED(create_own_image, create_image(w, &own_image_wish, false))
 DEED(allocate_for_buffer, wtv_allocate_for_buffer(w->allocator, w->loose_buffer, &shared_wish, &w->made, NULL))
@@ -962,21 +1051,27 @@ static void undo_nothing(world *w)
 }
 
 static const deed deeds[] = {
-    {"a shared buffer", create_shared_buffer, destroy_made, true},
-    {"a buffer with an own object", create_own_buffer, destroy_made, true},
-    {"a shared image", create_shared_image, destroy_made, true},
-    {"an image with an own object", create_own_image, destroy_made, true},
-    {"allocate for a buffer", allocate_for_buffer, replace_and_free, true},
-    {"allocate for an image", allocate_for_image, replace_and_free, true},
-    {"allocate in a shared object", allocate_shared, free_made, true},
-    {"allocate an own object", allocate_own, free_made, true},
-    {"bind a buffer", bind_loose_buffer, replace_loose, false},
-    {"bind an image", bind_loose_image, replace_loose, false},
-    {"map", map_own, unmap_own, false},
-    {"write", write_own, undo_nothing, false},
-    {"read", read_own, undo_nothing, false},
-    {"flush", flush_cached, undo_nothing, false},
-    {"invalidate", invalidate_cached, undo_nothing, false},
+    {"a shared buffer", create_shared_buffer, destroy_made, true, false},
+    {"a buffer with an own object", create_own_buffer, destroy_made, true, false},
+    {"a shared buffer that stays mapped", create_mapped_buffer, destroy_made, true, true},
+    {"a buffer with an own object that stays mapped", create_own_mapped_buffer, destroy_made, true, true},
+    {"a mapped buffer of an intent", create_buffer_of_intent, destroy_made, true, true},
+    {"an image of an intent with an own object", create_own_image_of_intent, destroy_made, true, false},
+    {"a shared image", create_shared_image, destroy_made, true, false},
+    {"an image with an own object", create_own_image, destroy_made, true, false},
+    {"allocate for a buffer", allocate_for_buffer, replace_and_free, true, false},
+    {"allocate for an image", allocate_for_image, replace_and_free, true, false},
+    {"allocate in a shared object", allocate_shared, free_made, true, false},
+    {"allocate an own object", allocate_own, free_made, true, false},
+    {"allocate an own object that stays mapped", allocate_own_mapped, free_made, true, true},
+    {"allocate what is preferred", allocate_preferred, free_made, true, false},
+    {"bind a buffer", bind_loose_buffer, replace_loose, false, false},
+    {"bind an image", bind_loose_image, replace_loose, false, false},
+    {"map", map_own, unmap_own, false, false},
+    {"write", write_own, undo_nothing, false, false},
+    {"read", read_own, undo_nothing, false, false},
+    {"flush", flush_cached, undo_nothing, false, false},
+    {"invalidate", invalidate_cached, undo_nothing, false, false},
 };
 
 /* Does a deed of which calls may be refused, and undoes it: then all is as before. */
@@ -994,12 +1089,13 @@ static VkResult done_and_undone(world *w, const deed *d)
 }
 
 /* Without an error that lets the next memory type be tried, the deed ends with the driver's own. An object for one
-   block alone is not mapped when it is made: where each mapping lacks device memory, the request is served by one. */
+   block alone is not mapped when it is made, unless its block has to stay mapped: where each mapping lacks device
+   memory, the request is served by one. */
 static bool is_as_said(const deed *d, stub_function refused, VkResult error, bool is_each, VkResult result)
 {
     bool is_for_objects = refused == STUB_ALLOCATE || refused == STUB_MAP;
     bool is_lack = error == VK_ERROR_OUT_OF_DEVICE_MEMORY || error == VK_ERROR_TOO_MANY_OBJECTS;
-    bool goes_on = is_for_objects && is_lack && d->has_next && (!is_each || refused == STUB_MAP);
+    bool goes_on = is_for_objects && is_lack && d->has_next && (!is_each || (refused == STUB_MAP && !d->has_to_map));
     return result == (goes_on ? VK_SUCCESS : error);
 }
 
@@ -1065,23 +1161,22 @@ static void run_refusals(void)
 
 /* ---- This side's memory, of which each piece is refused in turn. ---- */
 
-enum { OWN_BLOCKS = 20 };
+enum { OWN_BLOCKS = 20, MAPPED_BLOCKS = 20, MOST_SCARCE = OWN_BLOCKS + MAPPED_BLOCKS + 4 };
 
 static unsigned calls_failed;
 
 typedef struct scarcity {
     stub *driver;
     wtv_allocator *allocator;
-    wtv_allocation blocks[OWN_BLOCKS + 4];
+    wtv_allocation blocks[MOST_SCARCE];
     size_t blocks_len;
     VkDeviceMemory memory; /* to be imported */
 } scarcity;
 
-static VkResult take_one(scarcity *s, uint32_t usage, uint32_t dedicated)
+static VkResult take(scarcity *s, const wtv_request *request)
 {
     const VkMemoryRequirements needs = {SMALL, 16, 1u << STUB_CACHED};
-    const wtv_request request = {.usage = usage, .dedicated = dedicated};
-    VkResult result = wtv_allocate(s->allocator, &needs, &request, &s->blocks[s->blocks_len], NULL);
+    VkResult result = wtv_allocate(s->allocator, &needs, request, &s->blocks[s->blocks_len], NULL);
     s->blocks_len += result == VK_SUCCESS;
     return result;
 }
@@ -1124,9 +1219,15 @@ static VkResult write_text(scarcity *s, VkResult (*write)(wtv_allocator *, char 
         return __VA_ARGS__; \
     }
 
-SCARCELY(take_own, take_one(s, WT_USAGE_HOST_ACCESS, WT_REQUIRED))
-SCARCELY(take_shared, take_one(s, WT_USAGE_HOST_ACCESS, WT_SHARED))
-SCARCELY(take_transient, take_one(s, WT_USAGE_HOST_ACCESS | WT_USAGE_TRANSIENT, WT_SHARED))
+SCARCELY(take_own, take(s, &(wtv_request){.usage = WT_USAGE_HOST_ACCESS, .dedicated = WT_REQUIRED}))
+SCARCELY(take_mapped, take(s, &(wtv_request){.usage = WT_USAGE_HOST_ACCESS, .dedicated = WT_REQUIRED,
+                                             .flags = WTV_MAPPED}))
+SCARCELY(take_preferred, take(s, &(wtv_request){.usage = WT_USAGE_HOST_ACCESS,
+                                                .preferred = VK_MEMORY_PROPERTY_HOST_CACHED_BIT}))
+SCARCELY(take_shared, take(s, &(wtv_request){.usage = WT_USAGE_HOST_ACCESS}))
+SCARCELY(take_transient, take(s, &(wtv_request){.usage = WT_USAGE_HOST_ACCESS | WT_USAGE_TRANSIENT}))
+SCARCELY(name_last, wtv_set_name(s->allocator, s->blocks[s->blocks_len - 1], "the last one"))
+SCARCELY(name_first, wtv_set_name(s->allocator, s->blocks[0], "\"the first one\", in the place of another name"))
 SCARCELY(map_last, wtv_map(s->allocator, s->blocks[s->blocks_len - 1], &(void *){NULL}))
 SCARCELY(ask_candidates, wtv_candidates(s->allocator, WT_USAGE_UPLOAD, STUB_ALL_TYPES, (uint32_t[32]){0},
                                         &(uint32_t){0}))
@@ -1161,13 +1262,15 @@ static void call_scarcely(scarcity *s, VkResult (*call)(scarcity *))
 /* What only looks, or gives back, takes no memory. */
 static void end_without_memory(scarcity *s)
 {
-    wtv_block blocks[OWN_BLOCKS + 4];
+    wtv_block blocks[MOST_SCARCE];
     wtv_range ranges[2] = {{s->blocks[0], 0, 1}, {s->blocks[1], 0, VK_WHOLE_SIZE}};
     wt_heap_counts heap;
     size_t count;
     is_all_refused = true;
     expect(wtv_block_of(s->allocator, s->blocks[0], &blocks[0]) == VK_SUCCESS, "looking at a block takes memory");
     expect(wtv_set_user(s->allocator, s->blocks[0], 1) == VK_SUCCESS, "setting a value takes memory");
+    expect(wtv_set_name(s->allocator, s->blocks[1], NULL) == VK_SUCCESS, "taking a name away takes memory");
+    expect(wtv_set_name(s->allocator, s->blocks[2], "") == VK_SUCCESS, "taking a name away takes memory");
     expect(wtv_blocks(s->allocator, 0, blocks, LENGTH(blocks), &count) == VK_SUCCESS && count == s->blocks_len,
            "a walk takes memory");
     expect(wtv_flush(s->allocator, ranges, LENGTH(ranges)) == VK_SUCCESS, "a flush takes memory");
@@ -1188,8 +1291,10 @@ static void end_without_memory(scarcity *s)
 /* All calls that take memory, with one of its pieces refused. It says whether there is a piece of that number. */
 static bool run_scarcely(long served)
 {
-    static VkResult (*const calls[])(scarcity *) = {take_shared,    import_scarcely, map_last,         take_transient,
-                                                    ask_candidates, ask_statistics,  write_statistics, write_report};
+    static VkResult (*const calls[])(scarcity *) = {
+        take_shared, import_scarcely, map_last, take_transient, take_preferred, name_first, ask_candidates,
+        ask_statistics, write_statistics, write_report,
+    };
     stub_plan plan = stub_usual_plan();
     plan.flags = WTV_CREATE_MEMORY_BUDGET;
     scarcity s = {.driver = stub_open(&plan)};
@@ -1199,7 +1304,10 @@ static bool run_scarcely(long served)
     for (int i = 0; i < OWN_BLOCKS; i++) {
         call_scarcely(&s, take_own);
         call_scarcely(&s, map_last);
+        call_scarcely(&s, name_last);
     }
+    for (int i = 0; i < MAPPED_BLOCKS; i++)
+        call_scarcely(&s, take_mapped);
     for (size_t i = 0; i < LENGTH(calls); i++)
         call_scarcely(&s, calls[i]);
     call_scarcely(&s, flush_many);
@@ -1255,13 +1363,16 @@ static VKAPI_ATTR VkResult VKAPI_CALL create_without_addresses(VkDevice device, 
                                                                VkBuffer *buffer)
 {
     VkBufferCreateInfo plain = *info;
+    plain.pNext = NULL;
     plain.usage &= ~(VkBufferUsageFlags)VK_BUFFER_USAGE_SHADER_DEVICE_ADDRESS_BIT;
     return stub_table.create_buffer(device, &plain, callbacks, buffer);
 }
 
-/* A buffer with addresses: refused where they are not enabled, and else in memory that is near the device. */
-static void check_addresses(uint32_t flags, VkResult wanted, uint32_t usage, uint32_t wanted_type)
+/* A buffer with addresses, by its own usage or by the one that is chained: refused where they are not enabled, and else
+   in memory that is near the device. */
+static void check_addresses(bool is_chained, uint32_t flags, VkResult wanted, uint32_t usage, uint32_t wanted_type)
 {
+    const stub_usage_flags2 chained = {STUB_USAGE_FLAGS2, NULL, VK_BUFFER_USAGE_SHADER_DEVICE_ADDRESS_BIT};
     const wtv_functions without = {.create_buffer = create_without_addresses};
     stub_plan plan = stub_usual_plan();
     plan.flags = flags;
@@ -1272,7 +1383,10 @@ static void check_addresses(uint32_t flags, VkResult wanted, uint32_t usage, uin
     VkBuffer buffer = VK_NULL_HANDLE;
     wtv_allocation allocation = 0;
     wtv_block block;
-    info.usage |= VK_BUFFER_USAGE_SHADER_DEVICE_ADDRESS_BIT;
+    if (is_chained)
+        info.pNext = &chained;
+    else
+        info.usage |= VK_BUFFER_USAGE_SHADER_DEVICE_ADDRESS_BIT;
     expect(wtv_create_buffer(a, &info, &request, &buffer, &allocation, &block) == wanted, "another result");
     expect(wanted != VK_SUCCESS || block.memory_type == wanted_type, "another memory type");
     expect(wtv_destroy_buffer(a, buffer, allocation) == VK_SUCCESS, "a buffer is not destroyed");
@@ -1349,6 +1463,60 @@ static void unmap_beside(void)
     expect(wtv_unmap(beside->allocator, beside->at[OWN]) == VK_SUCCESS, "a block is not unmapped");
     expect(wtv_block_of(beside->allocator, beside->at[OWN], &block) == VK_SUCCESS && block.mapped != NULL
                && stub_object_of(beside->driver, block.memory).is_mapped, "a mapping ends while bytes are copied");
+}
+
+/* A call holds the lock once, whatever it does under it. */
+static void check_holds(world *w, const row *r)
+{
+    current = r->name;
+    seen_of_lock.holds = 0;
+    VkResult result = r->call(w, r);
+    stub_refuse(w->driver, STUB_FUNCTIONS, VK_SUCCESS, 0, false);
+    expect(result == r->wanted, "another result");
+    expect(seen_of_lock.holds == 1, "the lock is held more than once");
+}
+
+static void refuse_objects(world *w, const row *r)
+{
+    (void)r;
+    stub_refuse(w->driver, STUB_ALLOCATE, LACKING, 0, true);
+}
+
+static void refuse_mappings(world *w, const row *r)
+{
+    (void)r;
+    stub_refuse(w->driver, STUB_MAP, LACKING, 0, true);
+}
+
+#define OWN_OF(...) .request = {.dedicated = WT_REQUIRED, __VA_ARGS__}
+#define TRANSIENT_OF(...) .request = {__VA_ARGS__}
+
+/* Each memory type is asked, and asked once more, under one hold. */
+static void run_holds(void)
+{
+    static const row calls[] = {
+        {"a name", VK_SUCCESS, call_set_name, .which = OWN},
+        {"another name", VK_SUCCESS, call_set_name, .which = OWN},
+        {"no name", VK_SUCCESS, call_take_name_away, .which = OWN},
+        {"a name for no block", INVALID, call_set_name, .which = FREED},
+        {"an own object of preferred properties", LACKING, ALLOCATE, .prepare = refuse_objects,
+         OWN_OF(.usage = WT_USAGE_UPLOAD, .preferred = VK_MEMORY_PROPERTY_HOST_CACHED_BIT)},
+        {"preferred properties", LACKING, ALLOCATE, .prepare = refuse_objects,
+         TRANSIENT_OF(.usage = WT_USAGE_UPLOAD | WT_USAGE_TRANSIENT, .preferred = VK_MEMORY_PROPERTY_HOST_CACHED_BIT)},
+        {"a buffer of an intent", LACKING, BUFFER_WITH, .prepare = refuse_objects,
+         TRANSIENT_OF(.usage = WTV_USAGE_AUTO | WT_USAGE_TRANSIENT)},
+        {"an own object that is not mapped", LACKING, ALLOCATE, .prepare = refuse_mappings,
+         OWN_OF(.usage = WT_USAGE_UPLOAD, .flags = WTV_MAPPED)},
+        {"an own object of an intent that is not mapped", LACKING, BUFFER_WITH, .prepare = refuse_mappings,
+         OWN_OF(.usage = WTV_USAGE_AUTO, .flags = WTV_MAPPED | WTV_HOST_ACCESS_RANDOM)},
+    };
+    world w = begun("holds");
+    for (size_t i = 0; i < LENGTH(calls); i++) {
+        if (calls[i].prepare != NULL)
+            calls[i].prepare(&w, &calls[i]);
+        check_holds(&w, &calls[i]);
+    }
+    ended(&w);
 }
 
 /* Where another thread unmaps a block while bytes of it are copied, it stays mapped until they are. */
@@ -1679,41 +1847,69 @@ static void put_sum(expected_text *e, const char *name, uint64_t high, uint64_t 
         put(e, "\"%s\":18446744073%09llu", name, (unsigned long long)(low + 709551616));
 }
 
-static void put_kind(expected_text *e, const char *name, const wt_kind_statistics *kind)
+static const char *row_begin(bool *is_first)
 {
-    put(e, ",\"%s\":{\"objects\":%llu,\"blocks\":%llu,", name, (unsigned long long)kind->objects,
-        (unsigned long long)kind->blocks);
+    bool was_first = *is_first;
+    *is_first = false;
+    return was_first ? "\n" : ",\n";
+}
+
+/* What is held of one kind has a row, in the report's words. */
+static void put_kind(expected_text *e, bool *is_first, uint32_t type, const char *name, const wt_kind_statistics *kind)
+{
+    if (kind->objects == 0)
+        return;
+    put(e, "%s{\"memory_type\":%u,\"kind\":\"%s\",\"objects\":%llu,\"live_blocks\":%llu,", row_begin(is_first), type,
+        name, (unsigned long long)kind->objects, (unsigned long long)kind->blocks);
     put_sum(e, "live_bytes", kind->live_bytes_high, kind->live_bytes);
     put(e, ",");
+    put_sum(e, "asked_bytes", kind->asked_bytes_high, kind->asked_bytes);
+    put(e, ",");
     put_sum(e, "free_bytes", kind->free_bytes_high, kind->free_bytes);
-    put(e, ",\"largest_free\":%llu}", (unsigned long long)kind->largest_free);
+    put(e, ",\"largest_free\":%llu,\"scattered\":%llu}", (unsigned long long)kind->largest_free,
+        (unsigned long long)kind->scattered);
+}
+
+static void put_kinds(expected_text *e, wtv_allocator *a)
+{
+    bool is_first = true;
+    for (uint32_t i = 0; i < STUB_TYPES; i++) {
+        wt_type_statistics type;
+        expect(wtv_statistics(a, i, &type) == VK_SUCCESS, "no statistics");
+        put_kind(e, &is_first, i, "Dedicated", &type.dedicated);
+        put_kind(e, &is_first, i, "Imported", &type.imported);
+        put_kind(e, &is_first, i, "BuddyChunk", &type.buddy);
+        put_kind(e, &is_first, i, "FreeListChunk", &type.free_list);
+        put_kind(e, &is_first, i, "FitChunk", &type.fit);
+    }
+}
+
+/* The properties that have a name in the library. */
+static unsigned known_properties(uint32_t type)
+{
+    return stub_types[type].propertyFlags & ~(VkMemoryPropertyFlags)VK_MEMORY_PROPERTY_DEVICE_COHERENT_BIT_AMD;
 }
 
 static void put_statistics(expected_text *e, wtv_allocator *a)
 {
+    bool is_first = true;
     put(e, "{\"heaps\":[");
     for (uint32_t i = 0; i < STUB_HEAPS; i++) {
         wt_heap_counts heap;
         expect(wtv_heap(a, i, &heap) == VK_SUCCESS, "a heap is not counted");
-        put(e, "%s{\"size\":%llu,\"limit\":%llu,", i > 0 ? "," : "", (unsigned long long)stub_heaps[i].size,
+        put(e, "%s{\"size\":%llu,\"limit\":%llu,", row_begin(&is_first), (unsigned long long)stub_heaps[i].size,
             (unsigned long long)heap.limit);
         put_sum(e, "used", heap.used_high, heap.used);
         put(e, ",\"budget\":%llu}", (unsigned long long)heap.budget);
     }
-    put(e, "],\"types\":[");
-    for (uint32_t i = 0; i < STUB_TYPES; i++) {
-        wt_type_statistics type;
-        expect(wtv_statistics(a, i, &type) == VK_SUCCESS, "no statistics");
-        put(e, "%s{\"heap\":%u,\"properties\":%u", i > 0 ? "," : "", (unsigned)stub_types[i].heapIndex,
-            (unsigned)stub_types[i].propertyFlags);
-        put_kind(e, "dedicated", &type.dedicated);
-        put_kind(e, "imported", &type.imported);
-        put_kind(e, "buddy", &type.buddy);
-        put_kind(e, "free_list", &type.free_list);
-        put_kind(e, "fit", &type.fit);
-        put(e, "}");
-    }
-    put(e, "]}");
+    put(e, "\n],\"types\":[");
+    is_first = true;
+    for (uint32_t i = 0; i < STUB_TYPES; i++)
+        put(e, "%s{\"heap\":%u,\"properties\":%u}", row_begin(&is_first), (unsigned)stub_types[i].heapIndex,
+            known_properties(i));
+    put(e, "\n],\"kinds\":[");
+    put_kinds(e, a);
+    put(e, "\n]}\n");
 }
 
 static void check_statistics(world *w)
@@ -1751,9 +1947,14 @@ static void run_texts(void)
 static void run_addresses(void)
 {
     current = "addresses";
-    check_addresses(0, INVALID, 0, 0);
-    check_addresses(WTV_CREATE_DEVICE_ADDRESS, VK_SUCCESS, 0, STUB_LOCAL);
-    check_addresses(WTV_CREATE_DEVICE_ADDRESS, VK_SUCCESS, WT_USAGE_UPLOAD, STUB_COHERENT);
+    for (int is_chained = 0; is_chained < 2; is_chained++) {
+        check_addresses(is_chained, 0, INVALID, 0, 0);
+        check_addresses(is_chained, 0, INVALID, WT_USAGE_UPLOAD, 0);
+        check_addresses(is_chained, 0, INVALID, WTV_USAGE_AUTO, 0);
+        check_addresses(is_chained, WTV_CREATE_DEVICE_ADDRESS, VK_SUCCESS, 0, STUB_LOCAL);
+        check_addresses(is_chained, WTV_CREATE_DEVICE_ADDRESS, VK_SUCCESS, WT_USAGE_UPLOAD, STUB_COHERENT);
+        check_addresses(is_chained, WTV_CREATE_DEVICE_ADDRESS, VK_SUCCESS, WTV_USAGE_AUTO, STUB_LOCAL);
+    }
 }
 
 static void run_zeros(void)
@@ -1923,6 +2124,7 @@ int main(void)
     run_addresses();
     run_copies();
     run_unmapped_copies();
+    run_holds();
     run_binds();
     run_owners();
     run_alone();

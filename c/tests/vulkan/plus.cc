@@ -1,4 +1,4 @@
-// wallthyme.hpp over a stub of a driver: moves, ends in each order, containers, errors in the middle, threads.
+// wallthyme.hpp over a stub of a driver: moves, ends in each order, containers, wishes, errors in the middle, threads.
 //
 // It is compiled twice and linked into one program: with exceptions, and without exceptions and RTTI, so that files of
 // both forms meet.
@@ -381,6 +381,78 @@ void test_blocks() {
     stub_table.destroy_image(device, image, nullptr);
 }
 
+// ---- Intents, mappings that last, binds by the program, names. ----
+
+wtv_request staging(uint32_t flags) {
+    wtv_request made = request(WTV_USAGE_AUTO);
+    made.flags = WTV_MAPPED | WTV_HOST_ACCESS_SEQUENTIAL_WRITE | flags;
+    made.dedicated = WT_REQUIRED;
+    return made;
+}
+
+void test_mapped(const Driver &driver, const Allocator &memory) {
+    const Buffer buffer = got(memory.create_buffer(stub_buffer_info(100), staging(0)));
+    const wtv_block block = got(buffer.info());
+    must(block.memory_type == STUB_COHERENT && block.mapped != nullptr, "a staging buffer is not mapped");
+    memcpy(block.mapped, "abc", 3);
+    must(memcmp(stub_buffer_bytes(driver.get(), buffer.get()), "abc", 3) == 0, "a pointer is another block's");
+    const Mapping mapping = got(buffer.map());
+    must(mapping.get() == block.mapped && driver.held().mapped == 1, "a mapping is another pointer");
+    const Buffer moved(got(memory.create_buffer(stub_buffer_info(100), staging(0))));
+    must(got(moved.info()).mapped != nullptr && driver.held().mapped == 2, "a moved buffer is not mapped");
+}
+
+void test_bound_later(const Driver &driver, const Allocator &memory) {
+    wtv_request unbound = request(WTV_USAGE_AUTO_PREFER_DEVICE);
+    unbound.flags = WTV_DONT_BIND;
+    const uint64_t bound = driver.held().bound;
+    const Buffer buffer = got(memory.create_buffer(stub_buffer_info(100), unbound));
+    const Image image = got(memory.create_image(stub_image_info(16, 16, true), unbound));
+    must(driver.held().bound == bound, "what the program binds is bound");
+    DONE(buffer.bind());
+    DONE(image.bind());
+    const wtv_block block = got(buffer.info()), of_image = got(image.info());
+    must(driver.held().bound == bound + 2, "what the program binds is not bound");
+    must(stub_buffer_bytes(driver.get(), buffer.get())
+             == stub_memory_bytes(driver.get(), block.memory, block.offset, block.asked),
+         "a buffer is bound elsewhere");
+    must(stub_image_bytes(driver.get(), image.get())
+             == stub_memory_bytes(driver.get(), of_image.memory, of_image.offset, of_image.asked),
+         "an image is bound elsewhere");
+}
+
+void test_names(const Allocator &memory) {
+    const Buffer buffer = buffer_of(memory);
+    const Block block = block_of(memory);
+    DONE(buffer.set_name("mesh"));
+    DONE(block.set_name("a block"));
+    must(strcmp(got(buffer.info()).name, "mesh") == 0 && strcmp(got(block.info()).name, "a block") == 0, "no name");
+    must(strstr(got(memory.report_text()).get(), ",\"name\":\"mesh\"") != nullptr, "a report lacks a name");
+    must(ERROR_OF(buffer.set_name("\xff")) == VK_ERROR_VALIDATION_FAILED_EXT, "a name is not UTF-8");
+    must(strcmp(got(buffer.info()).name, "mesh") == 0, "a name that is refused takes the place of another one");
+    DONE(buffer.set_name(nullptr));
+    DONE(block.set_name(""));
+    must(got(buffer.info()).name == nullptr && got(block.info()).name == nullptr, "a name is not taken away");
+    DONE(buffer.set_name("freed with its block"));
+}
+
+void test_wishes() {
+    const Driver driver;
+    {
+        const Allocator memory = driver.allocator();
+        test_mapped(driver, memory);
+        test_bound_later(driver, memory);
+        test_names(memory);
+        must(ERROR_OF(memory.allocate(needs_of(100), request(WTV_USAGE_AUTO))) == VK_ERROR_VALIDATION_FAILED_EXT,
+             "an intent is for a block alone");
+        must(ERROR_OF(memory.create_buffer(stub_buffer_info(100), staging(WTV_HOST_ACCESS_RANDOM)))
+                 == VK_ERROR_VALIDATION_FAILED_EXT,
+             "two kinds of access go together");
+        must(live(memory) == 0, "an error left a block behind");
+    }
+    must(driver.is_empty(), "something is held");
+}
+
 void test_release() {
     const Driver driver;
     const Allocator memory = driver.allocator();
@@ -542,6 +614,8 @@ void test_errors_of_empty_objects() {
     must(ERROR_OF(buffer.write(0, &byte, 1)) == refused, "an empty buffer is written");
     must(ERROR_OF(buffer.read(0, &byte, 1)) == refused, "an empty buffer is read");
     must(ERROR_OF(buffer.set_user(1)) == refused, "an empty buffer has a value");
+    must(ERROR_OF(buffer.set_name("none")) == refused, "an empty buffer has a name");
+    must(ERROR_OF(buffer.bind()) == refused && ERROR_OF(Image().bind()) == refused, "nothing is bound");
     must(ERROR_OF(block.bind_buffer(VkBuffer())) == refused, "a buffer is bound to an empty block");
     must(ERROR_OF(block.bind_image(VkImage())) == refused, "an image is bound to an empty block");
     must(ERROR_OF(mapping.flush()) == refused, "an empty mapping is flushed");
@@ -741,6 +815,7 @@ void test_all() {
     test_containers();
     test_bytes();
     test_blocks();
+    test_wishes();
     test_release();
     test_live_at_end();
     test_counts();
@@ -752,7 +827,7 @@ void test_all() {
     test_growth();
     test_texts();
     test_threads();
-    printf("plus: moves, ends in 720 orders, containers, errors in the middle, threads, with %s\n", FORM);
+    printf("plus: moves, ends in 720 orders, containers, wishes, errors in the middle, threads, with %s\n", FORM);
 }
 
 } // namespace

@@ -26,9 +26,11 @@ int main() {
             const VkMemoryRequirements needs = {100 * (i + 1), 16, STUB_ALL_TYPES};
             const wtv_request request = wallthyme::request(WT_USAGE_FAST_DEVICE_ACCESS, UINT64_MAX - i);
             must(wtv_allocate(left, &needs, &request, &allocation, &blocks[i]) == VK_SUCCESS, "no block");
-            printf("wallthyme: live block: size %llu, key %llu, user %llu\n",
+            if (i % 3 == 0)
+                must(wtv_set_name(left, allocation, "\"mesh\" %s") == VK_SUCCESS, "a block is not named");
+            printf("wallthyme: live block: size %llu, key %llu, user %llu%s\n",
                    static_cast<unsigned long long>(blocks[i].size), static_cast<unsigned long long>(allocation),
-                   static_cast<unsigned long long>(blocks[i].user));
+                   static_cast<unsigned long long>(blocks[i].user), i % 3 == 0 ? ", name \"mesh\" %s" : "");
         }
         fflush(stdout);
     }

@@ -28,7 +28,8 @@ static long peak_kibibytes(void)
     return peak;
 }
 
-/* One of them in sixteen has an object of its own, and is mapped when it is freed; another one has a buffer. */
+/* One of them in sixteen has an object of its own, half of these stay mapped, and all are mapped when they are freed;
+   another one has a buffer. One in five has a name. */
 static void exchange(wtv_allocator *a, held *h, uint64_t number)
 {
     const VkMemoryRequirements needs = {1 + mixed(number) % 3000, 64, STUB_ALL_TYPES};
@@ -41,12 +42,16 @@ static void exchange(wtv_allocator *a, held *h, uint64_t number)
         request.usage |= WT_USAGE_TRANSIENT;
     if (number % 16 == 0)
         request.dedicated = WT_REQUIRED;
+    if (number % 32 == 0)
+        request.flags = WTV_MAPPED;
     if (number % 16 == 1)
         must(wtv_create_buffer(a, &info, &request, &h->buffer, &h->allocation, NULL) == VK_SUCCESS, "no buffer");
     else
         must(wtv_allocate(a, &needs, &request, &h->allocation, NULL) == VK_SUCCESS, "no block");
     if (number % 2 == 0)
         must(wtv_map(a, h->allocation, &bytes) == VK_SUCCESS, "a block is not mapped");
+    if (number % 5 == 0)
+        must(wtv_set_name(a, h->allocation, "one in five") == VK_SUCCESS, "a block is not named");
 }
 
 /* Each round ends with nothing live. */

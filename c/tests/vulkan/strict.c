@@ -311,6 +311,13 @@ static void leave_a_buffer_untyped(const device *d)
 }
 
 RULE(create_a_wrong_buffer, buffer_sized(d, 0))
+static void chain_to_a_buffer(const device *d)
+{
+    VkBufferCreateInfo info = stub_buffer_info(1000);
+    info.pNext = &no_structure_of_objects;
+    buffer_of(d, &info);
+}
+
 RULE(create_a_wrong_image, image_of(d, 1, VK_IMAGE_CREATE_DISJOINT_BIT, true))
 RULE(create_an_empty_image, image_of(d, 0, 0, true))
 RULE(map_what_is_not_seen, mapped(d, object_of(d, STUB_LOCAL), 0, SIZE))
@@ -383,6 +390,7 @@ static const rule rules[] = {
     {"a wrong sType", leave_an_object_untyped, NEW},
     {"a wrong chain", chain_to_an_object, NEW},
     {"a wrong chain", chain_to_an_object_twice, NEW},
+    {"a wrong chain", chain_to_a_buffer, NEW},
     {"wrong flags", ask_for_wrong_flags, NEW, ADDRESSES},
     {"wrong flags", ask_for_one_device, NEW, ADDRESSES},
     {"device addresses are not enabled", ask_for_addresses, NEW},

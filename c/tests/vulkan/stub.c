@@ -414,7 +414,11 @@ static bool is_enabled(const stub *s, uint32_t flag)
 
 static void fill_properties(const stub *s, VkPhysicalDeviceProperties *properties)
 {
-    *properties = (VkPhysicalDeviceProperties){.apiVersion = s->plan.api_version, .deviceName = "stub"};
+    *properties = (VkPhysicalDeviceProperties){
+        .apiVersion = s->plan.api_version,
+        .deviceType = s->plan.device_type,
+        .deviceName = "stub",
+    };
     properties->limits.maxMemoryAllocationCount = s->plan.max_objects;
     properties->limits.nonCoherentAtomSize = s->plan.atom;
     properties->limits.bufferImageGranularity = s->plan.page;
@@ -588,6 +592,8 @@ static VKAPI_ATTR VkResult VKAPI_CALL allocate_memory(VkDevice device, const VkM
     check_callbacks(s, callbacks, STUB_ALLOCATE);
     check_chain(s, info);
     uint64_t owner = owner_of(s, info);
+    if (s->plan.asked != NULL)
+        s->plan.asked(s->plan.user, type, info->allocationSize);
     if (!holds(s, type < s->plan.types_count, name, "no such memory type"))
         return VK_ERROR_UNKNOWN;
     VkResult refused = refusal(s, STUB_ALLOCATE);
@@ -782,15 +788,28 @@ static void destroy_resource(stub *s, kind of, uint64_t handle, const VkAllocati
     free_record(destroyed, callbacks);
 }
 
+/* A usage that is chained counts in place of the info's own. */
+static uint64_t usage_of(const VkBufferCreateInfo *info)
+{
+    const stub_usage_flags2 *usage = chained(info->pNext, STUB_USAGE_FLAGS2);
+    return usage != NULL ? usage->usage : info->usage;
+}
+
 static VKAPI_ATTR VkResult VKAPI_CALL create_buffer(VkDevice device, const VkBufferCreateInfo *info,
                                                     const VkAllocationCallbacks *callbacks, VkBuffer *buffer)
 {
+    static const VkStructureType types[] = {
+        STUB_USAGE_FLAGS2,
+        VK_STRUCTURE_TYPE_EXTERNAL_MEMORY_BUFFER_CREATE_INFO,
+    };
     stub *s = begun_of_device(device, STUB_CREATE_BUFFER);
     const char *name = stub_names[STUB_CREATE_BUFFER];
-    bool has_address = (info->usage & VK_BUFFER_USAGE_SHADER_DEVICE_ADDRESS_BIT) != 0;
+    uint64_t usage = usage_of(info);
+    bool has_address = (usage & VK_BUFFER_USAGE_SHADER_DEVICE_ADDRESS_BIT) != 0;
     check_callbacks(s, callbacks, STUB_CREATE_BUFFER);
-    holds(s, info->sType == VK_STRUCTURE_TYPE_BUFFER_CREATE_INFO && info->pNext == NULL, name, "a wrong sType");
-    holds(s, info->size > 0 && info->usage != 0 && info->flags == 0, name, "a wrong field");
+    holds(s, info->sType == VK_STRUCTURE_TYPE_BUFFER_CREATE_INFO, name, "a wrong sType");
+    holds(s, is_chain_of(info->pNext, types, LENGTH(types)), name, "a wrong chain");
+    holds(s, info->size > 0 && usage != 0 && info->flags == 0, name, "a wrong field");
     holds(s, !has_address || is_enabled(s, WTV_CREATE_DEVICE_ADDRESS), name, "device addresses are not enabled");
     VkResult refused = refusal(s, STUB_CREATE_BUFFER);
     if (refused != VK_SUCCESS)
@@ -1059,7 +1078,7 @@ stub *stub_open(const stub_plan *plan)
     s->instance.of = s->physical.of = s->device.of = s;
     s->refused = STUB_FUNCTIONS;
     s->hidden = STUB_ANY;
-    must(plan->types_count <= STUB_TYPES && plan->heaps_count <= STUB_HEAPS, "the stub lacks room");
+    must(plan->types_count <= VK_MAX_MEMORY_TYPES && plan->heaps_count <= STUB_HEAPS, "the stub lacks room");
     must(pthread_mutex_init(&s->lock, NULL) == 0, "the stub has no lock");
     for (uint32_t i = 0; i < plan->heaps_count; i++)
         s->budgets[i] = s->limits[i] = plan->heaps[i].size;

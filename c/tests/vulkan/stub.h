@@ -107,16 +107,18 @@ typedef struct stub_plan {
     VkDeviceSize granted;             /* larger objects are refused for want of device memory */
     const VkMemoryType *types;
     const VkMemoryHeap *heaps;
-    uint32_t types_count, heaps_count; /* at most STUB_TYPES and STUB_HEAPS */
+    uint32_t types_count, heaps_count; /* at most VK_MAX_MEMORY_TYPES and STUB_HEAPS */
     VkDeviceSize alignment; /* of each resource, which needs as many bytes as it has. 0: what it needs is drawn */
     uint32_t permitted;     /* with an alignment: the memory types of each resource, */
     VkBool32 prefers_own, requires_own; /* and whether it wants an object of its own */
     const VkAllocationCallbacks *callbacks; /* what each call that takes them has to be given, or null */
     void (*called)(void *user, const char *name); /* hears of each call; or null */
     void (*passed)(void *user, uint32_t count, const VkMappedMemoryRange *ranges); /* of each flush and invalidate */
-    void *user;         /* what those two get */
+    void *user;         /* what those two get, and the third one below */
     bool draws_budgets; /* a new budget each time that it is read */
     bool is_quiet;      /* failures are counted, and not printed */
+    VkPhysicalDeviceType device_type;
+    void (*asked)(void *user, uint32_t memory_type, VkDeviceSize size); /* hears of each object that is asked for */
 } stub_plan;
 
 /* A device with the usual limits, which refuses nothing. */
@@ -213,6 +215,14 @@ extern const size_t stub_sizes[4];
 /* Callbacks that count the pieces of memory that were taken by them, and those that were given back. */
 extern const VkAllocationCallbacks stub_callbacks;
 extern uint64_t stub_pieces_taken, stub_pieces_given;
+
+/* VkBufferUsageFlags2CreateInfo, which older headers lack, and its sType. */
+typedef struct stub_usage_flags2 {
+    VkStructureType type;
+    const void *next;
+    uint64_t usage;
+} stub_usage_flags2;
+#define STUB_USAGE_FLAGS2 ((VkStructureType)1000470006)
 
 /* Infos with their usual fields. */
 

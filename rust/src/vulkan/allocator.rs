@@ -4,9 +4,11 @@ use super::calls::Resource;
 use super::device::{Device, Requirements};
 use super::device_for::DeviceFor;
 use super::error::Error;
-use super::info::{Enabled, MemoryRequest};
+use super::info::MemoryRequest;
 use super::raw::{self, BufferCreateInfo, ImageCreateInfo, Memory, Tiling};
-use crate::{AllocationError, Config, Dedicated, GpuAllocator, MemoryBlock, Request, Sharing, UsageFlags};
+use super::search::{allocate, allocate_and_bind};
+use super::wish::Wish;
+use crate::{Config, GpuAllocator, MemoryBlock, Sharing, UsageFlags};
 use std::mem::forget;
 
 /// A buffer and its memory, to be destroyed by [`Allocator::destroy_buffer`]. One that is dropped is reported by its
@@ -14,7 +16,7 @@ use std::mem::forget;
 #[derive(Debug)]
 #[must_use]
 pub struct Buffer {
-    /// The buffer, bound to the block's first byte.
+    /// The buffer, bound to the block's first byte, unless the program binds it ([`MemoryRequest::dont_bind`]).
     pub handle: raw::Buffer,
     /// Its memory.
     pub block: MemoryBlock<Memory>,
@@ -25,7 +27,7 @@ pub struct Buffer {
 #[derive(Debug)]
 #[must_use]
 pub struct Image {
-    /// The image, bound to the block's first byte.
+    /// The image, bound to the block's first byte, unless the program binds it ([`MemoryRequest::dont_bind`]).
     pub handle: raw::Image,
     /// Its memory.
     pub block: MemoryBlock<Memory>,
@@ -102,18 +104,24 @@ impl Allocator {
     ///
     /// # Errors
     ///
-    /// [`Error::SparseBuffer`], [`Error::NoDeviceAddress`], [`Error::Chained`], [`Error::Driver`],
-    /// [`Error::Allocation`]. Whatever was made is destroyed then. Only after a refused bind a free chunk of transient
-    /// blocks, or a free fit chunk, may stay until [`cleanup`](Allocator::cleanup).
+    /// [`Error::SparseBuffer`], [`Error::UsageWithIntent`], [`Error::BadAlignment`], [`Error::ForbiddenProperties`],
+    /// [`Error::NoDeviceAddress`], [`Error::Chained`], [`Error::Driver`], [`Error::Allocation`]. Whatever was made is
+    /// destroyed then. Only after a refused bind a free chunk of transient blocks, or a free fit chunk, may stay until
+    /// [`cleanup`](Allocator::cleanup).
     ///
     /// Where the driver refuses a memory object with `VK_ERROR_OUT_OF_DEVICE_MEMORY` or `VK_ERROR_TOO_MANY_OBJECTS`,
     /// the next memory type is tried. Any other error ends the request.
     ///
     /// A shared object may be refused while there is memory for the buffer alone: a heap is nearly full, its limit is
     /// low, or the driver makes no object that large. Where all memory types were refused for want of device memory, a
-    /// request that is not [`Dedicated::Required`] is tried once more with an object of its own, without the types
-    /// whose driver refused such an object in it. So each type is tried shared before any is tried alone, and each
-    /// block that is served so costs one of the few objects. Where that is refused too, the first error is returned.
+    /// request that is not [`Dedicated::Required`](crate::Dedicated::Required) is tried once more with an object of its
+    /// own, without the types whose driver refused such an object in it. So each type is tried shared before any is
+    /// tried alone, and each block that is served so costs one of the few objects. Where that is refused too, the first
+    /// error is returned.
+    ///
+    /// With an intent ([`MemoryRequest::intent`]) or preferred properties ([`MemoryRequest::preferred`]) memory types
+    /// are asked one by one, in their order, and the second try comes before the next type. Where all are refused, the
+    /// error of the first one is returned.
     ///
     /// # Panics
     ///
@@ -131,12 +139,14 @@ impl Allocator {
         info: &BufferCreateInfo,
         request: impl Into<MemoryRequest>,
     ) -> Result<Buffer, Error> {
-        let mut request = request.into();
         if info.flags & raw::CREATE_SPARSE != 0 {
             return Err(Error::SparseBuffer);
         }
-        if info.usage & raw::USAGE_SHADER_DEVICE_ADDRESS != 0 {
-            request.usage |= match request.usage.is_empty() {
+        // SAFETY: what `info` points to lives, as the caller says.
+        let usage = unsafe { info.usage_of_chain() };
+        let mut wish = Wish::with_info(request.into(), usage, &self.device)?;
+        if usage & raw::USAGE_SHADER_DEVICE_ADDRESS != 0 {
+            wish.request.usage |= match wish.request.usage.is_empty() {
                 true => UsageFlags::FAST_DEVICE_ACCESS | UsageFlags::DEVICE_ADDRESS,
                 false => UsageFlags::DEVICE_ADDRESS,
             };
@@ -145,7 +155,7 @@ impl Allocator {
         let handle = unsafe { self.device.create_buffer(info) }?;
         let created = Created { device: &self.device, resource: Resource::Buffer(handle) };
         // SAFETY: the buffer was created here, and `next` is as the caller says.
-        let block = unsafe { allocate_and_bind(&mut self.core, &self.device, created.resource, false, &request) }?;
+        let block = unsafe { allocate_and_bind(&mut self.core, &self.device, created.resource, false, &wish) }?;
         created.keep();
         Ok(Buffer { handle, block })
     }
@@ -155,9 +165,8 @@ impl Allocator {
     ///
     /// # Errors
     ///
-    /// [`Error::SparseImage`], [`Error::DisjointImage`], [`Error::NoDeviceAddress`], [`Error::Chained`],
-    /// [`Error::Driver`], [`Error::Allocation`]. Whatever was made is destroyed then, and what may stay is as for
-    /// `create_buffer`.
+    /// [`Error::SparseImage`], [`Error::DisjointImage`], and those of `create_buffer` but [`Error::SparseBuffer`].
+    /// Whatever was made is destroyed then, and what may stay is as for `create_buffer`.
     ///
     /// # Panics
     ///
@@ -178,13 +187,13 @@ impl Allocator {
         if info.flags & raw::CREATE_DISJOINT != 0 {
             return Err(Error::DisjointImage);
         }
+        let wish = Wish::with_info(request.into(), info.usage.into(), &self.device)?;
         let optimal = info.tiling != Tiling::LINEAR;
         // SAFETY: as the caller says.
         let handle = unsafe { self.device.create_image(info) }?;
         let created = Created { device: &self.device, resource: Resource::Image(handle) };
-        let request = request.into();
         // SAFETY: the image was created here, and `next` is as the caller says.
-        let block = unsafe { allocate_and_bind(&mut self.core, &self.device, created.resource, optimal, &request) }?;
+        let block = unsafe { allocate_and_bind(&mut self.core, &self.device, created.resource, optimal, &wish) }?;
         created.keep();
         Ok(Image { handle, block })
     }
@@ -233,8 +242,9 @@ impl Allocator {
     ///
     /// # Errors
     ///
-    /// [`Error::NoDeviceAddress`], [`Error::Chained`], [`Error::Driver`], [`Error::Allocation`]. The buffer stays, and
-    /// has no memory. Only after a refused bind a free chunk of transient blocks, or a free fit chunk, may stay until
+    /// [`Error::NoCreateInfo`], [`Error::BadAlignment`], [`Error::ForbiddenProperties`], [`Error::NoDeviceAddress`],
+    /// [`Error::Chained`], [`Error::Driver`], [`Error::Allocation`]. The buffer stays, and has no memory. Only after a
+    /// refused bind a free chunk of transient blocks, or a free fit chunk, may stay until
     /// [`cleanup`](Allocator::cleanup).
     ///
     /// # Panics
@@ -252,9 +262,9 @@ impl Allocator {
         buffer: raw::Buffer,
         request: impl Into<MemoryRequest>,
     ) -> Result<MemoryBlock<Memory>, Error> {
-        let resource = Resource::Buffer(buffer);
+        let (resource, wish) = (Resource::Buffer(buffer), Wish::new(request.into())?);
         // SAFETY: as the caller says.
-        unsafe { allocate_and_bind(&mut self.core, &self.device, resource, false, &request.into()) }
+        unsafe { allocate_and_bind(&mut self.core, &self.device, resource, false, &wish) }
     }
 
     /// Allocates a block for an image that the program created with this tiling, and binds it. What is tried after a
@@ -262,9 +272,9 @@ impl Allocator {
     ///
     /// # Errors
     ///
-    /// [`Error::NoDeviceAddress`], [`Error::Chained`], [`Error::Driver`], [`Error::Allocation`]. The image stays, and
-    /// has no memory. After a refused bind a free chunk may stay, as for
-    /// [`allocate_for_buffer`](Allocator::allocate_for_buffer).
+    /// [`Error::NoCreateInfo`], [`Error::BadAlignment`], [`Error::ForbiddenProperties`], [`Error::NoDeviceAddress`],
+    /// [`Error::Chained`], [`Error::Driver`], [`Error::Allocation`]. The image stays, and has no memory. After a
+    /// refused bind a free chunk may stay, as for [`allocate_for_buffer`](Allocator::allocate_for_buffer).
     ///
     /// # Panics
     ///
@@ -283,8 +293,9 @@ impl Allocator {
         request: impl Into<MemoryRequest>,
     ) -> Result<MemoryBlock<Memory>, Error> {
         let (resource, optimal) = (Resource::Image(image), tiling != Tiling::LINEAR);
+        let wish = Wish::new(request.into())?;
         // SAFETY: as the caller says.
-        unsafe { allocate_and_bind(&mut self.core, &self.device, resource, optimal, &request.into()) }
+        unsafe { allocate_and_bind(&mut self.core, &self.device, resource, optimal, &wish) }
     }
 
     /// Allocates a block for given requirements, and binds nothing to it: [`Device::bind_buffer`] and
@@ -293,8 +304,8 @@ impl Allocator {
     ///
     /// # Errors
     ///
-    /// [`Error::NoDeviceAddress`], [`Error::Chained`], [`Error::Driver`], [`Error::Allocation`]. Nothing is changed
-    /// then.
+    /// [`Error::NoCreateInfo`], [`Error::BadAlignment`], [`Error::ForbiddenProperties`], [`Error::NoDeviceAddress`],
+    /// [`Error::Chained`], [`Error::Driver`], [`Error::Allocation`]. Nothing is changed then.
     ///
     /// # Panics
     ///
@@ -308,9 +319,27 @@ impl Allocator {
         requirements: &Requirements,
         request: impl Into<MemoryRequest>,
     ) -> Result<MemoryBlock<Memory>, Error> {
-        let asked = DeviceFor::none(&self.device);
+        let (asked, wish) = (DeviceFor::none(&self.device), Wish::new(request.into())?);
         // SAFETY: the device is the allocator's, and `next` is as the caller says.
-        unsafe { allocate(&mut self.core, &self.device, asked, requirements, &request.into()) }
+        unsafe { allocate(&mut self.core, &self.device, asked, requirements, &wish) }
+    }
+
+    /// The memory types that would serve a request, the first one that is asked first. What a resource's requirements
+    /// exclude is not left out: [`MemoryRequest::memory_types`] may do so. An intent takes the usage of the
+    /// resource's create-info into account (`VkBufferUsageFlags`, `VkImageUsageFlags`). No other request does.
+    ///
+    /// # Errors
+    ///
+    /// [`Error::UsageWithIntent`], [`Error::BadAlignment`], [`Error::ForbiddenProperties`],
+    /// [`Error::NoDeviceAddress`], [`Error::Allocation`] where the host has too little memory. Nothing is changed.
+    ///
+    /// # Panics
+    ///
+    /// Where a bit of `request.usage` has no name. Nothing is changed.
+    pub fn candidates(&mut self, request: impl Into<MemoryRequest>, resource_usage: u64) -> Result<Vec<u32>, Error> {
+        let wish = Wish::with_info(request.into(), resource_usage, &self.device)?;
+        wish.check_address(&self.device)?;
+        wish.order(&mut self.core, &self.device, wish.permitted(&self.device))
     }
 }
 
@@ -333,106 +362,5 @@ impl Drop for Allocator {
     fn drop(&mut self) {
         // SAFETY: the device outlives this, as the caller of `load` said, and is the allocator's. What is live stays.
         unsafe { self.core.cleanup(&self.device) };
-    }
-}
-
-/// Allocates for a resource, and binds it.
-///
-/// # Safety
-///
-/// * The device is the allocator's.
-/// * The resource is a live one of it that is optimal or not, has no memory, is neither sparse nor disjoint, and no
-///   other thread uses it. `request.next` is as `DeviceFor::with_next` asks.
-unsafe fn allocate_and_bind(
-    core: &mut GpuAllocator<Memory>,
-    device: &Device,
-    resource: Resource,
-    optimal: bool,
-    request: &MemoryRequest,
-) -> Result<MemoryBlock<Memory>, Error> {
-    // SAFETY: as the caller says.
-    let requirements = unsafe { device.requirements(resource, optimal) };
-    let asked = DeviceFor::new(device, resource);
-    // SAFETY: as the caller says.
-    let block = unsafe { allocate(core, device, asked, &requirements, request) }?;
-    // SAFETY: the block was allocated for the resource's requirements.
-    match unsafe { device.bind(resource, &block, 0) } {
-        Ok(()) => Ok(block),
-        Err(error) => {
-            // SAFETY: the block is of that allocator and device, and nothing was bound to it.
-            unsafe { core.dealloc(device, block) };
-            Err(error)
-        }
-    }
-}
-
-/// Where all memory types were refused, for want of device memory, a block that need not be alone in its object is
-/// asked for once more as one that is: of each type but those whose driver refused such an object. Where that is
-/// refused too, the first error stays.
-///
-/// # Safety
-///
-/// * `asked` is the device, which is the allocator's.
-/// * `request.next` is as `DeviceFor::with_next` asks.
-unsafe fn allocate(
-    core: &mut GpuAllocator<Memory>,
-    device: &Device,
-    asked: DeviceFor<'_>,
-    requirements: &Requirements,
-    request: &MemoryRequest,
-) -> Result<MemoryBlock<Memory>, Error> {
-    if request.usage.contains(UsageFlags::DEVICE_ADDRESS) && !device.enabled().contains(Enabled::DEVICE_ADDRESS) {
-        return Err(Error::NoDeviceAddress);
-    }
-    // SAFETY: as the caller says.
-    let asked = unsafe { asked.with_next(request.next) }?;
-    let permitted = if request.memory_types == 0 { !0 } else { request.memory_types };
-    let wanted = Request {
-        size: requirements.size,
-        align_mask: requirements.alignment.wrapping_sub(1),
-        usage: request.usage,
-        memory_types: requirements.memory_types & device.known_types() & permitted,
-    };
-    let dedicated = match (request.dedicated, requirements.dedicated) {
-        (Some(Dedicated::Required), _) | (_, Some(Dedicated::Required)) => Some(Dedicated::Required),
-        (wish, need) => wish.or(need),
-    };
-    // SAFETY: as the caller says.
-    let refused = match unsafe { grant(core, &asked, wanted, dedicated, requirements.optimal) } {
-        Ok(block) => return Ok(block),
-        Err(refused) => refused,
-    };
-    let error = match refused {
-        AllocationError::OutOfDeviceMemory | AllocationError::OutOfHostMemory => {
-            asked.failure().unwrap_or(Error::Allocation(refused))
-        }
-        refused => Error::Allocation(refused),
-    };
-    let alone = Request { memory_types: wanted.memory_types & asked.left_alone(), ..wanted };
-    let ends = refused != AllocationError::OutOfDeviceMemory || dedicated == Some(Dedicated::Required);
-    if ends || alone.memory_types == 0 {
-        return Err(error);
-    }
-    // SAFETY: as the caller says.
-    unsafe { grant(core, &asked, alone, Some(Dedicated::Required), requirements.optimal) }.map_err(|_| error)
-}
-
-/// # Safety
-///
-/// `asked` is the device, which is the allocator's.
-unsafe fn grant(
-    core: &mut GpuAllocator<Memory>,
-    asked: &DeviceFor<'_>,
-    request: Request,
-    dedicated: Option<Dedicated>,
-    optimal: bool,
-) -> Result<MemoryBlock<Memory>, AllocationError> {
-    // SAFETY: the device is the allocator's, as the caller says, and the only one of its calls.
-    unsafe {
-        match dedicated {
-            _ if optimal => core.alloc_optimal(asked, request, dedicated),
-            Some(dedicated) => core.alloc_with_dedicated(asked, request, dedicated),
-            None => core.alloc(asked, request),
-        }
     }
 }

@@ -26,6 +26,7 @@ impl Allocator {
     /// * The block is of this allocator.
     /// * The device is not reading or writing those bytes, rounded to whole atoms where the memory is not
     ///   host-coherent.
+    /// * `data` is none of the block's own bytes ([`MemoryBlock::mapped`]).
     #[track_caller]
     pub unsafe fn write(&self, block: &mut MemoryBlock<Memory>, offset: u64, data: &[u8]) -> Result<(), Error> {
         let asked = DeviceFor::none(&self.device);
@@ -48,6 +49,7 @@ impl Allocator {
     ///
     /// * The block is of this allocator.
     /// * The device is not writing those bytes, rounded to whole atoms where the memory is not host-coherent.
+    /// * `data` is none of the block's own bytes ([`MemoryBlock::mapped`]).
     #[track_caller]
     pub unsafe fn read(&self, block: &mut MemoryBlock<Memory>, offset: u64, data: &mut [u8]) -> Result<(), Error> {
         let asked = DeviceFor::none(&self.device);
@@ -75,7 +77,8 @@ impl Allocator {
         Ok(NonNull::slice_from_raw_parts(start, size))
     }
 
-    /// Unmaps a block, and returns whether it was mapped. It flushes nothing.
+    /// Unmaps a block, and returns whether it was mapped by [`map`](Allocator::map). It flushes nothing. A block that
+    /// stays mapped as long as it lives ([`MemoryRequest::mapped`](super::MemoryRequest::mapped)) does so still.
     ///
     /// # Safety
     ///
@@ -100,7 +103,8 @@ impl Allocator {
     ///
     /// # Safety
     ///
-    /// The blocks are of this allocator. Those ranges of them are mapped, as by [`map`](Allocator::map).
+    /// The blocks are of this allocator. Those ranges of them are mapped, as by [`map`](Allocator::map) or for life
+    /// ([`MemoryBlock::mapped`]).
     pub unsafe fn flush(&self, ranges: &[(&MemoryBlock<Memory>, Range<u64>)]) -> Result<(), Error> {
         // SAFETY: the ranges are of whole atoms or end with their blocks; else as the caller says.
         unsafe { self.device.flush_all(&whole_atoms(ranges)?) }
@@ -121,7 +125,8 @@ impl Allocator {
     ///
     /// # Safety
     ///
-    /// The blocks are of this allocator. Those ranges of them are mapped, as by [`map`](Allocator::map).
+    /// The blocks are of this allocator. Those ranges of them are mapped, as by [`map`](Allocator::map) or for life
+    /// ([`MemoryBlock::mapped`]).
     pub unsafe fn invalidate(&self, ranges: &[(&MemoryBlock<Memory>, Range<u64>)]) -> Result<(), Error> {
         // SAFETY: the ranges are of whole atoms or end with their blocks; else as the caller says.
         unsafe { self.device.invalidate_all(&whole_atoms(ranges)?) }

@@ -12,6 +12,9 @@ use std::ptr::{from_mut, from_ref, null_mut, NonNull};
 /// How many ranges go to one call of the driver.
 const RANGES_AT_ONCE: usize = 16;
 
+/// The call that maps, as errors name it.
+pub(crate) const MAP_MEMORY: &str = "vkMapMemory";
+
 /// What memory is for.
 #[derive(Clone, Copy, Debug, PartialEq, Eq, Hash)]
 pub enum Resource {
@@ -83,12 +86,11 @@ impl Device {
     ///
     /// As for [`map_memory`](crate::MemoryDevice::map_memory).
     pub(crate) unsafe fn map(&self, memory: Memory, offset: u64, size: u64) -> Result<NonNull<u8>, Error> {
-        const CALL: &str = "vkMapMemory";
         let mut start = null_mut();
         // SAFETY: as the caller says.
         let result = unsafe { (self.call.map_memory)(self.handle, memory, offset, size, 0, &mut start) };
-        done(CALL, result)?;
-        NonNull::new(start.cast()).ok_or(Error::Driver { call: CALL, result: VkResult::ERROR_MEMORY_MAP_FAILED })
+        done(MAP_MEMORY, result)?;
+        NonNull::new(start.cast()).ok_or(Error::Driver { call: MAP_MEMORY, result: VkResult::ERROR_MEMORY_MAP_FAILED })
     }
 
     /// # Safety

@@ -29,6 +29,7 @@ pub struct Device {
     enabled: Enabled,
     memory: raw::MemoryProperties,
     known_types: u32,
+    is_integrated: bool,
     limits: raw::Limits,
     max_allocation_size: u64,
     other_objects: u32,
@@ -97,7 +98,7 @@ impl Device {
         // SAFETY: the physical device is live, and the struct lives until the call ends.
         unsafe { (call.get_memory_properties)(info.physical_device, &mut memory) };
         // SAFETY: as the caller says.
-        let (limits, max_allocation_size) = unsafe { limits_of(&call, info.physical_device) };
+        let (properties, max_allocation_size) = unsafe { properties_of(&call, info.physical_device) };
         Ok(Device {
             call,
             handle: info.device,
@@ -106,7 +107,8 @@ impl Device {
             enabled: info.enabled,
             memory,
             known_types: known_types(&memory),
-            limits,
+            is_integrated: properties.device_type == raw::INTEGRATED_GPU,
+            limits: properties.limits,
             max_allocation_size,
             other_objects: info.other_objects,
         })
@@ -119,9 +121,8 @@ impl Device {
     /// Where [`Enabled::PROPERTIES2`] is missing, `max_memory_allocation_size` is 2^64 - 1, since the device does not
     /// say.
     pub fn device_properties(&self) -> DeviceProperties<'static> {
-        let properties = |flags: u32| MemoryPropertyFlags::from_bits_truncate(flags as u8);
-        let types = self.memory_types().iter();
-        let types = types.map(|of| MemoryType { heap: of.heap_index, props: properties(of.property_flags) });
+        let types = (0..).zip(self.memory_types());
+        let types = types.map(|(index, of)| MemoryType { heap: of.heap_index, props: self.props_of(index) });
         let heaps = self.memory_heaps().iter().map(|of| MemoryHeap { size: of.size });
         DeviceProperties {
             memory_types: types.collect(),
@@ -303,6 +304,17 @@ impl Device {
         self.call.requirements2.is_some()
     }
 
+    /// Whether it shares the host's memory (`VK_PHYSICAL_DEVICE_TYPE_INTEGRATED_GPU`).
+    pub(crate) fn is_integrated(&self) -> bool {
+        self.is_integrated
+    }
+
+    /// The named properties of a memory type; of one that is not there it has none.
+    pub(crate) fn props_of(&self, memory_type: u32) -> MemoryPropertyFlags {
+        let flags = self.memory_types().get(memory_type as usize).map_or(0, |of| of.property_flags);
+        MemoryPropertyFlags::from_bits_truncate(flags as u8)
+    }
+
     fn memory_types(&self) -> &[raw::MemoryType] {
         types_of(&self.memory)
     }
@@ -334,12 +346,12 @@ fn known_types(memory: &raw::MemoryProperties) -> u32 {
     types_of(memory).iter().enumerate().map(|(index, of)| u32::from(is_known(of)) << index).sum()
 }
 
-/// The limits of a physical device, and the largest size of an allocation.
+/// The properties of a physical device, and the largest size of an allocation.
 ///
 /// # Safety
 ///
 /// The physical device is live, and the functions are its instance's.
-unsafe fn limits_of(call: &Functions, physical: raw::PhysicalDevice) -> (raw::Limits, u64) {
+unsafe fn properties_of(call: &Functions, physical: raw::PhysicalDevice) -> (raw::Properties, u64) {
     let mut sizes = raw::Maintenance3Properties { max_memory_allocation_size: u64::MAX, ..Default::default() };
     let mut properties = raw::Properties2 { p_next: from_mut(&mut sizes).cast(), ..Default::default() };
     // SAFETY: as the caller says; the structs live until the call ends.
@@ -349,5 +361,5 @@ unsafe fn limits_of(call: &Functions, physical: raw::PhysicalDevice) -> (raw::Li
             None => (call.get_properties)(physical, &mut properties.properties),
         }
     }
-    (properties.properties.limits, sizes.max_memory_allocation_size)
+    (properties.properties, sizes.max_memory_allocation_size)
 }

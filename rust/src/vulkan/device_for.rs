@@ -3,8 +3,11 @@
 use super::calls::Resource;
 use super::device::Device;
 use super::error::{Error, VkResult};
-use super::raw::{Memory, MemoryAllocateFlagsInfo, MemoryDedicatedAllocateInfo};
-use crate::types::{AllocationFlags, DeviceMapError, MappedMemoryRange, MemoryDevice, OutOfMemory};
+use super::raw::{chain, Memory, MemoryAllocateFlagsInfo, MemoryDedicatedAllocateInfo};
+use crate::block::Start;
+use crate::types::{
+    AllocationFlags, DeviceMapError, MappedMemoryRange, MemoryDevice, MemoryPropertyFlags, OutOfMemory,
+};
 use std::cell::Cell;
 use std::ffi::c_void;
 use std::ptr::{null, NonNull};
@@ -20,8 +23,12 @@ pub struct DeviceFor<'a> {
     device: &'a Device,
     resource: Option<Resource>,
     next: *const c_void,
+    /// Whether an object for one block stays mapped, where it is host-visible.
+    stays_mapped: bool,
+    /// Where the object for one block that was made last is mapped, if it is.
+    start: Cell<Option<Start>>,
     failed: Cell<Option<Error>>,
-    /// The memory types of which an object for one block was refused: bit i for the type of index i.
+    /// The memory types of which an object for one block was refused, or its mapping: bit i for the type of index i.
     refused_alone: Cell<u32>,
 }
 
@@ -32,7 +39,15 @@ impl<'a> DeviceFor<'a> {
 
     /// For a block whose resource is not known.
     pub(crate) fn none(device: &'a Device) -> Self {
-        DeviceFor { device, resource: None, next: null(), failed: Cell::new(None), refused_alone: Cell::new(0) }
+        DeviceFor {
+            device,
+            resource: None,
+            next: null(),
+            stays_mapped: false,
+            start: Cell::new(None),
+            failed: Cell::new(None),
+            refused_alone: Cell::new(0),
+        }
     }
 
     /// Chains these structs too ([`MemoryRequest::next`](super::MemoryRequest::next)).
@@ -46,13 +61,12 @@ impl<'a> DeviceFor<'a> {
     /// `next` is null or the first of a chain of structs that may follow `VkMemoryAllocateInfo`, and they live as long
     /// as the value is used.
     pub unsafe fn with_next(self, next: *const c_void) -> Result<Self, Error> {
-        let mut rest = next.cast::<Link>();
-        // SAFETY: each of a chain begins by its type and its next, as the caller says, and a null ends it.
-        while let Some(link) = unsafe { rest.as_ref() } {
-            match link.s_type {
+        // SAFETY: as the caller says.
+        for (s_type, _) in unsafe { chain(next) } {
+            match s_type {
                 MemoryDedicatedAllocateInfo::TYPE => return Err(Error::Chained("VkMemoryDedicatedAllocateInfo")),
                 MemoryAllocateFlagsInfo::TYPE => return Err(Error::Chained("VkMemoryAllocateFlagsInfo")),
-                _ => rest = link.p_next,
+                _ => {}
             }
         }
         Ok(DeviceFor { next, ..self })
@@ -63,9 +77,41 @@ impl<'a> DeviceFor<'a> {
         self.failed.get()
     }
 
+    /// The same, where an object for one block stays mapped or does not.
+    pub(crate) fn mapped(self, stays_mapped: bool) -> Self {
+        DeviceFor { stays_mapped, ..self }
+    }
+
+    /// Where the object for one block that was made last is mapped, if it stays so.
+    pub(crate) fn start(&self) -> Option<Start> {
+        self.start.get()
+    }
+
     /// The memory types of which no object for one block was refused.
     pub(crate) fn left_alone(&self) -> u32 {
         !self.refused_alone.get()
+    }
+
+    /// Makes an object for one block, and maps all of it where it is to stay mapped. Where that is refused, the object
+    /// is freed.
+    ///
+    /// # Safety
+    ///
+    /// As for `allocate_own`.
+    unsafe fn make_own(&self, size: u64, of: u32, flags: AllocationFlags) -> Result<Memory, Error> {
+        // SAFETY: as the caller says.
+        let memory = unsafe { self.device.allocate(size, of, flags, self.made_for(), self.next) }?;
+        let is_visible = self.device.props_of(of).contains(MemoryPropertyFlags::HOST_VISIBLE);
+        let start = if self.stays_mapped && is_visible {
+            // SAFETY: the object is host-visible, has that size, and was made just now.
+            let mapped = unsafe { self.device.map(memory, 0, size) };
+            // SAFETY: as above; nothing else has it.
+            Some(mapped.inspect_err(|_| unsafe { self.device.free(memory) })?)
+        } else {
+            None
+        };
+        self.start.set(start.map(Start));
+        Ok(memory)
     }
 
     /// Keeps an answer's error, and returns its result.
@@ -73,13 +119,6 @@ impl<'a> DeviceFor<'a> {
         self.failed.set(answer.as_ref().err().copied());
         answer.map_err(Error::result)
     }
-}
-
-/// How each struct of a chain begins: `VkBaseInStructure`.
-#[repr(C)]
-struct Link {
-    s_type: i32,
-    p_next: *const Link,
 }
 
 /// `VK_ERROR_TOO_MANY_OBJECTS` also lets an allocation go on with its next memory type.
@@ -110,7 +149,7 @@ impl MemoryDevice<Memory> for DeviceFor<'_> {
 
     unsafe fn allocate_own(&self, size: u64, of: u32, flags: AllocationFlags) -> Result<Memory, OutOfMemory> {
         // SAFETY: as the caller says.
-        let answer = unsafe { self.device.allocate(size, of, flags, self.made_for(), self.next) };
+        let answer = unsafe { self.make_own(size, of, flags) };
         if answer.is_err() {
             self.refused_alone.set(self.refused_alone.get() | 1 << of);
         }

@@ -93,6 +93,21 @@ pub enum Error {
     /// [`MemoryRequest::next`](super::MemoryRequest::next) has this struct, which this side chains by itself.
     Chained(&'static str),
 
+    /// A request with an [`Intent`](super::Intent) goes to a call that sees no create-info, from which its memory types
+    /// follow.
+    NoCreateInfo,
+
+    /// A request has an [`Intent`](super::Intent), and a usage other than
+    /// [`UsageFlags::TRANSIENT`](crate::UsageFlags::TRANSIENT) and
+    /// [`UsageFlags::DEVICE_ADDRESS`](crate::UsageFlags::DEVICE_ADDRESS).
+    UsageWithIntent,
+
+    /// [`MemoryRequest::min_alignment`](super::MemoryRequest::min_alignment) is neither 0 nor a power of two.
+    BadAlignment,
+
+    /// A request requires or prefers memory that is lazily allocated or protected, which the allocator never takes.
+    ForbiddenProperties,
+
     /// A device address is asked for without [`Enabled::DEVICE_ADDRESS`](super::Enabled::DEVICE_ADDRESS)
     /// (VUID-VkMemoryAllocateInfo-flags-03331).
     NoDeviceAddress,
@@ -124,18 +139,27 @@ impl Error {
             Error::Allocation(AllocationError::NoCompatibleMemoryTypes)
             | Error::SparseBuffer
             | Error::SparseImage
-            | Error::DisjointImage => VkResult::ERROR_FEATURE_NOT_PRESENT,
+            | Error::DisjointImage
+            | Error::ForbiddenProperties => VkResult::ERROR_FEATURE_NOT_PRESENT,
             Error::Map(MapError::NonHostVisible | MapError::MapFailed) => VkResult::ERROR_MEMORY_MAP_FAILED,
             Error::New(NewError::BadProperties | NewError::OtherVersion) | Error::Missing(_) | Error::Version => {
                 VkResult::ERROR_INITIALIZATION_FAILED
             }
             Error::Map(MapError::AlreadyMapped)
             | Error::Chained(_)
+            | Error::NoCreateInfo
+            | Error::UsageWithIntent
+            | Error::BadAlignment
             | Error::NoDeviceAddress
             | Error::OtherResource
             | Error::NotMapped => VkResult::ERROR_VALIDATION_FAILED_EXT,
             Error::NoBudget => VkResult::ERROR_EXTENSION_NOT_PRESENT,
         }
+    }
+
+    /// Whether a request goes on with its next memory type.
+    pub(crate) fn goes_on(self) -> bool {
+        matches!(self.result(), VkResult::ERROR_OUT_OF_DEVICE_MEMORY | VkResult::ERROR_TOO_MANY_OBJECTS)
     }
 }
 
@@ -152,6 +176,14 @@ impl Display for Error {
             Error::SparseImage => formatter.write_str("Sparse images get no memory here"),
             Error::DisjointImage => formatter.write_str("Disjoint images get no memory here"),
             Error::Chained(name) => write!(formatter, "{name} is in `next`, and is chained by itself"),
+            Error::NoCreateInfo => formatter.write_str("An intent needs the create-info of its buffer or image"),
+            Error::UsageWithIntent => {
+                formatter.write_str("Of usages only TRANSIENT and DEVICE_ADDRESS go with an intent")
+            }
+            Error::BadAlignment => formatter.write_str("`min_alignment` is neither 0 nor a power of two"),
+            Error::ForbiddenProperties => {
+                formatter.write_str("Lazily allocated and protected memory is never allocated")
+            }
             Error::NoDeviceAddress => formatter.write_str("The feature bufferDeviceAddress is not enabled"),
             Error::OtherResource => formatter.write_str("Memory object was made for another resource or another place"),
             Error::NotMapped => formatter.write_str("Block is not mapped"),

@@ -1,4 +1,4 @@
-//! What an allocator holds: freeing blocks, imports, limits, and a report.
+//! What an allocator holds: freeing blocks, imports, names, limits, and a report.
 
 use super::allocator::Allocator;
 use super::error::Error;
@@ -72,6 +72,21 @@ impl Allocator {
     #[track_caller]
     pub fn set_user(&mut self, block: &mut MemoryBlock<Memory>, user: u64) {
         self.core.set_user(block, user);
+    }
+
+    /// Gives a block a name in place of an earlier one, which reports have. The empty text takes it away. See
+    /// [`GpuAllocator::set_name`](crate::GpuAllocator::set_name); [`MemoryBlock::name`] is its name.
+    ///
+    /// # Errors
+    ///
+    /// [`AllocationError::OutOfHostMemory`] in [`Error::Allocation`]. Nothing is changed then.
+    ///
+    /// # Panics
+    ///
+    /// Where the block is another allocator's. Nothing is changed.
+    #[track_caller]
+    pub fn set_name(&mut self, block: &mut MemoryBlock<Memory>, name: &str) -> Result<(), Error> {
+        self.core.set_name(block, name).map_err(|error| Error::Allocation(error.into()))
     }
 
     /// Frees the memory objects that no block needs.

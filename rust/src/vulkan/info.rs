@@ -1,8 +1,9 @@
 //! What a program passes in: its device, and what memory a resource gets.
 
+use super::intent::Intent;
 use super::raw::{AllocationCallbacks, Device, GetInstanceProcAddr, Instance, PhysicalDevice, API_VERSION_1_1};
 use crate::flags::flags;
-use crate::{Dedicated, UsageFlags};
+use crate::{Dedicated, MemoryPropertyFlags, UsageFlags};
 use std::ffi::c_void;
 use std::ptr::null;
 
@@ -87,21 +88,57 @@ impl DeviceInfo {
     }
 }
 
-/// What memory a resource gets. Zeros are defaults. A [`UsageFlags`] becomes one by itself.
+/// What memory a resource gets. Zeros are defaults. A [`UsageFlags`] or an [`Intent`] becomes one by itself.
+///
+/// ```
+/// # use wallthyme::vulkan::{Intent, MemoryRequest};
+/// let staging = MemoryRequest { mapped: true, ..Intent::auto().sequential_write().into() };
+/// ```
 #[derive(Clone, Copy, Debug)]
 pub struct MemoryRequest {
     /// What it is used for. The empty set means [`UsageFlags::FAST_DEVICE_ACCESS`]. A buffer whose own usage has the
     /// shader device address gets [`UsageFlags::DEVICE_ADDRESS`] by itself.
     pub usage: UsageFlags,
 
+    /// What it is for, in place of a usage: only [`UsageFlags::TRANSIENT`] and [`UsageFlags::DEVICE_ADDRESS`] may stand
+    /// next to it ([`Error::UsageWithIntent`](super::Error::UsageWithIntent)). Its memory types follow from the
+    /// resource's create-info, so only [`create_buffer`](super::Allocator::create_buffer) and
+    /// [`create_image`](super::Allocator::create_image) take it
+    /// ([`Error::NoCreateInfo`](super::Error::NoCreateInfo)).
+    pub intent: Option<Intent>,
+
+    /// The properties without which a memory type does not serve. `LAZILY_ALLOCATED` and `PROTECTED` are refused here
+    /// and in `preferred` ([`Error::ForbiddenProperties`](super::Error::ForbiddenProperties)).
+    pub required: MemoryPropertyFlags,
+
+    /// The properties of which a better memory type has more: such types are tried first, each alone, as for an
+    /// [`Intent`]. Of equal ones the usage decides ([`Allocator::candidates`](super::Allocator::candidates)).
+    pub preferred: MemoryPropertyFlags,
+
     /// The permitted memory types: bit i for the type of index i. 0 permits all. Types that the resource's requirements
     /// exclude, or that are outside [`Device::known_types`](super::Device::known_types), are left out.
     pub memory_types: u32,
+
+    /// The alignment in bytes that the block's offset has at least: a power of two
+    /// ([`Error::BadAlignment`](super::Error::BadAlignment)), or 0 for that of the requirements.
+    pub min_alignment: u64,
 
     /// Whether it must be a memory object of its own. Raised to what the driver asks for, and to
     /// [`Dedicated::Required`] where no shared object can be made
     /// ([`create_buffer`](super::Allocator::create_buffer)).
     pub dedicated: Option<Dedicated>,
+
+    /// Whether the block stays mapped as long as it lives ([`MemoryBlock::mapped`](crate::MemoryBlock::mapped)). Where
+    /// its memory is not host-visible it is not. In a shared object this costs nothing, as such an object is mapped
+    /// anyway. An object of its own costs a `vkMapMemory`, and address space as long as it lives; a refused mapping
+    /// counts as a refused object of that memory type. For an access now and then
+    /// [`write`](super::Allocator::write), [`read`](super::Allocator::read) or [`map`](super::Allocator::map) are
+    /// enough.
+    pub mapped: bool,
+
+    /// Whether nothing is bound. The memory is still allocated for the resource, which the program binds at offset 0
+    /// ([`Device::bind_buffer`](super::Device::bind_buffer), [`Device::bind_image`](super::Device::bind_image)).
+    pub dont_bind: bool,
 
     /// Structs that are chained to `VkMemoryAllocateInfo` exactly where the memory object will hold only this block: a
     /// priority, an export. Or null. A struct that must be chained needs [`Dedicated::Required`].
@@ -112,7 +149,18 @@ pub struct MemoryRequest {
 impl MemoryRequest {
     /// A request of this usage, for any memory type.
     pub const fn new(usage: UsageFlags) -> Self {
-        MemoryRequest { usage, memory_types: 0, dedicated: None, next: null() }
+        MemoryRequest {
+            usage,
+            intent: None,
+            required: MemoryPropertyFlags::empty(),
+            preferred: MemoryPropertyFlags::empty(),
+            memory_types: 0,
+            min_alignment: 0,
+            dedicated: None,
+            mapped: false,
+            dont_bind: false,
+            next: null(),
+        }
     }
 }
 
@@ -125,5 +173,11 @@ impl Default for MemoryRequest {
 impl From<UsageFlags> for MemoryRequest {
     fn from(usage: UsageFlags) -> Self {
         MemoryRequest::new(usage)
+    }
+}
+
+impl From<Intent> for MemoryRequest {
+    fn from(intent: Intent) -> Self {
+        MemoryRequest { intent: Some(intent), ..MemoryRequest::default() }
     }
 }

@@ -9,6 +9,9 @@
 //! - [`Device`] with a [`GpuAllocator`](crate::GpuAllocator) is the long one, where a program puts them together
 //!   itself.
 //!
+//! A [`UsageFlags`](crate::UsageFlags) or an [`Intent`] says what a block is for. A [`MemoryRequest`] says what else is
+//! asked of its memory.
+//!
 //! # Threads
 //!
 //! Vulkan lets each thread use a `VkDevice`. But only one thread at a time may use a memory object, a buffer or an
@@ -34,9 +37,12 @@ mod error;
 mod functions;
 mod held;
 mod info;
+mod intent;
 pub mod raw;
+mod search;
 #[cfg(test)]
 mod tests;
+mod wish;
 
 pub use allocator::{Allocator, Buffer, Image};
 pub use calls::Resource;
@@ -44,4 +50,5 @@ pub use device::{Device, Requirements};
 pub use device_for::DeviceFor;
 pub use error::{Error, VkResult};
 pub use info::{DeviceInfo, Enabled, MemoryRequest};
+pub use intent::{HostAccess, Intent, Prefer};
 pub use raw::{AllocationCallbacks, BufferCreateInfo, Extent3D, ImageCreateInfo, Memory, Tiling, API_VERSION_1_1};

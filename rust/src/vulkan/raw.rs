@@ -282,8 +282,11 @@ structs! {
         non_coherent_atom_size: u64,
     }
 
+    /// Its type and its limits, with what lies before and between.
     pub(crate) struct Properties = VkPhysicalDeviceProperties {
-        _before: [u64; 37],
+        _before: [u32; 4],
+        device_type: i32,
+        _between: [u32; 68],
         limits: Limits,
         _sparse: [u32; 5],
     }
@@ -295,6 +298,57 @@ structs! {
     pub(crate) struct Maintenance3Properties = VkPhysicalDeviceMaintenance3Properties[1000168000] {
         max_per_set_descriptors: u32,
         max_memory_allocation_size: u64,
+    }
+}
+
+/// `VkBufferUsageFlags2CreateInfo` of Vulkan 1.4 and `VK_KHR_maintenance5`, whose usage stands in place of that of the
+/// `VkBufferCreateInfo`. It is not among the structs above, as older headers lack it.
+#[derive(Clone, Copy, Debug)]
+#[repr(C)]
+pub(crate) struct BufferUsageFlags2CreateInfo {
+    pub(crate) s_type: i32,
+    pub(crate) p_next: *const c_void,
+    pub(crate) usage: u64,
+}
+
+impl BufferUsageFlags2CreateInfo {
+    pub(crate) const TYPE: i32 = 1_000_470_006;
+}
+
+/// How each struct of a chain begins: `VkBaseInStructure`.
+#[repr(C)]
+struct Link {
+    s_type: i32,
+    p_next: *const Link,
+}
+
+/// The structs of a chain, each with its type.
+///
+/// # Safety
+///
+/// `first` is null or the first of a chain, whose structs live as long as this is used.
+pub(crate) unsafe fn chain(first: *const c_void) -> impl Iterator<Item = (i32, *const c_void)> {
+    let mut rest = first.cast::<Link>();
+    std::iter::from_fn(move || {
+        let at = rest;
+        // SAFETY: each of a chain begins by its type and its next, as the caller says, and a null ends it.
+        let link = unsafe { at.as_ref() }?;
+        rest = link.p_next;
+        Some((link.s_type, at.cast()))
+    })
+}
+
+impl BufferCreateInfo {
+    /// Its usage: that of a `VkBufferUsageFlags2CreateInfo` in its chain, where there is one.
+    ///
+    /// # Safety
+    ///
+    /// `p_next` is null or the first of a chain, whose structs live.
+    pub(crate) unsafe fn usage_of_chain(&self) -> u64 {
+        // SAFETY: as the caller says.
+        let chained = unsafe { chain(self.p_next) }.find(|of| of.0 == BufferUsageFlags2CreateInfo::TYPE);
+        // SAFETY: a struct of that type is this one, and lives, as the caller says.
+        chained.map_or(self.usage.into(), |(_, at)| unsafe { (*at.cast::<BufferUsageFlags2CreateInfo>()).usage })
     }
 }
 
@@ -322,7 +376,11 @@ pub(crate) const HEAP_DEVICE_LOCAL: u32 = 1;
 /// `VK_MEMORY_ALLOCATE_DEVICE_ADDRESS_BIT`.
 pub(crate) const ALLOCATE_DEVICE_ADDRESS: u32 = 2;
 /// `VK_BUFFER_USAGE_SHADER_DEVICE_ADDRESS_BIT`.
-pub(crate) const USAGE_SHADER_DEVICE_ADDRESS: u32 = 0x20000;
+pub(crate) const USAGE_SHADER_DEVICE_ADDRESS: u64 = 0x20000;
+/// `VK_BUFFER_USAGE_TRANSFER_SRC_BIT` and `VK_BUFFER_USAGE_TRANSFER_DST_BIT`, and those of an image.
+pub(crate) const USAGE_TRANSFER: u64 = 3;
+/// `VK_PHYSICAL_DEVICE_TYPE_INTEGRATED_GPU`.
+pub(crate) const INTEGRATED_GPU: i32 = 1;
 /// The three bits of sparse buffers, and of sparse images.
 pub(crate) const CREATE_SPARSE: u32 = 7;
 /// `VK_IMAGE_CREATE_DISJOINT_BIT`.

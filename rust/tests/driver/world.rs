@@ -7,7 +7,8 @@ use super::vk::*;
 use crate::common::Random;
 use std::ptr::null;
 use wallthyme::vulkan::{
-    Allocator, Buffer, BufferCreateInfo, Error, Extent3D, Image, ImageCreateInfo, MemoryRequest, Tiling,
+    Allocator, Buffer, BufferCreateInfo, Error, Extent3D, HostAccess, Image, ImageCreateInfo, Intent, MemoryRequest,
+    Prefer, Tiling,
 };
 use wallthyme::{AllocationError, Dedicated, MemoryPropertyFlags, UsageFlags};
 
@@ -28,6 +29,7 @@ struct Live {
     /// What it asked of its memory.
     size: u64,
     bytes: Vec<u8>,
+    name: Option<String>,
 }
 
 #[derive(Debug, Default)]
@@ -37,6 +39,10 @@ pub struct Counts {
     pub compared: u64,
     /// With an object of its own as required.
     pub own: u64,
+    /// With an intent; those that stay mapped; and names that were found in reports.
+    pub intents: u64,
+    pub mapped: u64,
+    pub named: u64,
     /// Pairs of an optimal and a linear resource in one object.
     pub beside: u64,
     /// Limits that were set by budgets, those of them at or below what was held, and refusals over these.
@@ -95,8 +101,11 @@ impl<'a> World<'a> {
                     let at = self.random.below(self.live.len() as u64) as usize;
                     self.compare(at);
                 }
-                9 if self.random.below(4) == 0 => self.allocator.cleanup(),
-                9 => self.follow_budget(),
+                9 => match self.random.below(4) {
+                    0 => self.allocator.cleanup(),
+                    1 => self.find_names(),
+                    _ => self.follow_budget(),
+                },
                 _ => {}
             }
         }
@@ -158,7 +167,48 @@ impl<'a> World<'a> {
             1 | 2 => Some(Dedicated::Preferred),
             _ => None,
         };
-        MemoryRequest { dedicated, ..usage.into() }
+        let intent = (self.random.below(2) == 0).then(|| self.intent());
+        if intent.is_some() {
+            usage &= UsageFlags::TRANSIENT;
+        }
+        let mapped = self.random.below(3) == 0;
+        let min_alignment = if self.random.below(4) == 0 { 1 << self.random.below(14) } else { 0 };
+        MemoryRequest { dedicated, intent, mapped, min_alignment, ..usage.into() }
+    }
+
+    fn intent(&mut self) -> Intent {
+        const PREFERS: [Prefer; 3] = [Prefer::Auto, Prefer::Device, Prefer::Host];
+        const ACCESSES: [HostAccess; 5] = [
+            HostAccess::None,
+            HostAccess::SequentialWrite,
+            HostAccess::Random,
+            HostAccess::SequentialWriteOrTransfer,
+            HostAccess::RandomOrTransfer,
+        ];
+        Intent { prefer: PREFERS[self.random.below(3) as usize], host: ACCESSES[self.random.below(5) as usize] }
+    }
+
+    /// Gives a block a name in place of one that it had, or takes that away.
+    fn name(&mut self, live: &mut Live) {
+        let name = match self.random.below(3) {
+            0 => String::new(),
+            1 => format!("\"{}\"\n", self.random.below(1000)),
+            _ => format!("Thymian für {}", self.random.below(1000)),
+        };
+        self.allocator.set_name(live.block(), &name).expect("the host has memory");
+        live.name = Some(name).filter(|name| !name.is_empty());
+    }
+
+    /// Each name is in the report, with its quotes and its ends of lines escaped, and no other.
+    fn find_names(&mut self) {
+        let report = self.allocator.report().expect("the host has memory");
+        let named: Vec<&String> = self.live.iter().filter_map(|live| live.name.as_ref()).collect();
+        assert_eq!(report.matches(r#","name":""#).count(), named.len(), "{report}");
+        for name in named {
+            let escaped = name.replace('"', "\\\"").replace('\n', "\\u000a");
+            assert!(report.contains(&format!(r#","name":"{escaped}""#)), "{report}");
+            self.counts.named += 1;
+        }
     }
 
     fn create(&mut self) {
@@ -190,11 +240,26 @@ impl<'a> World<'a> {
         };
         self.counts.created += 1;
         self.counts.own += u64::from(request.dedicated == Some(Dedicated::Required));
+        self.counts.intents += u64::from(request.intent.is_some());
         let size = self.required(&made);
-        let mut live = Live { made, optimal, side, size, bytes: self.random.bytes(length) };
+        let mut live = Live { made, optimal, side, size, bytes: self.random.bytes(length), name: None };
+        self.look(&mut live, &request);
+        self.name(&mut live);
         self.keep_apart(&mut live);
         self.write(&mut live);
         self.live.push(live);
+    }
+
+    /// A block is where and what it was asked to be.
+    fn look(&mut self, live: &mut Live, request: &MemoryRequest) {
+        let block = live.block();
+        let is_visible = block.props().contains(MemoryPropertyFlags::HOST_VISIBLE);
+        assert_eq!(block.mapped().is_some(), request.mapped && is_visible);
+        assert_eq!(block.offset() % request.min_alignment.max(1), 0);
+        if let Some(Intent { host: HostAccess::SequentialWrite | HostAccess::Random, .. }) = request.intent {
+            assert!(is_visible, "the host cannot access it");
+        }
+        self.counts.mapped += u64::from(block.mapped().is_some());
     }
 
     /// How many bytes of its memory a resource uses.
@@ -246,10 +311,11 @@ impl<'a> World<'a> {
         // SAFETY: the device uses the blocks in `run` alone, which waits for it.
         unsafe {
             if by_host && is_mapped {
-                let mut mapped = until(|| self.allocator.map(live.block()));
+                let for_life = live.block().mapped();
+                let mut mapped = for_life.unwrap_or_else(|| until(|| self.allocator.map(live.block())));
                 mapped.as_mut()[..bytes.len()].copy_from_slice(&bytes);
                 until(|| self.allocator.flush(&[(live.block(), 0..bytes.len() as u64)]));
-                self.allocator.unmap(live.block());
+                assert_eq!(self.allocator.unmap(live.block()), for_life.is_none());
             } else if by_host {
                 until(|| self.allocator.write(live.block(), 0, &bytes));
             } else {
@@ -271,10 +337,11 @@ impl<'a> World<'a> {
         // SAFETY: as for `write`.
         unsafe {
             if by_host && is_mapped {
-                let mapped = until(|| self.allocator.map(live.block()));
+                let for_life = live.block().mapped();
+                let mapped = for_life.unwrap_or_else(|| until(|| self.allocator.map(live.block())));
                 until(|| self.allocator.invalidate(&[(live.block(), 0..found.len() as u64)]));
                 found.copy_from_slice(&mapped.as_ref()[..live.bytes.len()]);
-                self.allocator.unmap(live.block());
+                assert_eq!(self.allocator.unmap(live.block()), for_life.is_none());
             } else if by_host {
                 until(|| self.allocator.read(live.block(), 0, &mut found));
             } else {
@@ -285,6 +352,11 @@ impl<'a> World<'a> {
             }
         }
         assert!(found == live.bytes, "a byte is another one than was written");
+        let name = live.name.clone();
+        assert_eq!(live.block().name(), name.as_deref());
+        if self.random.below(4) == 0 {
+            self.name(&mut live);
+        }
         self.counts.compared += found.len() as u64;
         self.live.push(live);
     }

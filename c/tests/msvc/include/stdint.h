@@ -11,4 +11,7 @@ typedef unsigned long long uintptr_t;
 #define UINT32_MAX 0xffffffffu
 #define UINT64_MAX 0xffffffffffffffffull
 #define UINTPTR_MAX UINT64_MAX
+#define SIZE_MAX UINT64_MAX
+#define UINT8_MAX 0xffu
+#define UINT32_C(number) number##u
 #define UINT64_C(number) number##ull

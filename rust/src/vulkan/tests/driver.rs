@@ -55,6 +55,8 @@ pub(super) struct Plan {
     user: *const Heard,
     draws_budgets: bool,
     pub(super) is_quiet: bool,
+    device_type: i32,
+    asked: Option<unsafe extern "C" fn(&Heard, u32, u64)>,
 }
 
 /// `wtv_create_info`, whose handles and loader are taken.
@@ -72,7 +74,7 @@ struct CreateInfo {
 #[repr(C)]
 pub(super) struct Held {
     pub(super) objects: u64,
-    mapped: u64,
+    pub(super) mapped: u64,
     pub(super) buffers: u64,
     pub(super) images: u64,
     pub(super) bound: u64,
@@ -85,15 +87,16 @@ pub(super) struct Object {
     pub(super) size: u64,
     pub(super) owner: u64,
     pub(super) priority: f32,
-    is_mapped: bool,
+    pub(super) is_mapped: bool,
     pub(super) has_address: bool,
 }
 
-/// What the stub was asked since the last look: names of functions, and ranges by offset and size.
+/// What the stub was asked since the last look: names of functions, ranges by offset and size, and memory types.
 #[derive(Default)]
 struct Heard {
     calls: Mutex<Vec<&'static str>>,
     ranges: Mutex<Vec<Vec<(u64, u64)>>>,
+    types: Mutex<Vec<u32>>,
 }
 
 /// # Safety
@@ -114,6 +117,10 @@ unsafe extern "C" fn hear_ranges(heard: &Heard, count: u32, ranges: *const Mappe
     let ranges = unsafe { std::slice::from_raw_parts(ranges, count as usize) };
     let places = ranges.iter().map(|range| (range.offset, range.size)).collect();
     heard.ranges.lock().expect("nothing panics with it").push(places);
+}
+
+unsafe extern "C" fn hear_type(heard: &Heard, memory_type: u32, _size: u64) {
+    heard.types.lock().expect("nothing panics with it").push(memory_type);
 }
 
 extern "C" {
@@ -240,9 +247,14 @@ pub(super) struct Stub {
 impl Stub {
     /// A driver of a device with two heaps of this size and these flags; none where that cannot be built.
     pub(super) fn with_heaps(size: u64, flags: [u32; 2]) -> Option<Stub> {
+        Stub::with_memory(&flags.map(|flags| MemoryHeap { size, flags }), &TYPES, 0)
+    }
+
+    /// A driver of a device of this type (`VkPhysicalDeviceType`) with these heaps, three at most, and memory types.
+    pub(super) fn with_memory(heaps: &[MemoryHeap], types: &[MemoryType], device_type: i32) -> Option<Stub> {
         let functions = functions()?;
         let heard = Box::<Heard>::default();
-        let heaps = Box::leak(Box::new(flags.map(|flags| MemoryHeap { size, flags })));
+        let (heaps, types): (&[_], &[_]) = (heaps.to_vec().leak(), types.to_vec().leak());
         // SAFETY: what the plan points to stays.
         let driver = unsafe {
             (functions.open)(&Plan {
@@ -250,15 +262,17 @@ impl Stub {
                 atom: ATOM,
                 page: PAGE,
                 largest: LARGEST,
-                types: TYPES.as_ptr(),
+                types: types.as_ptr(),
                 heaps: heaps.as_ptr(),
-                types_count: 4,
-                heaps_count: 2,
+                types_count: types.len() as u32,
+                heaps_count: heaps.len() as u32,
                 alignment: 256,
-                permitted: 0b1111,
+                permitted: u32::MAX >> (32 - types.len()),
                 called: Some(hear_call),
                 passed: Some(hear_ranges),
                 user: from_ref(&*heard),
+                device_type,
+                asked: Some(hear_type),
                 ..(functions.usual_plan)()
             })
         };
@@ -336,6 +350,11 @@ impl Stub {
         self.refuse(ANY, result, number - 1, false);
     }
 
+    /// Refuses the next call of a function.
+    pub(super) fn refuse_next(&self, name: &str, result: VkResult) {
+        self.refuse(self.number_of(name), result, 0, false);
+    }
+
     /// As `refuse_one`, with all calls after that one.
     pub(super) fn refuse_from(&self, number: u64, result: VkResult) {
         self.refuse(ANY, result, number - 1, true);
@@ -349,6 +368,11 @@ impl Stub {
     /// The ranges of each flush and invalidate since the last look: offset and size.
     pub(super) fn ranges(&self) -> Vec<Vec<(u64, u64)>> {
         std::mem::take(&mut self.heard.ranges.lock().expect("nothing panics with it"))
+    }
+
+    /// The memory types of the objects that were asked for since the last look.
+    pub(super) fn types_asked(&self) -> Vec<u32> {
+        std::mem::take(&mut self.heard.types.lock().expect("nothing panics with it"))
     }
 
     /// How many objects, buffers and images there are.

@@ -17,12 +17,18 @@ mod alone;
 mod bytes;
 mod device;
 mod driver;
+mod intents;
+mod mapped;
+mod memory;
+mod named;
 mod refusals;
+mod requests;
 mod resources;
 
 use super::*;
-use crate::{Dedicated, MemoryBlock, Sharing, UsageFlags};
+use crate::{set_drop_handler, Dedicated, Dropped, MemoryBlock, Sharing, UsageFlags};
 use driver::Stub;
+use std::cell::RefCell;
 
 const fn is_send_and_sync<T: Send + Sync>() {}
 
@@ -84,6 +90,16 @@ fn object(stub: &Stub, block: &MemoryBlock<Memory>) -> driver::Object {
 /// Whether a resource, whose first byte this is, was bound where the block is, and so many bytes behind.
 fn is_bound(stub: &Stub, first: *const u8, block: &MemoryBlock<Memory>, behind: u64) -> bool {
     first == stub.memory_bytes(*block.memory(), block.offset() + behind, 1)
+}
+
+thread_local! {
+    /// What this thread dropped and should have returned.
+    static DROPPED: RefCell<Vec<Dropped>> = const { RefCell::new(vec![]) };
+}
+
+/// Keeps what each thread drops from now on. The handler is the same for all tests.
+fn keep_dropped() {
+    set_drop_handler(|dropped| DROPPED.with_borrow_mut(|all| all.push(dropped.clone())));
 }
 
 /// Destroys what is there, and the allocator.

@@ -1,8 +1,7 @@
 //! Buffers and images with their memory, what is chained to it, and what is dropped.
 
 use super::*;
-use crate::{set_drop_handler, AllocationError, Config, Dropped, GpuAllocator, Request};
-use std::cell::RefCell;
+use crate::{AllocationError, Config, GpuAllocator, Request};
 use std::ptr::{from_ref, null};
 
 /// How a struct of a chain begins: a `VkMemoryPriorityAllocateInfoEXT` of 0.
@@ -322,15 +321,10 @@ fn a_drop_frees_what_no_block_needs() {
     stub.end();
 }
 
-thread_local! {
-    /// What this thread dropped and should have returned.
-    static DROPPED: RefCell<Vec<Dropped>> = const { RefCell::new(vec![]) };
-}
-
 /// What is live is reported with its place, and then what is dropped.
 #[test]
 fn a_drop_reports_what_is_live() {
-    set_drop_handler(|dropped| DROPPED.with_borrow_mut(|all| all.push(*dropped)));
+    keep_dropped();
     let stub = stub!();
     let mut allocator = allocator(&stub);
     let made = buffer(&mut allocator, 100, LOCAL);
@@ -340,7 +334,7 @@ fn a_drop_reports_what_is_live() {
     assert!(allocator.report().unwrap().contains(&format!(r#""key":{},"user":77"#, other.block.key())));
     drop(allocator);
     let told = DROPPED.take();
-    let [Dropped::Allocator { blocks: 2 }, Dropped::BlockOfAllocator(one), Dropped::BlockOfAllocator(two)] = told[..]
+    let [Dropped::Allocator { blocks: 2 }, Dropped::BlockOfAllocator(one), Dropped::BlockOfAllocator(two)] = &told[..]
     else {
         panic!("{told:?}")
     };
@@ -355,7 +349,7 @@ fn a_drop_reports_what_is_live() {
         [&made.block, &other.block].into_iter().for_each(|block| device.free(*block.memory()));
     }
     drop((made, other));
-    assert_eq!(DROPPED.take(), [Dropped::Block(one), Dropped::Block(two)]);
+    assert_eq!(DROPPED.take(), [Dropped::Block(one.clone()), Dropped::Block(two.clone())]);
     stub.end();
 }
 

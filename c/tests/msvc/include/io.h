@@ -1,0 +1,2 @@
+#pragma once
+int _setmode(int file, int mode);
