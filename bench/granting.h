@@ -2,17 +2,8 @@
 #ifndef WALLTHYME_BENCH_GRANTING_H
 #define WALLTHYME_BENCH_GRANTING_H
 
+#include "must.h"
 #include "wallthyme.h"
-#include <stdio.h>
-#include <stdlib.h>
-
-static void must(int holds, const char *what)
-{
-    if (!holds) {
-        fprintf(stderr, "failed: %s\n", what);
-        exit(1);
-    }
-}
 
 /* A block as asked, where each question is granted. */
 static wt_block allocate(wt_allocator *a, const wt_request *request)
