@@ -1,4 +1,5 @@
--- An allocator and its device that agree, as both hold one object more or one fewer, and as a block comes or goes.
+-- An allocator and its device that agree, as both hold one object more or one fewer, and as a block is added or
+-- removed.
 use Rattle.std.proofs.Common.{◌≡◌, ◌≢◌, inl, inr, ℕ, ◌==◌, Bool, true, false, cond, Option, Some, None, IfSome, IsTrue, refl, sym, ◌∙◌, ap, subst, arith}
 use Rattle.std.proofs.lemmas.Bool.{cases_eq}
 use Rattle.std.proofs.lemmas.Bool.Decides.{nat_tests}

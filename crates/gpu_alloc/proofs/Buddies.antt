@@ -1,4 +1,4 @@
--- Each memory type's buddy allocator, as the whole allocator's state tells of it.
+-- Each memory type's buddy allocator, as the whole allocator's state describes it.
 pub mod Answers
 pub mod Grants
 pub mod Returns

@@ -10,7 +10,7 @@ use Rattle.gpu_alloc.specs.Allocation.{AllocatesBy, Plan, strategy}
 use Rattle.gpu_alloc_block.specs.Agreement.{Agrees, IsCountedFor}
 use Rattle.gpu_alloc.specs.Candidates.{candidate}
 use Rattle.gpu_alloc.specs.Owned.{HoldsWith}
-use Rattle.gpu_alloc.specs.Release.{AreAllGone, AreChunksGone, AreFitsGone, AreGoneOfType, GoesWith, without_all, without_objects}
+use Rattle.gpu_alloc.specs.Release.{AreAllReleased, AreChunksReleased, AreFitChunksReleased, AreReleasedOfType, ReleasedWith, without_all, without_objects}
 use Rattle.gpu_alloc.specs.Sound.{IsSound, LiesIn}
 use Rattle.gpu_alloc_block.specs.State.{State, Block, HeldObject, Span, span_of, AreSpansApart, IsLive, IsOwned}
 use Rattle.gpu_alloc.specs.declared.allocator.Strategy.{Strategy}
@@ -113,9 +113,9 @@ objects_stay objects (name ∷ gone) object stays =
     objects_stay (put objects name None) gone object (λ later. stays (contains_later name object gone later))
     ∙ put-other objects name None object (λ same. stays (subst (Contains (name ∷ gone)) (sym same) (contains_head name gone)))
 
--- What goes was held.
+-- What is released was held.
 
-chunk_held : (s : State) (t : ℕ) (keep_last : Bool) (gone : List ℕ) → AreChunksGone s t keep_last gone → (object : ℕ) → Contains gone object → (h : HeldObject) × (map.get s.held object ≡ Some h)
+chunk_held : (s : State) (t : ℕ) (keep_last : Bool) (gone : List ℕ) → AreChunksReleased s t keep_last gone → (object : ℕ) → Contains gone object → (h : HeldObject) × (map.get s.held object ≡ Some h)
 chunk_held s t keep_last gone chunks object has =
     let may = (chunks.all object).0 has in
     (may.1.chunk.chunk, may.1.chunk.held)
@@ -127,7 +127,7 @@ is_held s object name gone is there has = elim (contains_cases object name [] (s
   | inr never ↦ absurd (contains_none name never)
 ]
 
-pub goes_held : (k : Kind) (s : State) (object : ℕ) (gone : List ℕ) → (h : HeldObject) × (map.get s.held object ≡ Some h) → GoesWith k s object gone → (name : ℕ) → Contains gone name → (h : HeldObject) × (map.get s.held name ≡ Some h)
+pub goes_held : (k : Kind) (s : State) (object : ℕ) (gone : List ℕ) → (h : HeldObject) × (map.get s.held object ≡ Some h) → ReleasedWith k s object gone → (name : ℕ) → Contains gone name → (h : HeldObject) × (map.get s.held name ≡ Some h)
 goes_held DedicatedObject s object gone there goes name has = is_held s object name gone goes there has
 goes_held Imported s object gone there goes name has = is_held s object name gone goes there has
 goes_held BuddyChunk s object gone there (inl went) name has = is_held s object name gone went.1 there has
@@ -136,29 +136,29 @@ goes_held (FreeListChunk number) s object gone there goes name has = chunk_held 
 goes_held FitChunk s object gone there (inl went) name has = is_held s object name gone went.1 there has
 goes_held FitChunk s object gone there (inr stays) name has = absurd (contains_none name (subst (λ names. Contains names name) stays.1 has))
 
-pub all_held : (s : State) (n : ℕ) (gone : List ℕ) → AreAllGone s n gone → (name : ℕ) → Contains gone name → (h : HeldObject) × (map.get s.held name ≡ Some h)
+pub all_held : (s : State) (n : ℕ) (gone : List ℕ) → AreAllReleased s n gone → (name : ℕ) → Contains gone name → (h : HeldObject) × (map.get s.held name ≡ Some h)
 all_held s zero gone none name has = absurd (contains_none name (subst (λ names. Contains names name) none has))
 all_held s (suc n) gone (earlier, own, both, before, chunks) name has = elim (Contains-append_cases earlier own name (subst (λ names. Contains names name) both has)) [
   | inl first ↦ all_held s n earlier before name first
   | inr now ↦ let is = gone_held s n own chunks name now in (is.0, is.1)
 ]
 
--- What goes is settled, up to its order.
+-- What is released is determined, up to its order.
 
-chunks_same : (s : State) (t : ℕ) (keep_last : Bool) (gone also : List ℕ) → AreChunksGone s t keep_last gone → AreChunksGone s t keep_last also → (name : ℕ) → Contains gone name → Contains also name
+chunks_same : (s : State) (t : ℕ) (keep_last : Bool) (gone also : List ℕ) → AreChunksReleased s t keep_last gone → AreChunksReleased s t keep_last also → (name : ℕ) → Contains gone name → Contains also name
 chunks_same s t keep_last gone also chunks others name has = (others.all name).1 ((chunks.all name).0 has)
 
-fits_same : (s : State) (t : ℕ) (gone also : List ℕ) → AreFitsGone s t gone → AreFitsGone s t also → (name : ℕ) → Contains gone name → Contains also name
+fits_same : (s : State) (t : ℕ) (gone also : List ℕ) → AreFitChunksReleased s t gone → AreFitChunksReleased s t also → (name : ℕ) → Contains gone name → Contains also name
 fits_same s t gone also fits others name has = (others.all name).1 ((fits.all name).0 has)
 
-type_same : (s : State) (t : ℕ) (gone also : List ℕ) → AreGoneOfType s t gone → AreGoneOfType s t also → (name : ℕ) → Contains gone name → Contains also name
+type_same : (s : State) (t : ℕ) (gone also : List ℕ) → AreReleasedOfType s t gone → AreReleasedOfType s t also → (name : ℕ) → Contains gone name → Contains also name
 type_same s t gone also of_type others name has =
     subst (λ names. Contains names name) (sym others.both) (elim (Contains-append_cases of_type.listed of_type.fitted name (subst (λ names. Contains names name) of_type.both has)) [
       | inl listed ↦ Contains-append_left others.listed others.fitted name (chunks_same s t false of_type.listed others.listed of_type.of_list others.of_list name listed)
       | inr fitted ↦ Contains-append_right others.listed others.fitted name (fits_same s t of_type.fitted others.fitted of_type.of_fits others.of_fits name fitted)
     ])
 
-pub goes_same : (k : Kind) (s : State) (object : ℕ) (gone also : List ℕ) → GoesWith k s object gone → GoesWith k s object also → (name : ℕ) → Contains gone name → Contains also name
+pub goes_same : (k : Kind) (s : State) (object : ℕ) (gone also : List ℕ) → ReleasedWith k s object gone → ReleasedWith k s object also → (name : ℕ) → Contains gone name → Contains also name
 goes_same DedicatedObject s object gone also goes same name has = subst (λ names. Contains names name) (goes ∙ sym same) has
 goes_same Imported s object gone also goes same name has = subst (λ names. Contains names name) (goes ∙ sym same) has
 goes_same BuddyChunk s object gone also (inl goes) (inl same) name has = subst (λ names. Contains names name) (goes.1 ∙ sym same.1) has
@@ -167,13 +167,13 @@ goes_same BuddyChunk s object gone also (inr goes) (inl same) name has = absurd 
 goes_same BuddyChunk s object gone also (inr goes) (inr same) name has = subst (λ names. Contains names name) (goes.1 ∙ sym same.1) has
 goes_same (FreeListChunk number) s object gone also goes same name has =
     let one : goes.0 ≡ same.0 = one_value _ goes.0 same.0 goes.1 same.1 in
-    chunks_same s same.0.memory_type true gone also (subst (λ (h : HeldObject). AreChunksGone s h.memory_type true gone) one goes.2) same.2 name has
+    chunks_same s same.0.memory_type true gone also (subst (λ (h : HeldObject). AreChunksReleased s h.memory_type true gone) one goes.2) same.2 name has
 goes_same FitChunk s object gone also (inl goes) (inl same) name has = subst (λ names. Contains names name) (goes.1 ∙ sym same.1) has
 goes_same FitChunk s object gone also (inl goes) (inr same) name has = absurd (same.0 goes.0)
 goes_same FitChunk s object gone also (inr goes) (inl same) name has = absurd (goes.0 same.0)
 goes_same FitChunk s object gone also (inr goes) (inr same) name has = subst (λ names. Contains names name) (goes.1 ∙ sym same.1) has
 
-pub all_same : (s : State) (n : ℕ) (gone also : List ℕ) → AreAllGone s n gone → AreAllGone s n also → (name : ℕ) → Contains gone name → Contains also name
+pub all_same : (s : State) (n : ℕ) (gone also : List ℕ) → AreAllReleased s n gone → AreAllReleased s n also → (name : ℕ) → Contains gone name → Contains also name
 all_same s zero gone also none same name has = subst (λ names. Contains names name) (none ∙ sym same) has
 all_same s (suc n) gone also (earlier, own, both, before, chunks) (earlier', own', both', before', chunks') name has =
     subst (λ names. Contains names name) (sym both') (elim (Contains-append_cases earlier own name (subst (λ names. Contains names name) both has)) [

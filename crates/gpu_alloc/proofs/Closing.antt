@@ -8,16 +8,16 @@ use Rattle.std.specs.List.{slice_get, All}
 use Rattle.std.specs.Ordering.{nat_cmp}
 use Rattle.gpu_alloc_buddy.specs.BuddyState.{Buddy}
 use Rattle.gpu_alloc_base.specs.Chunks.{Chunk}
-use Rattle.gpu_alloc_freelist.specs.FreeListState.{Listing}
+use Rattle.gpu_alloc_freelist.specs.FreeListState.{FreeListState}
 use Rattle.gpu_alloc.proofs.Linked.{HasBuddies, HasFits, HasLists}
-use Rattle.gpu_alloc.specs.Opening.{AreFirstBuddies, AreFirstListings}
+use Rattle.gpu_alloc.specs.Opening.{AreFirstBuddies, AreFirstFreeLists}
 use Rattle.gpu_alloc.specs.Spans.{Table}
 use Rattle.gpu_alloc_block.specs.State.{HeldObject}
 use Rattle.gpu_alloc_base.specs.declared.config.Config.{Config}
 use Rattle.gpu_alloc_types.specs.Properties.{Properties}
 use Rattle.gpu_alloc.proofs.Ledgers.{Held}
 use Rattle.gpu_alloc_base.proofs.Maps.{name_test, eq-true}
-use Rattle.gpu_alloc_fit.specs.Fit.{Fitting}
+use Rattle.gpu_alloc_fit.specs.Fit.{FitState}
 
 -- Maps.
 
@@ -54,13 +54,13 @@ HasNoChunk b = finite.len b.chunks ≡ 0
 pub first_chunkless : (c : Config) (p : Properties) (buddies : List Buddy) → AreFirstBuddies c p buddies → All HasNoChunk buddies
 first_chunkless c p buddies are = all_of_each HasNoChunk buddies _ (λ i b is. ap (λ (x : Buddy). finite.len x.chunks) is.0 ∙ finite.len-empty nat_cmp Chunk) are
 
-abbrev pub IsEmptyList : Listing → Type 0
+abbrev pub IsEmptyList : FreeListState → Type 0
 IsEmptyList l = finite.len l.space.chunks ≡ 0
 
-pub first_lists_empty : (c : Config) (p : Properties) (lists : List Listing) → AreFirstListings c p lists → All IsEmptyList lists
-first_lists_empty c p lists are = all_of_each IsEmptyList lists _ (λ i l is. ap (λ (x : Listing). finite.len x.space.chunks) is.0 ∙ finite.len-empty nat_cmp Chunk) are
+pub first_lists_empty : (c : Config) (p : Properties) (lists : List FreeListState) → AreFirstFreeLists c p lists → All IsEmptyList lists
+first_lists_empty c p lists are = all_of_each IsEmptyList lists _ (λ i l is. ap (λ (x : FreeListState). finite.len x.space.chunks) is.0 ∙ finite.len-empty nat_cmp Chunk) are
 
-abbrev pub IsEmptyFit : Fitting → Type 0
+abbrev pub IsEmptyFit : FitState → Type 0
 IsEmptyFit f = finite.len f.space.chunks ≡ 0
 
 module _ (c : Config) (p : Properties) (t : Table) (none : finite.len t.held ≡ 0) where
@@ -72,8 +72,8 @@ module _ (c : Config) (p : Properties) (t : Table) (none : finite.len t.held ≡
   pub chunkless_all : (buddies : List Buddy) → HasBuddies c p t buddies → All HasNoChunk buddies
   chunkless_all buddies has = all_of_each HasNoChunk buddies _ (λ i b is. empty_without_key b.chunks (λ key chunk found. unheld chunk.object _ (is.linked.chunks key chunk found))) has.each
 
-  pub lists_empty : (lists : List Listing) → HasLists c p t lists → All IsEmptyList lists
+  pub lists_empty : (lists : List FreeListState) → HasLists c p t lists → All IsEmptyList lists
   lists_empty lists has = all_of_each IsEmptyList lists _ (λ i l is. empty_without_key l.space.chunks (λ number chunk found. unheld chunk.object _ (is.linked.chunks number chunk found))) has.each
 
-  pub fits_empty : (fits : List Fitting) → HasFits c p t fits → All IsEmptyFit fits
+  pub fits_empty : (fits : List FitState) → HasFits c p t fits → All IsEmptyFit fits
   fits_empty fits has = all_of_each IsEmptyFit fits _ (λ i f is. empty_without_key f.space.chunks (λ key chunk found. unheld chunk.object _ (is.linked.chunks key chunk found))) has.each

@@ -253,16 +253,16 @@ module _ (p : Properties) (heaps : List Heap) (t : Table) (remaining : ℕ) (is 
     pub held : now.held ≡ finite.remove t.held name
     pub live : now.live ≡ t.live
 
-  pub booked-let_go : (now : Table) (h : HeldObject) (name : ℕ) → HoldsFewerUnused now h name
+  pub booked-release : (now : Table) (h : HeldObject) (name : ℕ) → HoldsFewerUnused now h name
       → (heap changed : Heap) (i : ℕ) → i ≡ heap_at p h.memory_type → heap ≡ get_or heaps i heap → changed ≡ record heap { used = heap.used - h.counted } → IsBooked p (set heaps i changed) now (remaining + 1)
-  booked-let_go now h name l = booked-less now h name (record {
+  booked-release now h name l = booked-less now h name (record {
     found = l.found;
     held = l.held;
     unused = λ span is_now. l.unused span (subst (λ s. IsTrue (set_of.contains s span)) l.live is_now);
     others = λ q other. spans_same t now q l.live;
   })
 
-  -- A span comes or goes in a chunk that is held before and after.
+  -- A span is added or removed in a chunk that is held before and after.
 
   module _ (now : Table) (h : HeldObject) (span : Span) (found : finite.get t.held span.object ≡ Some h) (chunk : is_shared h.kind ≡ true) (held : now.held ≡ t.held) where
     -- an object that is no chunk is another one

@@ -1,4 +1,5 @@
--- What is free in a memory type's shared chunks, as its three parts tell it and as the whole allocator's state does.
+-- What is free in a memory type's shared chunks, as its three parts describe it and as the whole allocator's state
+-- does.
 use Rattle.std.proofs.Common.{◌≡◌, ◌≢◌, ◌⊎◌, inl, inr, ℕ, ◌↔◌, Bool, true, false, List, [], ◌∷◌, ◌++◌, get_or, Contains, Some, refl, sym, ap, subst, arith}
 use Rattle.std.proofs.lemmas.List.Elements.{Contains-get_or, Contains-append_left, Contains-append_right, Contains-append_cases, recursion_from_All}
 use Rattle.std.proofs.lemmas.Map.Keys.{IsDistinct-tail, IsDistinct-cons}
@@ -14,10 +15,10 @@ use Rattle.gpu_alloc_block.specs.declared.block.Kind.{Kind}
 use Rattle.gpu_alloc_block.specs.declared.block.Kind.TheVariants.{Dedicated, Imported, BuddyChunk, FreeListChunk, FitChunk}
 use Rattle.gpu_alloc_buddy.specs.Buddy.{IsPieceOf}
 use Rattle.gpu_alloc_buddy.specs.BuddyState.{Buddy}
-use Rattle.gpu_alloc_fit.specs.Fit.{Fitting}
+use Rattle.gpu_alloc_fit.specs.Fit.{FitState}
 use Rattle.gpu_alloc_fits.specs.Space.{IsFitRunOf}
 use Rattle.gpu_alloc_freelist.specs.FreeListAllocator.{IsRunOf}
-use Rattle.gpu_alloc_freelist.specs.FreeListState.{Listing, IsFreeIn}
+use Rattle.gpu_alloc_freelist.specs.FreeListState.{FreeListState, IsFreeIn}
 use Rattle.gpu_alloc.specs.FreeBytes.{IsFreeByte}
 use Rattle.gpu_alloc.specs.FreeRanges.{IsFreePieceOf, IsFreeRunOf, IsFreeRangeOf, has_runs}
 use Rattle.gpu_alloc_base.proofs.Lists.{contains_head, contains_later, head_is_other}
@@ -54,7 +55,7 @@ module _ (s : State) (index : ℕ) (b : Buddy) (serves : Serves s index b) where
 
 -- Free runs of a free list's chunks.
 
--- two ways to tell of free bytes that tell the same of one chunk, whatever name each has for it
+-- two descriptions of free bytes that agree on one chunk, whatever name each has for it
 run_to : (F G : ℕ → ℕ → Type 0) (x y : ℕ) → ((at : ℕ) → F x at → G y at) → ((at : ℕ) → G y at → F x at) → (start end : ℕ) → IsFreeRun F x start end → IsFreeRun G y start end
 run_to F G x y to from start end run = record {
   nonempty = run.nonempty;
@@ -62,7 +63,7 @@ run_to F G x y to from start end run = record {
   longest = λ start' end' free before after. run.longest start' end' (λ at low high. from at (free at low high)) before after;
 }
 
-module _ (s : State) (index : ℕ) (l : Listing) (serves : ServesList s index l) where
+module _ (s : State) (index : ℕ) (l : FreeListState) (serves : ServesList s index l) where
   module _ (number : ℕ) (chunk : Chunk) (held : map.get l.space.chunks number ≡ Some chunk) where
     byte_is : (at : ℕ) → IsFreeIn l.space number at → IsFreeByte s index (FreeListChunk number) chunk.object at
     byte_is at free =
@@ -100,7 +101,7 @@ module _ (s : State) (index : ℕ) (l : Listing) (serves : ServesList s index l)
 
 -- Free runs of fit chunks.
 
-module _ (s : State) (index : ℕ) (f : Fitting) (serves : ServesFits s index f) where
+module _ (s : State) (index : ℕ) (f : FitState) (serves : ServesFits s index f) where
   fit_run_in_bytes : (r : FreeRange) → IsFitRunOf f.space r → IsFreeRun (IsFreeByte s index FitChunk) r.object r.start r.end
   fit_run_in_bytes r is = subst (λ o. IsFreeRun (IsFreeByte s index FitChunk) o r.start r.end) is.object (run_in_object s index f serves is.key r.start r.end is.chunk is.held is.run)
 
@@ -136,7 +137,7 @@ distinct_append e (x ∷ xs) ys first second apart =
     ]))
     (distinct_append e xs ys (IsDistinct-tail e x xs first) second (λ a b has_a has_b. apart a b (contains_later x a xs has_a) has_b))
 
-module _ (s : State) (index : ℕ) (b : Buddy) (l : Listing) (f : Fitting) (of_buddy : Serves s index b) (of_list : ServesList s index l) (of_fits : ServesFits s index f)
+module _ (s : State) (index : ℕ) (b : Buddy) (l : FreeListState) (f : FitState) (of_buddy : Serves s index b) (of_list : ServesList s index l) (of_fits : ServesFits s index f)
     (pieces runs fitted : List FreeRange) (pieces_are : (r : FreeRange) → Contains pieces r ↔ IsPieceOf b r) (runs_are : (r : FreeRange) → Contains runs r ↔ IsRunOf l.space r)
     (fitted_are : (r : FreeRange) → Contains fitted r ↔ IsFitRunOf f.space r) where
   -- a run is one of the free list's or of the fit chunks'

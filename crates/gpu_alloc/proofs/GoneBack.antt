@@ -22,7 +22,7 @@ held_before : (held : Held) (gone : List ℕ) (object : ℕ) → (Contains gone 
 held_before held gone object stays = elim (gone_or_kept held gone object) [ inl has ↦ absurd (stays has) | inr kept ↦ kept ]
 
 module _ {D : Type 0} (step : D → Event → D → Type 0) (objects : D → ℕ → Option Object) (s new : State) (from to : D) (whole : total new ≡ total s) where
-  -- objects that were held, of which what the device has left is told in some order of its own
+  -- objects that were held, of which what the device has left is listed in some order of its own
   goes_back : (gone told : List ℕ) → Chain step from (map Deallocated gone) to → ((object : ℕ) → Contains gone object → (h : HeldObject) × (finite.get s.held object ≡ Some h)) → new.held ≡ without_all s.held gone
       → new.remaining ≡ s.remaining + length gone → ((object : ℕ) → Contains gone object → Contains told object) → ((object : ℕ) → Contains told object → Contains gone object) → objects to ≡ without_objects (objects from) told
       → LetsObjectsGo step objects s from new to

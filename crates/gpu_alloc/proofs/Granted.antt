@@ -432,7 +432,7 @@ unfolding IsAloneWhereServed
 required_granted s r hint required (Err e) is = tt
 required_granted s r hint required (Ok b) is = is.0 (subst (λ d. IsTrue (serves_alone s r (Some d) b.memory_type)) (sym required) refl)
 
--- by which kind it is served is told
+-- by which kind it is served is stated
 pub alone_told : AloneIsTold
 unfolding IsAloneWhereServed
 alone_told s r hint b is = is

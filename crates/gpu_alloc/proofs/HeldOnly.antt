@@ -22,7 +22,7 @@ use Rattle.gpu_alloc_buddy.specs.Buddy as of_buddy
 use Rattle.gpu_alloc_buddy.specs.BuddyState.{Buddy}
 use Rattle.gpu_alloc_freelist.specs.FreeList as lists
 use Rattle.gpu_alloc_freelist.specs.FreeListAllocator as of_list
-use Rattle.gpu_alloc_freelist.specs.FreeListState.{Listing}
+use Rattle.gpu_alloc_freelist.specs.FreeListState.{FreeListState}
 use Rattle.gpu_alloc_usage.specs.Ranking.{implied, is_allowed, named, ranking}
 use Rattle.gpu_alloc_usage.proofs.Ranking.Candidates.{candidates_IsRankingWithin, implied-named}
 use Rattle.gpu_alloc_usage.proofs.Ranking.Rising.{none-at, one-at}
@@ -39,7 +39,7 @@ use Rattle.gpu_alloc.specs.declared.request.Dedicated.{Dedicated}
 use Rattle.gpu_alloc.specs.declared.request.Dedicated.TheVariants.{Required, Preferred}
 use Rattle.gpu_alloc.specs.declared.request.Request.{Request}
 use Rattle.gpu_alloc_fit.specs.Fit as of_fit
-use Rattle.gpu_alloc_fit.specs.Fit.{Fitting}
+use Rattle.gpu_alloc_fit.specs.Fit.{FitState}
 use Rattle.gpu_alloc_fits.specs.Space as fit_space
 use Rattle.gpu_alloc.specs.FitSharing.{fit_alignment, fit_size}
 use Rattle.gpu_alloc.proofs.Fits.Serving as fits
@@ -48,7 +48,7 @@ use Rattle.gpu_alloc.proofs.Decisions.{decides_refused}
 use Rattle.gpu_alloc.proofs.FreeLists.Serving as free_lists
 use Rattle.gpu_alloc.proofs.Strategies.{shared_below}
 
--- A place, told by whether there is a refusal where nothing remains.
+-- A place, recognised by whether there is a refusal where nothing remains.
 
 told_by_refusal : {B S : Type 0} (c : Case B S) {X : Type 0} → c.remaining ≡ 0 → (c.Fits → c.HasPlace → X) → (X → c.Fits × c.HasPlace) → (first : Option AllocationError) → RefusesFirst c first → (told : Bool) → is_some first ≡ not told → IsTrue told ↔ X
 told_by_refusal c spent to from None unsure true is = elim (unsure.ways) [
@@ -72,7 +72,7 @@ module _ (s : State) (index : ℕ) (heap : Heap) (r : Request) (flags : ℕ) (fi
       (λ has. (subst of_buddy.Fits (sym size) has.fits, subst (of_buddy.HasPlace b) (sym size) (buddies.place_was s index b serves (buddy_size s r index) has.place)))
       first refuses told is
 
-  pub list_place_told : (l : Listing) → free_lists.ServesList s index l → RefusesFirst (of_list.case_of (account l heap 0) (wanted r.size r.align_mask flags)) first → IsTrue told ↔ HasPlaceBy InFreeList s r index
+  pub list_place_told : (l : FreeListState) → free_lists.ServesList s index l → RefusesFirst (of_list.case_of (account l heap 0) (wanted r.size r.align_mask flags)) first → IsTrue told ↔ HasPlaceBy InFreeList s r index
   list_place_told l serves refuses =
       let size : of_list.rounded l (wanted r.size r.align_mask flags) ≡ list_size s r index = free_lists.rounded_is s index l serves r flags in
       let alignment : of_list.alignment l (wanted r.size r.align_mask flags) ≡ list_alignment s r index = free_lists.alignment_is s index l serves r flags in
@@ -90,7 +90,7 @@ module _ (s : State) (index : ℕ) (heap : Heap) (r : Request) (flags : ℕ) (fi
       ))
       first refuses told is
 
-  pub fit_place_told : (f : Fitting) → fits.ServesFits s index f → 0 < r.size → RefusesFirst (of_fit.case_of (account f heap 0) (wanted r.size r.align_mask flags)) first → IsTrue told ↔ HasPlaceBy InFitChunk s r index
+  pub fit_place_told : (f : FitState) → fits.ServesFits s index f → 0 < r.size → RefusesFirst (of_fit.case_of (account f heap 0) (wanted r.size r.align_mask flags)) first → IsTrue told ↔ HasPlaceBy InFitChunk s r index
   fit_place_told f serves some refuses =
       let size : of_fit.rounded f (wanted r.size r.align_mask flags) ≡ fit_size s r index = fits.rounded_is s index f serves r flags in
       let alignment : of_fit.alignment f (wanted r.size r.align_mask flags) ≡ fit_alignment s r index = fits.alignment_is s index f serves r flags in

@@ -67,7 +67,7 @@ module _ (s : State) (p : Properties) (f : ℕ → Option Object) (new : State) 
     pub leaves_in_hand : ((b : Block) → IsOwned s b → g b.object ≡ f b.object) → IsSameOutside s f new g → LeavesInHand s p f new q g
     leaves_in_hand same beside = record { bytes = λ b owned. same_object b f g (same b owned); outside = beside; ready = all_ready; kept = all_kept }
 
-  -- one block goes
+  -- one block is removed
   pub removes_in_hand : (b : Block) → Removes s b new → ((c : Block) → IsOwned new c → g c.object ≡ f c.object) → IsSameOutside s f new g → RemovesInHand s p f b new q g
   removes_in_hand b removes same beside = record {
     bytes = λ c owned. same_object c f g (same c owned);

@@ -10,7 +10,7 @@ use Rattle.gpu_alloc_base.specs.declared.heap.Heap.{Heap}
 use Rattle.gpu_alloc_buddy.specs.BuddySound.{IsSoundBuddy}
 use Rattle.gpu_alloc_buddy.specs.BuddyState.{Buddy}
 use Rattle.gpu_alloc_freelist.specs.FreeListSound as list
-use Rattle.gpu_alloc_freelist.specs.FreeListState.{Listing}
+use Rattle.gpu_alloc_freelist.specs.FreeListState.{FreeListState}
 use Rattle.gpu_alloc_base.specs.Chunks.{Chunk}
 use Rattle.gpu_alloc_base.proofs.Leaves.{leaf_total, leaf_exact}
 use Rattle.gpu_alloc_base.proofs.Maps.{one_value}
@@ -31,7 +31,7 @@ use Rattle.gpu_alloc.specs.Whole.{buddy_part, fit_part, list_part, parts_of, who
 use Rattle.gpu_alloc.proofs.HeapLists.{each_set}
 use Rattle.gpu_alloc.proofs.Wholes.{at_buddy, at_fit, at_list, single, stands_at, within}
 use Rattle.gpu_alloc.specs.Spans.{Table}
-use Rattle.gpu_alloc_fit.specs.Fit.{Fitting}
+use Rattle.gpu_alloc_fit.specs.Fit.{FitState}
 use Rattle.gpu_alloc_fit.specs.FitSound as fit
 use Rattle.gpu_alloc_fits.specs.Space.{IsLiveSlot as IsLiveFit}
 use Rattle.gpu_alloc.specs.Sound.{is_chosen}
@@ -50,26 +50,26 @@ pub record HasBuddies (c : Config) (p : Properties) (t : Table) (buddies : List 
   pub count : length buddies ≡ length p.memory_types
   pub each : (index : ℕ) → IfSome (slice_get buddies index) (IsBuddyOf c p t index)
 
-pub record IsListOf (c : Config) (p : Properties) (t : Table) (index : ℕ) (l : Listing) : Type 0 where
+pub record IsListOf (c : Config) (p : Properties) (t : Table) (index : ℕ) (l : FreeListState) : Type 0 where
   pub for_type : IsListForType c p index l
-  pub sound : list.IsSoundListing l
+  pub sound : list.IsSoundFreeList l
   pub linked : IsListLinked t l
 
-pub record IsFitOf (c : Config) (p : Properties) (t : Table) (index : ℕ) (f : Fitting) : Type 0 where
+pub record IsFitOf (c : Config) (p : Properties) (t : Table) (index : ℕ) (f : FitState) : Type 0 where
   pub for_type : IsFitForType c p index f
   pub sized : HasFitSizes c p index f
-  pub sound : fit.IsSoundFitting f
+  pub sound : fit.IsSoundFit f
   pub linked : IsFitLinked t f
 
-pub record HasFits (c : Config) (p : Properties) (t : Table) (fits : List Fitting) : Type 0 where
+pub record HasFits (c : Config) (p : Properties) (t : Table) (fits : List FitState) : Type 0 where
   pub count : length fits ≡ length p.memory_types
   pub each : (index : ℕ) → IfSome (slice_get fits index) (IsFitOf c p t index)
 
-pub record HasLists (c : Config) (p : Properties) (t : Table) (lists : List Listing) : Type 0 where
+pub record HasLists (c : Config) (p : Properties) (t : Table) (lists : List FreeListState) : Type 0 where
   pub count : length lists ≡ length p.memory_types
   pub each : (index : ℕ) → IfSome (slice_get lists index) (IsListOf c p t index)
 
-pub record IsConsistent (sharing : Sharing) (c : Config) (p : Properties) (heaps : List Heap) (buddies : List Buddy) (lists : List Listing) (fits : List Fitting) (t : Table) (remaining : ℕ) : Type 0 where
+pub record IsConsistent (sharing : Sharing) (c : Config) (p : Properties) (heaps : List Heap) (buddies : List Buddy) (lists : List FreeListState) (fits : List FitState) (t : Table) (remaining : ℕ) : Type 0 where
   pub books : IsBooked p heaps t remaining
   pub shared : HasBuddies c p t buddies
   pub listed : HasLists c p t lists
@@ -77,24 +77,24 @@ pub record IsConsistent (sharing : Sharing) (c : Config) (p : Properties) (heaps
   pub chosen : IsChosen sharing t
 
 -- All but that the parts are apart.
-pub record IsRecorded (sharing : Sharing) (c : Config) (p : Properties) (heaps : List Heap) (buddies : List Buddy) (lists : List Listing) (fits : List Fitting) (t : Table) (remaining : ℕ) : Type 0 where
+pub record IsRecorded (sharing : Sharing) (c : Config) (p : Properties) (heaps : List Heap) (buddies : List Buddy) (lists : List FreeListState) (fits : List FitState) (t : Table) (remaining : ℕ) : Type 0 where
   pub books : IsBooked p heaps t remaining
   pub shared : AreBuddies c p buddies
   pub listed : AreLists c p lists
   pub fitted : AreFits c p fits
   pub chosen : IsChosen sharing t
 
-pub kept_as : (sharing : Sharing) (c : Config) (p : Properties) (heaps : List Heap) (buddies : List Buddy) (lists : List Listing) (fits : List Fitting) (own : OwnTable) (remaining : ℕ) → IsRecorded sharing c p heaps buddies lists fits (whole own buddies lists fits) remaining
+pub kept_as : (sharing : Sharing) (c : Config) (p : Properties) (heaps : List Heap) (buddies : List Buddy) (lists : List FreeListState) (fits : List FitState) (own : OwnTable) (remaining : ℕ) → IsRecorded sharing c p heaps buddies lists fits (whole own buddies lists fits) remaining
     → AreOneWhole own buddies lists fits → IsKept sharing c p heaps buddies lists fits own remaining
 kept_as sharing c p heaps buddies lists fits own remaining is apart = record { books = is.books; shared = is.shared; listed = is.listed; fitted = is.fitted; chosen = is.chosen; apart = apart }
 
 -- fields that keep what they have to, and stand for this state
-abbrev pub StandFor : {A : Type 0} → Limits A → List Heap → List Buddy → List Listing → List Fitting → OwnTable → ℕ → State → Type 0
+abbrev pub StandFor : {A : Type 0} → Limits A → List Heap → List Buddy → List FreeListState → List FitState → OwnTable → ℕ → State → Type 0
 StandFor l heaps buddies lists fits own remaining s = IsKept l.sharing l.config (properties_in l heaps) heaps buddies lists fits own remaining × (state_in l heaps buddies lists fits (whole own buddies lists fits) remaining ≡ s)
 
 -- They follow from what the parts hold.
 
-module _ (sharing : Sharing) (c : Config) (p : Properties) (heaps : List Heap) (own : OwnTable) (buddies : List Buddy) (lists : List Listing) (fits : List Fitting) (remaining : ℕ) (kept : IsKept sharing c p heaps buddies lists fits own remaining) where
+module _ (sharing : Sharing) (c : Config) (p : Properties) (heaps : List Heap) (own : OwnTable) (buddies : List Buddy) (lists : List FreeListState) (fits : List FitState) (remaining : ℕ) (kept : IsKept sharing c p heaps buddies lists fits own remaining) where
   abbrev t : Table
   t = whole own buddies lists fits
 
@@ -132,7 +132,7 @@ module _ (sharing : Sharing) (c : Config) (p : Properties) (heaps : List Heap) (
       holds : (object : ℕ) (h : HeldObject) → IsChunkOf t b.memory_type object h → Holds (buddy_part b) object h
       holds object h of = own_part Spot ps kept.apart (single (length buddies) (length lists)) (suc index) (buddy_part b) object h of.held (inl (of.of_kind, of.of_type ∙ is.for_type.memory_type, known)) at
 
-  list_linked : (index : ℕ) (l : Listing) → slice_get lists index ≡ Some l → IsListFor c p index l → IsListLinked t l
+  list_linked : (index : ℕ) (l : FreeListState) → slice_get lists index ≡ Some l → IsListFor c p index l → IsListLinked t l
   list_linked index l there is = record {
     chunks = λ number chunk held. whole_has number chunk held;
     objects = λ number object h of.
@@ -166,7 +166,7 @@ module _ (sharing : Sharing) (c : Config) (p : Properties) (heaps : List Heap) (
       whole_has : (number : ℕ) (chunk : Chunk) → finite.get l.space.chunks number ≡ Some chunk → finite.get t.held chunk.object ≡ Some (list_object l number chunk)
       whole_has number chunk held = holds_of Spot ps kept.apart spot (list_part l) chunk.object (list_object l number chunk) at (name_there (list_object l) l.space.chunks is.sound.one_object number chunk held)
 
-  fit_linked : (index : ℕ) (f : Fitting) → slice_get fits index ≡ Some f → IsFitFor c p index f → IsFitLinked t f
+  fit_linked : (index : ℕ) (f : FitState) → slice_get fits index ≡ Some f → IsFitFor c p index f → IsFitLinked t f
   fit_linked index f there is = record {
     chunks = λ key chunk held. holds_of Spot ps kept.apart spot (fit_part f) chunk.object (fit_object f chunk) at (name_there object_in f.space.chunks named key chunk held);
     objects = λ object h of.
@@ -208,11 +208,11 @@ module _ (sharing : Sharing) (c : Config) (p : Properties) (heaps : List Heap) (
       buddies_each i None there is = tt
       buddies_each i (Some b) there is = record { for_type = is.for_type; sound = is.sound; linked = buddy_linked i b there is }
 
-      lists_each : (i : ℕ) (o : Option Listing) → slice_get lists i ≡ o → IfSome o (IsListFor c p i) → IfSome o (IsListOf c p t i)
+      lists_each : (i : ℕ) (o : Option FreeListState) → slice_get lists i ≡ o → IfSome o (IsListFor c p i) → IfSome o (IsListOf c p t i)
       lists_each i None there is = tt
       lists_each i (Some l) there is = record { for_type = is.for_type; sound = is.sound; linked = list_linked i l there is }
 
-      fits_each : (i : ℕ) (o : Option Fitting) → slice_get fits i ≡ o → IfSome o (IsFitFor c p i) → IfSome o (IsFitOf c p t i)
+      fits_each : (i : ℕ) (o : Option FitState) → slice_get fits i ≡ o → IfSome o (IsFitFor c p i) → IfSome o (IsFitOf c p t i)
       fits_each i None there is = tt
       fits_each i (Some f) there is = record { for_type = is.for_type; sized = is.sized; sound = is.sound; linked = fit_linked i f there is }
 
@@ -225,10 +225,10 @@ some_for P Q (Some x) also is = also x is
 pub buddies_for : (c : Config) (p : Properties) (t : Table) (buddies : List Buddy) → HasBuddies c p t buddies → AreBuddies c p buddies
 buddies_for c p t buddies has = record { count = has.count; each = λ i. some_for (IsBuddyOf c p t i) (IsBuddyFor c p i) (slice_get buddies i) (λ b of. record { for_type = of.for_type; sound = of.sound }) (has.each i) }
 
-pub lists_for : (c : Config) (p : Properties) (t : Table) (lists : List Listing) → HasLists c p t lists → AreLists c p lists
+pub lists_for : (c : Config) (p : Properties) (t : Table) (lists : List FreeListState) → HasLists c p t lists → AreLists c p lists
 lists_for c p t lists has = record { count = has.count; each = λ i. some_for (IsListOf c p t i) (IsListFor c p i) (slice_get lists i) (λ l of. record { for_type = of.for_type; sound = of.sound }) (has.each i) }
 
-pub fits_for : (c : Config) (p : Properties) (t : Table) (fits : List Fitting) → HasFits c p t fits → AreFits c p fits
+pub fits_for : (c : Config) (p : Properties) (t : Table) (fits : List FitState) → HasFits c p t fits → AreFits c p fits
 fits_for c p t fits has = record { count = has.count; each = λ i. some_for (IsFitOf c p t i) (IsFitFor c p i) (slice_get fits i) (λ f of. record { for_type = of.for_type; sized = of.sized; sound = of.sound }) (has.each i) }
 
 -- What is held is as it was chosen: as before, with one more that is, or with fewer.
@@ -258,14 +258,14 @@ chosen_less sharing t now name chosen less object h at = elim (one_or_two object
 pub buddies_set : (c : Config) (p : Properties) (buddies : List Buddy) (index : ℕ) (b : Buddy) → AreBuddies c p buddies → IsBuddyFor c p index b → AreBuddies c p (set buddies index b)
 buddies_set c p buddies index b are is = record { count = length-set buddies index b ∙ are.count; each = each_set (IsBuddyFor c p) buddies index b is (λ q other. are.each q) }
 
-pub lists_set : (c : Config) (p : Properties) (lists : List Listing) (index : ℕ) (l : Listing) → AreLists c p lists → IsListFor c p index l → AreLists c p (set lists index l)
+pub lists_set : (c : Config) (p : Properties) (lists : List FreeListState) (index : ℕ) (l : FreeListState) → AreLists c p lists → IsListFor c p index l → AreLists c p (set lists index l)
 lists_set c p lists index l are is = record { count = length-set lists index l ∙ are.count; each = each_set (IsListFor c p) lists index l is (λ q other. are.each q) }
 
-pub fits_set : (c : Config) (p : Properties) (fits : List Fitting) (index : ℕ) (f : Fitting) → AreFits c p fits → IsFitFor c p index f → AreFits c p (set fits index f)
+pub fits_set : (c : Config) (p : Properties) (fits : List FitState) (index : ℕ) (f : FitState) → AreFits c p fits → IsFitFor c p index f → AreFits c p (set fits index f)
 fits_set c p fits index f are is = record { count = length-set fits index f ∙ are.count; each = each_set (IsFitFor c p) fits index f is (λ q other. are.each q) }
 
 -- Room is made for one more object, and nothing else changes.
-pub kept-room : (sharing : Sharing) (c : Config) (p : Properties) (heaps : List Heap) (buddies : List Buddy) (lists : List Listing) (fits : List Fitting) (own now : OwnTable) (remaining : ℕ) → now ≡ record own { room = now.room }
+pub kept-room : (sharing : Sharing) (c : Config) (p : Properties) (heaps : List Heap) (buddies : List Buddy) (lists : List FreeListState) (fits : List FitState) (own now : OwnTable) (remaining : ℕ) → now ≡ record own { room = now.room }
     → IsKept sharing c p heaps buddies lists fits own remaining → IsKept sharing c p heaps buddies lists fits now remaining
 kept-room sharing c p heaps buddies lists fits own now remaining kept is =
     subst (λ (x : OwnTable). IsKept sharing c p heaps buddies lists fits x remaining) (sym kept) (record { books = is.books; shared = is.shared; listed = is.listed; fitted = is.fitted; chosen = is.chosen; apart = is.apart })

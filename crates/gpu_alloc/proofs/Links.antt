@@ -8,9 +8,9 @@ use Rattle.gpu_alloc_base.specs.declared.free_list_block.Slot.{Slot}
 use Rattle.gpu_alloc_block.specs.State.{HeldObject, Span}
 use Rattle.gpu_alloc_block.specs.declared.block.Kind.TheVariants.{BuddyChunk, FreeListChunk, FitChunk}
 use Rattle.gpu_alloc_buddy.specs.BuddyState.{Buddy, IsLiveBuddyLeaf}
-use Rattle.gpu_alloc_fit.specs.Fit.{Fitting}
+use Rattle.gpu_alloc_fit.specs.Fit.{FitState}
 use Rattle.gpu_alloc_fits.specs.Space as fit_space
-use Rattle.gpu_alloc_freelist.specs.FreeListState.{Listing, IsLiveSlot}
+use Rattle.gpu_alloc_freelist.specs.FreeListState.{FreeListState, IsLiveSlot}
 use Rattle.gpu_alloc.specs.Inside.{IsLiveIn, chunk_object, fit_object, list_object, span_of_leaf, span_of_slot}
 use Rattle.gpu_alloc.specs.Spans.{Table}
 
@@ -47,7 +47,7 @@ pub record IsNumberedChunk (t : Table) (memory_type number object : ℕ) (h : He
 abbrev pub slot_at : Span → ℕ → Slot
 slot_at span number = record { object = span.object; chunk = number; offset = span.offset; size = span.size }
 
-pub record IsListLinked (t : Table) (l : Listing) : Type 0 where
+pub record IsListLinked (t : Table) (l : FreeListState) : Type 0 where
   pub chunks : (number : ℕ) (c : Chunk) → map_of.get l.space.chunks number ≡ Some c → map_of.get t.held c.object ≡ Some (list_object l number c)
   pub objects : (number object : ℕ) (h : HeldObject) → IsNumberedChunk t l.memory_type number object h → map_of.get l.space.chunks number ≡ Some (record { object = object; size = h.counted })
   pub slots : (slot : Slot) → IsLiveSlot l.space slot → IsLiveIn t (span_of_slot slot)
@@ -61,7 +61,7 @@ pub record IsFitChunkOf (t : Table) (memory_type object : ℕ) (h : HeldObject) 
   pub of_kind : h.kind ≡ FitChunk
   pub of_type : h.memory_type ≡ memory_type
 
-pub record IsFitLinked (t : Table) (f : Fitting) : Type 0 where
+pub record IsFitLinked (t : Table) (f : FitState) : Type 0 where
   pub chunks : (key : ℕ) (c : Chunk) → map_of.get f.space.chunks key ≡ Some c → map_of.get t.held c.object ≡ Some (fit_object f c)
   pub objects : (object : ℕ) (h : HeldObject) → IsFitChunkOf t f.memory_type object h → (key : ℕ) × (map_of.get f.space.chunks key ≡ Some (record { object = object; size = h.counted }))
   pub slots : (slot : Slot) → fit_space.IsLiveSlot f.space slot → IsLiveIn t (span_of_slot slot)

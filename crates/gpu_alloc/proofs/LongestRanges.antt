@@ -9,7 +9,7 @@ use Rattle.gpu_alloc_base.specs.Sizes.{down}
 use Rattle.gpu_alloc_base.proofs.AlignedPowers.{lies_in, pow-le}
 use Rattle.gpu_alloc_base.proofs.Multiples.{down_below, multiple_down}
 
--- the first byte of the first so many that fails a test, or none does
+-- among the first n bytes, the first that fails a test, or none does
 module _ (P : ℕ → Type 0) (test : (x : ℕ) → P x ⊎ (P x → ⊥)) where
   record Fails (start length : ℕ) : Type 0 where
     at : ℕ

@@ -15,11 +15,11 @@ use Rattle.gpu_alloc_buddy.specs.Buddy as buddy
 use Rattle.gpu_alloc_buddy.specs.BuddySound.{IsSoundBuddy}
 use Rattle.gpu_alloc_buddy.specs.BuddyState.{Buddy}
 use Rattle.gpu_alloc_freelist.specs.FreeListAllocator as list
-use Rattle.gpu_alloc_freelist.specs.FreeListSound.{IsSoundListing}
-use Rattle.gpu_alloc_freelist.specs.FreeListState.{Listing}
+use Rattle.gpu_alloc_freelist.specs.FreeListSound.{IsSoundFreeList}
+use Rattle.gpu_alloc_freelist.specs.FreeListState.{FreeListState}
 use Rattle.gpu_alloc_fit.specs.Fit as fit
-use Rattle.gpu_alloc_fit.specs.Fit.{Fitting}
-use Rattle.gpu_alloc_fit.specs.FitSound.{IsSoundFitting}
+use Rattle.gpu_alloc_fit.specs.Fit.{FitState}
+use Rattle.gpu_alloc_fit.specs.FitSound.{IsSoundFit}
 use Rattle.gpu_alloc_base.specs.FreeSpace.{IsMultipleOf}
 use Rattle.gpu_alloc_base.specs.Heap.{unused}
 use Rattle.gpu_alloc_base.proofs.ChunkSizes.{cut_whole, starting_fits}
@@ -29,7 +29,7 @@ use Rattle.gpu_alloc.specs.Inside.{IsBooked, IsBuddyFor, IsFitFor, IsKnown, IsLe
 use Rattle.gpu_alloc.specs.Own.{OwnTable}
 use Rattle.gpu_alloc.specs.Whole.{whole, IsKept}
 use Rattle.gpu_alloc.proofs.Wholes.{apart_unused, nothing_held, nothing_live}
-use Rattle.gpu_alloc.specs.Opening.{first_buddy, AreFirstBuddies, first_listing, AreFirstListings, first_fitting, AreFirstFittings}
+use Rattle.gpu_alloc.specs.Opening.{first_buddy, AreFirstBuddies, first_listing, AreFirstFreeLists, first_fitting, AreFirstFits}
 use Rattle.gpu_alloc_base.specs.Sizes.{minimal_size, initial_size, starting_size, final_size}
 use Rattle.gpu_alloc.specs.FirstTypes.{first_type_state, first_types}
 use Rattle.gpu_alloc.specs.Spans.{Table}
@@ -95,11 +95,11 @@ each_more P (y ∷ xs) x each is (suc i) = each_more (λ j. P (suc j)) xs x (λ 
 pub one_first_more : (c : Config) (p : Properties) (buddies : List Buddy) (t : ℕ) (b : Buddy) → AreFirstBuddies c p buddies → length buddies ≡ t → b ≡ first_buddy c p t → IsSoundBuddy b → AreFirstBuddies c p (buddies ++ b ∷ [])
 one_first_more c p buddies t b are count is sound = each_more (λ i x. (x ≡ first_buddy c p i) × IsSoundBuddy x) buddies b are (is ∙ ap (first_buddy c p) (sym count), sound)
 
-pub one_first_list_more : (c : Config) (p : Properties) (lists : List Listing) (t : ℕ) (l : Listing) → AreFirstListings c p lists → length lists ≡ t → l ≡ first_listing c p t → IsSoundListing l → AreFirstListings c p (lists ++ l ∷ [])
-one_first_list_more c p lists t l are count is sound = each_more (λ i x. (x ≡ first_listing c p i) × IsSoundListing x) lists l are (is ∙ ap (first_listing c p) (sym count), sound)
+pub one_first_list_more : (c : Config) (p : Properties) (lists : List FreeListState) (t : ℕ) (l : FreeListState) → AreFirstFreeLists c p lists → length lists ≡ t → l ≡ first_listing c p t → IsSoundFreeList l → AreFirstFreeLists c p (lists ++ l ∷ [])
+one_first_list_more c p lists t l are count is sound = each_more (λ i x. (x ≡ first_listing c p i) × IsSoundFreeList x) lists l are (is ∙ ap (first_listing c p) (sym count), sound)
 
-pub one_first_fit_more : (c : Config) (p : Properties) (fits : List Fitting) (t : ℕ) (f : Fitting) → AreFirstFittings c p fits → length fits ≡ t → f ≡ first_fitting c p t → IsSoundFitting f → AreFirstFittings c p (fits ++ f ∷ [])
-one_first_fit_more c p fits t f are count is sound = each_more (λ i x. (x ≡ first_fitting c p i) × IsSoundFitting x) fits f are (is ∙ ap (first_fitting c p) (sym count), sound)
+pub one_first_fit_more : (c : Config) (p : Properties) (fits : List FitState) (t : ℕ) (f : FitState) → AreFirstFits c p fits → length fits ≡ t → f ≡ first_fitting c p t → IsSoundFit f → AreFirstFits c p (fits ++ f ∷ [])
+one_first_fit_more c p fits t f are count is sound = each_more (λ i x. (x ≡ first_fitting c p i) × IsSoundFit x) fits f are (is ∙ ap (first_fitting c p) (sym count), sound)
 
 -- none has a chunk or a block
 
@@ -113,15 +113,15 @@ buddies_unused c p buddies are i b at =
     let is = (subst (λ (o : Option Buddy). IfSome o (λ x. (x ≡ first_buddy c p i) × IsSoundBuddy x)) (there_at buddies i b at) (are i)).0 in
     (ap (λ (x : Buddy). x.chunks) is, ap (λ (x : Buddy). x.live) is)
 
-pub lists_unused : (c : Config) (p : Properties) (lists : List Listing) → AreFirstListings c p lists → (i : ℕ) (l : Listing) → IsAt lists i l → (l.space.chunks ≡ finite.empty) × (l.space.live ≡ set_of.empty)
+pub lists_unused : (c : Config) (p : Properties) (lists : List FreeListState) → AreFirstFreeLists c p lists → (i : ℕ) (l : FreeListState) → IsAt lists i l → (l.space.chunks ≡ finite.empty) × (l.space.live ≡ set_of.empty)
 lists_unused c p lists are i l at =
-    let is = (subst (λ (o : Option Listing). IfSome o (λ x. (x ≡ first_listing c p i) × IsSoundListing x)) (there_at lists i l at) (are i)).0 in
-    (ap (λ (x : Listing). x.space.chunks) is, ap (λ (x : Listing). x.space.live) is)
+    let is = (subst (λ (o : Option FreeListState). IfSome o (λ x. (x ≡ first_listing c p i) × IsSoundFreeList x)) (there_at lists i l at) (are i)).0 in
+    (ap (λ (x : FreeListState). x.space.chunks) is, ap (λ (x : FreeListState). x.space.live) is)
 
-pub fits_unused : (c : Config) (p : Properties) (fits : List Fitting) → AreFirstFittings c p fits → (i : ℕ) (f : Fitting) → IsAt fits i f → (f.space.chunks ≡ finite.empty) × (f.space.live ≡ set_of.empty)
+pub fits_unused : (c : Config) (p : Properties) (fits : List FitState) → AreFirstFits c p fits → (i : ℕ) (f : FitState) → IsAt fits i f → (f.space.chunks ≡ finite.empty) × (f.space.live ≡ set_of.empty)
 fits_unused c p fits are i f at =
-    let is = (subst (λ (o : Option Fitting). IfSome o (λ x. (x ≡ first_fitting c p i) × IsSoundFitting x)) (there_at fits i f at) (are i)).0 in
-    (ap (λ (x : Fitting). x.space.chunks) is, ap (λ (x : Fitting). x.space.live) is)
+    let is = (subst (λ (o : Option FitState). IfSome o (λ x. (x ≡ first_fitting c p i) × IsSoundFit x)) (there_at fits i f at) (are i)).0 in
+    (ap (λ (x : FitState). x.space.chunks) is, ap (λ (x : FitState). x.space.live) is)
 
 -- the chunk sizes are the first ones
 types_kept : (types : List TypeState) (buddies : List Buddy) → length types ≤ length buddies → ((i : ℕ) → IfSome (slice_get types i) (λ t. IfSome (slice_get buddies i) (λ b. b.next_chunk ≡ t.next_chunk))) → types_in types buddies ≡ types
@@ -145,46 +145,46 @@ first_types_kept c p buddies count are =
     of_type i (Some own) found = next i own found (slice_get buddies i) (are i)
 
 -- and the first numbers
-lists_kept : (types : List TypeState) (lists : List Listing) → length types ≤ length lists
+lists_kept : (types : List TypeState) (lists : List FreeListState) → length types ≤ length lists
     → ((i : ℕ) → IfSome (slice_get types i) (λ t. IfSome (slice_get lists i) (λ l. (l.next_chunk ≡ t.list_chunk) × (l.space.latest ≡ t.number)))) → lists_in types lists ≡ types
 lists_kept [] lists le same = refl
 lists_kept (t ∷ types) [] le same = absurd (omega arith)
 lists_kept (t ∷ types) (l ∷ lists) le same = λ k. record t { list_chunk = (same zero).0 k; number = (same zero).1 k } ∷ lists_kept types lists (omega arith) (λ i. same (suc i)) k
 
-pub first_lists_kept : (c : Config) (p : Properties) (lists : List Listing) → length lists ≡ length p.memory_types → AreFirstListings c p lists → lists_in (first_types c p) lists ≡ first_types c p
+pub first_lists_kept : (c : Config) (p : Properties) (lists : List FreeListState) → length lists ≡ length p.memory_types → AreFirstFreeLists c p lists → lists_in (first_types c p) lists ≡ first_types c p
 first_lists_kept c p lists count are =
     lists_kept (first_types c p) lists (omega (arith, count, length-map p.memory_types (first_type_state c p)))
     (λ i. subst (λ o. IfSome o (λ t. IfSome (slice_get lists i) (λ l. (l.next_chunk ≡ t.list_chunk) × (l.space.latest ≡ t.number)))) (sym (slice_get-map (first_type_state c p) p.memory_types i)) (of_type i (slice_get p.memory_types i) refl))
   where
-    first : (i : ℕ) (own : MemoryType) → slice_get p.memory_types i ≡ Some own → (o : Option Listing) → IfSome o (λ l. (l ≡ first_listing c p i) × IsSoundListing l)
+    first : (i : ℕ) (own : MemoryType) → slice_get p.memory_types i ≡ Some own → (o : Option FreeListState) → IfSome o (λ l. (l ≡ first_listing c p i) × IsSoundFreeList l)
         → IfSome o (λ l. (l.next_chunk ≡ (first_type_state c p own).list_chunk) × (l.space.latest ≡ (first_type_state c p own).number))
     first i own found None is = tt
     first i own found (Some l) is =
         let size : heap_size p i ≡ size_of (slice_get p.memory_heaps own.heap) = ap (λ o. size_of (slice_get p.memory_heaps (heap_of o))) found in
         let atom : atom_of p i ≡ atom_for p (property_bits own.props) = ap (λ o. atom_for p (bits_of o)) found in
-        (ap (λ (x : Listing). x.next_chunk) is.0 ∙ (λ k. starting_size c (size k) (atom k)), ap (λ (x : Listing). x.space.latest) is.0)
+        (ap (λ (x : FreeListState). x.next_chunk) is.0 ∙ (λ k. starting_size c (size k) (atom k)), ap (λ (x : FreeListState). x.space.latest) is.0)
 
     of_type : (i : ℕ) (o : Option MemoryType) → slice_get p.memory_types i ≡ o → IfSome (option_map (first_type_state c p) o) (λ t. IfSome (slice_get lists i) (λ l. (l.next_chunk ≡ t.list_chunk) × (l.space.latest ≡ t.number)))
     of_type i None found = tt
     of_type i (Some own) found = first i own found (slice_get lists i) (are i)
 
 -- and the first fit chunks' sizes
-fits_kept : (types : List TypeState) (fits : List Fitting) → length types ≤ length fits → ((i : ℕ) → IfSome (slice_get types i) (λ t. IfSome (slice_get fits i) (λ f. f.next_chunk ≡ t.fit_chunk))) → fits_in types fits ≡ types
+fits_kept : (types : List TypeState) (fits : List FitState) → length types ≤ length fits → ((i : ℕ) → IfSome (slice_get types i) (λ t. IfSome (slice_get fits i) (λ f. f.next_chunk ≡ t.fit_chunk))) → fits_in types fits ≡ types
 fits_kept [] fits le same = refl
 fits_kept (t ∷ types) [] le same = absurd (omega arith)
 fits_kept (t ∷ types) (f ∷ fits) le same = λ k. record t { fit_chunk = same zero k } ∷ fits_kept types fits (omega arith) (λ i. same (suc i)) k
 
-pub first_fits_kept : (c : Config) (p : Properties) (fits : List Fitting) → length fits ≡ length p.memory_types → AreFirstFittings c p fits → fits_in (first_types c p) fits ≡ first_types c p
+pub first_fits_kept : (c : Config) (p : Properties) (fits : List FitState) → length fits ≡ length p.memory_types → AreFirstFits c p fits → fits_in (first_types c p) fits ≡ first_types c p
 first_fits_kept c p fits count are =
     fits_kept (first_types c p) fits (omega (arith, count, length-map p.memory_types (first_type_state c p)))
     (λ i. subst (λ o. IfSome o (λ t. IfSome (slice_get fits i) (λ f. f.next_chunk ≡ t.fit_chunk))) (sym (slice_get-map (first_type_state c p) p.memory_types i)) (of_type i (slice_get p.memory_types i) refl))
   where
-    first : (i : ℕ) (own : MemoryType) → slice_get p.memory_types i ≡ Some own → (o : Option Fitting) → IfSome o (λ f. (f ≡ first_fitting c p i) × IsSoundFitting f) → IfSome o (λ f. f.next_chunk ≡ (first_type_state c p own).fit_chunk)
+    first : (i : ℕ) (own : MemoryType) → slice_get p.memory_types i ≡ Some own → (o : Option FitState) → IfSome o (λ f. (f ≡ first_fitting c p i) × IsSoundFit f) → IfSome o (λ f. f.next_chunk ≡ (first_type_state c p own).fit_chunk)
     first i own found None is = tt
     first i own found (Some f) is =
         let size : heap_size p i ≡ size_of (slice_get p.memory_heaps own.heap) = ap (λ o. size_of (slice_get p.memory_heaps (heap_of o))) found in
         let atom : atom_of p i ≡ atom_for p (property_bits own.props) = ap (λ o. atom_for p (bits_of o)) found in
-        ap (λ (x : Fitting). x.next_chunk) is.0 ∙ (λ k. starting_size c (size k) (grain (atom k)))
+        ap (λ (x : FitState). x.next_chunk) is.0 ∙ (λ k. starting_size c (size k) (grain (atom k)))
 
     of_type : (i : ℕ) (o : Option MemoryType) → slice_get p.memory_types i ≡ o → IfSome (option_map (first_type_state c p) o) (λ t. IfSome (slice_get fits i) (λ f. f.next_chunk ≡ t.fit_chunk))
     of_type i None found = tt
@@ -243,29 +243,29 @@ buddy_for c p i b is sound = record {
   sound = sound;
 }
 
-list_for : (c : Config) (p : Properties) (i : ℕ) (l : Listing) → l ≡ first_listing c p i → IsSoundListing l → IsListFor c p i l
+list_for : (c : Config) (p : Properties) (i : ℕ) (l : FreeListState) → l ≡ first_listing c p i → IsSoundFreeList l → IsListFor c p i l
 list_for c p i l is sound = record {
   for_type = record {
-    memory_type = ap (λ (x : Listing). x.memory_type) is;
-    props = ap (λ (x : Listing). x.props) is;
-    atom = ap (λ (x : Listing). x.atom) is;
-    final_chunk = ap (λ (x : Listing). x.final_chunk) is;
+    memory_type = ap (λ (x : FreeListState). x.memory_type) is;
+    props = ap (λ (x : FreeListState). x.props) is;
+    atom = ap (λ (x : FreeListState). x.atom) is;
+    final_chunk = ap (λ (x : FreeListState). x.final_chunk) is;
   };
   sound = sound;
 }
 
-fit_for : (c : Config) (p : Properties) (i : ℕ) (f : Fitting) → f ≡ first_fitting c p i → IsSoundFitting f → IsFitFor c p i f
+fit_for : (c : Config) (p : Properties) (i : ℕ) (f : FitState) → f ≡ first_fitting c p i → IsSoundFit f → IsFitFor c p i f
 fit_for c p i f is sound = record {
   for_type = record {
-    memory_type = ap (λ (x : Fitting). x.memory_type) is;
-    props = ap (λ (x : Fitting). x.props) is;
-    atom = ap (λ (x : Fitting). x.atom) is;
-    final_chunk = ap (λ (x : Fitting). x.final_chunk) is;
+    memory_type = ap (λ (x : FitState). x.memory_type) is;
+    props = ap (λ (x : FitState). x.props) is;
+    atom = ap (λ (x : FitState). x.atom) is;
+    final_chunk = ap (λ (x : FitState). x.final_chunk) is;
   };
   sized = record {
-    next = subst (IsFitChunkSize c (heap_size p i) (grain (atom_of p i))) (sym (ap (λ (x : Fitting). x.next_chunk) is)) (first_sized c (heap_size p i) (grain (atom_of p i)) (omega arith));
+    next = subst (IsFitChunkSize c (heap_size p i) (grain (atom_of p i))) (sym (ap (λ (x : FitState). x.next_chunk) is)) (first_sized c (heap_size p i) (grain (atom_of p i)) (omega arith));
     chunks = λ key chunk held. absurd (
-        let none = ap (λ (x : Fitting). finite.get x.space.chunks key) is ∙ finite.get-empty nat_cmp key in
+        let none = ap (λ (x : FitState). finite.get x.space.chunks key) is ∙ finite.get-empty nat_cmp key in
         let never : None ≡ Some chunk = sym none ∙ held in
         cc);
   };
@@ -273,15 +273,15 @@ fit_for c p i f is sound = record {
 }
 
 -- what each memory type has at first
-pub record AreFirst (c : Config) (p : Properties) (buddies : List Buddy) (lists : List Listing) (fits : List Fitting) : Type 0 where
+pub record AreFirst (c : Config) (p : Properties) (buddies : List Buddy) (lists : List FreeListState) (fits : List FitState) : Type 0 where
   pub buddy_count : length buddies ≡ length p.memory_types
   pub first_buddies : AreFirstBuddies c p buddies
   pub list_count : length lists ≡ length p.memory_types
-  pub first_lists : AreFirstListings c p lists
+  pub first_lists : AreFirstFreeLists c p lists
   pub fit_count : length fits ≡ length p.memory_types
-  pub first_fits : AreFirstFittings c p fits
+  pub first_fits : AreFirstFits c p fits
 
-pub kept-opened : (sharing : Sharing) (c : Config) (p : Properties) (heaps : List Heap) (own : OwnTable) (buddies : List Buddy) (lists : List Listing) (fits : List Fitting) (remaining : ℕ) → own.held ≡ finite.empty → own.live ≡ set_of.empty → IsUsable p → remaining < 2 ^ 32
+pub kept-opened : (sharing : Sharing) (c : Config) (p : Properties) (heaps : List Heap) (own : OwnTable) (buddies : List Buddy) (lists : List FreeListState) (fits : List FitState) (remaining : ℕ) → own.held ≡ finite.empty → own.live ≡ set_of.empty → IsUsable p → remaining < 2 ^ 32
     → heaps ≡ map (λ h. unused h.size) p.memory_heaps → AreFirst c p buddies lists fits → IsKept sharing c p heaps buddies lists fits own remaining
 kept-opened sharing c p heaps own buddies lists fits remaining held live usable few unused_heaps are =
     let no_buddy = buddies_unused c p buddies are.first_buddies in
@@ -302,10 +302,10 @@ kept-opened sharing c p heaps own buddies lists fits remaining held live usable 
     each i None is = tt
     each i (Some b) is = buddy_for c p i b is.0 is.1
 
-    each_list : (i : ℕ) (o : Option Listing) → IfSome o (λ l. (l ≡ first_listing c p i) × IsSoundListing l) → IfSome o (IsListFor c p i)
+    each_list : (i : ℕ) (o : Option FreeListState) → IfSome o (λ l. (l ≡ first_listing c p i) × IsSoundFreeList l) → IfSome o (IsListFor c p i)
     each_list i None is = tt
     each_list i (Some l) is = list_for c p i l is.0 is.1
 
-    each_fit : (i : ℕ) (o : Option Fitting) → IfSome o (λ f. (f ≡ first_fitting c p i) × IsSoundFitting f) → IfSome o (IsFitFor c p i)
+    each_fit : (i : ℕ) (o : Option FitState) → IfSome o (λ f. (f ≡ first_fitting c p i) × IsSoundFit f) → IfSome o (IsFitFor c p i)
     each_fit i None is = tt
     each_fit i (Some f) is = fit_for c p i f is.0 is.1

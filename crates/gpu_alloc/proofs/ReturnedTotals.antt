@@ -4,7 +4,7 @@ use Rattle.std.proofs.lemmas.List.Elements.{Contains-get_or}
 use Rattle.std.specs.FinMap as map
 use Rattle.gpu_alloc_types.specs.Device.{Event}
 use Rattle.gpu_alloc.specs.FreeListSharing.{IsListChunk}
-use Rattle.gpu_alloc.specs.Release.{AreChunksGone, AreFitsGone, Frees, GoesWith, LetsGo, ListChunkMayGo, without_all, without_span}
+use Rattle.gpu_alloc.specs.Release.{AreChunksReleased, AreFitChunksReleased, Frees, ListChunkMayGo, ReleasedWith, Releases, without_all, without_span}
 use Rattle.gpu_alloc_block.specs.State.{Block, HeldObject, IsOwned, State, total}
 use Rattle.gpu_alloc_block.specs.declared.block.Kind.{Kind}
 use Rattle.gpu_alloc_block.specs.declared.block.Kind.TheVariants.{Dedicated, Imported, BuddyChunk, FreeListChunk, FitChunk}
@@ -51,7 +51,7 @@ held_once held (object ∷ gone) is other =
     let rest = held_once held gone (λ i d lt. is (suc i) d (omega (arith, lt))) (λ i j d before within. other (suc i) (suc j) d (omega (arith, before)) (omega (arith, within))) in
     ((is 0 0 (omega arith), rest.0), (others_later object gone (λ j d lt. other 0 (suc j) d (omega arith) (omega (arith, lt))), rest.1))
 
-chunks_once : (s : State) (t : ℕ) (keep_last : Bool) (gone : List ℕ) → AreChunksGone s t keep_last gone → AreHeld s.held gone × AreOnce gone
+chunks_once : (s : State) (t : ℕ) (keep_last : Bool) (gone : List ℕ) → AreChunksReleased s t keep_last gone → AreHeld s.held gone × AreOnce gone
 chunks_once s t keep_last gone chunks =
     let may : (i d : ℕ) → i < length gone → (number : ℕ) × ListChunkMayGo s t keep_last number (get_or gone i d) = λ i d lt. (chunks.all (get_or gone i d)).0 (Contains-get_or gone i d lt) in
     held_once s.held gone (λ i d lt. let chunk = (may i d lt).1.chunk in (chunk.chunk, chunk.held)) (λ i j d before within same.
@@ -59,23 +59,23 @@ chunks_once s t keep_last gone chunks =
     let less = chunks.rising i j d first.0 first.0 before within first.1.chunk (subst (IsListChunk s t first.0) (sym same) first.1.chunk) in
     omega (arith, less))
 
-pub chunks_total : (s : State) (t : ℕ) (keep_last : Bool) (gone : List ℕ) (es : List Event) (new : State) → AreChunksGone s t keep_last gone → LetsGo s gone es new → total new ≡ total s
+pub chunks_total : (s : State) (t : ℕ) (keep_last : Bool) (gone : List ℕ) (es : List Event) (new : State) → AreChunksReleased s t keep_last gone → Releases s gone es new → total new ≡ total s
 chunks_total s t keep_last gone es new chunks lets = let once = chunks_once s t keep_last gone chunks in ap total lets.1 ∙ omega (arith, count_gone s.held gone once.0 once.1)
 
 -- Fit chunks.
 
 -- one at most
-fits_once : (s : State) (t : ℕ) (gone : List ℕ) → AreFitsGone s t gone → AreHeld s.held gone × AreOnce gone
+fits_once : (s : State) (t : ℕ) (gone : List ℕ) → AreFitChunksReleased s t gone → AreHeld s.held gone × AreOnce gone
 fits_once s t [] fits = (tt, tt)
 fits_once s t (object ∷ []) fits = let is = ((fits.all object).0 (contains_head object [])).chunk in (((is.chunk, is.held), tt), (tt, tt))
 fits_once s t (object ∷ (other ∷ gone)) fits = absurd (omega (arith, fits.few))
 
-pub fits_total : (s : State) (t : ℕ) (gone : List ℕ) (es : List Event) (new : State) → AreFitsGone s t gone → LetsGo s gone es new → total new ≡ total s
+pub fits_total : (s : State) (t : ℕ) (gone : List ℕ) (es : List Event) (new : State) → AreFitChunksReleased s t gone → Releases s gone es new → total new ≡ total s
 fits_total s t gone es new fits lets = let once = fits_once s t gone fits in ap total lets.1 ∙ omega (arith, count_gone s.held gone once.0 once.1)
 
--- What goes with a block.
+-- What is released with a block.
 
-goes_once : (k : Kind) (s : State) (object : ℕ) (gone : List ℕ) → (h : HeldObject) × (map.get s.held object ≡ Some h) → GoesWith k s object gone → AreHeld s.held gone × AreOnce gone
+goes_once : (k : Kind) (s : State) (object : ℕ) (gone : List ℕ) → (h : HeldObject) × (map.get s.held object ≡ Some h) → ReleasedWith k s object gone → AreHeld s.held gone × AreOnce gone
 goes_once Dedicated s object gone there goes = subst (λ names. AreHeld s.held names × AreOnce names) (sym goes) ((there, tt), (tt, tt))
 goes_once Imported s object gone there goes = subst (λ names. AreHeld s.held names × AreOnce names) (sym goes) ((there, tt), (tt, tt))
 goes_once BuddyChunk s object gone there (inl went) = subst (λ names. AreHeld s.held names × AreOnce names) (sym went.1) ((there, tt), (tt, tt))

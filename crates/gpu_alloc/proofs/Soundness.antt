@@ -1,4 +1,4 @@
--- What the allocator's fields keep, as its state tells it.
+-- What the allocator's fields keep, as its state describes it.
 use Rattle.std.proofs.Common.{◌≡◌, ◌≢◌, ◌⊎◌, inl, inr, ℕ, zero, suc, ◌+◌, ◌<◌, ◌≤◌, true, false, List, [], ◌∷◌, length, get_or, Option, Some, None, IfSome, IsSome, slice_get, refl, sym, ◌∙◌, ap, subst, arith}
 use Rattle.std.proofs.lemmas.Bool.{cases_eq, cases_lt, cases_Bool}
 use Rattle.std.proofs.lemmas.Nat.{pow_pos}
@@ -6,7 +6,7 @@ use Rattle.std.specs.FinMap as map
 use Rattle.gpu_alloc_types.specs.Properties.{Properties, atom_of, heap_size, is_non_coherent}
 use Rattle.gpu_alloc_buddy.specs.BuddyState.{Buddy, IsLiveBuddyLeaf}
 use Rattle.gpu_alloc_base.specs.Chunks.{Chunk}
-use Rattle.gpu_alloc_freelist.specs.FreeListState.{Listing, IsLiveSlot}
+use Rattle.gpu_alloc_freelist.specs.FreeListState.{FreeListState, IsLiveSlot}
 use Rattle.gpu_alloc_base.specs.FreeSpace.{IsIn, IsMultipleOf, IsPowerOfTwo}
 use Rattle.gpu_alloc.specs.Atoms.{KeepsAtoms, IsNextFitChunk, IsNextListChunk}
 use Rattle.gpu_alloc.specs.FitSharing.{grain, grain_of, next_fit_chunk, IsFitChunk, IsFitChunkSize, IsFitSize}
@@ -31,7 +31,7 @@ use Rattle.gpu_alloc.proofs.FreeLists.States.{list_latest_at, list_next_at, type
 use Rattle.gpu_alloc.proofs.Atoms.{atom_power}
 use Rattle.gpu_alloc_base.proofs.Maps.{one_value}
 use Rattle.gpu_alloc_base.proofs.PowersOfTwo.{power_of_bit}
-use Rattle.gpu_alloc_fit.specs.Fit.{Fitting}
+use Rattle.gpu_alloc_fit.specs.Fit.{FitState}
 use Rattle.gpu_alloc_fits.specs.Space.{IsWhollyFree, IsLiveSlot as IsLiveFit}
 
 -- two ranges with no byte in both are apart
@@ -117,7 +117,7 @@ module _ {c : Config} {p : Properties} {t : Table} {b : Buddy} {object : ℕ} {h
 
 -- A chunk of a free list.
 
-module _ {c : Config} {p : Properties} {t : Table} {l : Listing} {object number : ℕ} {h : HeldObject} (is : IsListOf c p t h.memory_type l) (held : map.get t.held object ≡ Some h) (kind : h.kind ≡ FreeListChunk number) where
+module _ {c : Config} {p : Properties} {t : Table} {l : FreeListState} {object number : ℕ} {h : HeldObject} (is : IsListOf c p t h.memory_type l) (held : map.get t.held object ≡ Some h) (kind : h.kind ≡ FreeListChunk number) where
   numbered : IsNumberedChunk t l.memory_type number object h
   numbered = record { held = held; of_kind = kind; of_type = sym is.for_type.memory_type }
 
@@ -143,7 +143,7 @@ module _ {c : Config} {p : Properties} {t : Table} {l : Listing} {object number 
 
 -- A fit chunk.
 
-module _ {c : Config} {p : Properties} {t : Table} {f : Fitting} {object : ℕ} {h : HeldObject} (is : IsFitOf c p t h.memory_type f) (held : map.get t.held object ≡ Some h) (kind : h.kind ≡ FitChunk) where
+module _ {c : Config} {p : Properties} {t : Table} {f : FitState} {object : ℕ} {h : HeldObject} (is : IsFitOf c p t h.memory_type f) (held : map.get t.held object ≡ Some h) (kind : h.kind ≡ FitChunk) where
   fit_held : IsFitChunkOf t f.memory_type object h
   fit_held = record { held = held; of_kind = kind; of_type = sym is.for_type.memory_type }
 
@@ -195,17 +195,17 @@ module _ {c : Config} {p : Properties} {t : Table} {f : Fitting} {object : ℕ} 
 
 -- Each held object.
 
-module _ {sharing : Sharing} {c : Config} {p : Properties} {t : Table} {buddies : List Buddy} {lists : List Listing} {fits : List Fitting} {heaps : List Heap} {remaining : ℕ} (is : IsConsistent sharing c p heaps buddies lists fits t remaining) where
+module _ {sharing : Sharing} {c : Config} {p : Properties} {t : Table} {buddies : List Buddy} {lists : List FreeListState} {fits : List FitState} {heaps : List Heap} {remaining : ℕ} (is : IsConsistent sharing c p heaps buddies lists fits t remaining) where
   known_at : (object : ℕ) (h : HeldObject) → map.get t.held object ≡ Some h → IsKnown t p object h
   known_at object h held = subst (λ (o : Option HeldObject). IfSome o (IsKnown t p object)) held (is.books.known object)
 
   buddy_at : (object : ℕ) (h : HeldObject) → map.get t.held object ≡ Some h → (b : Buddy) × IsBuddyOf c p t h.memory_type b
   buddy_at object h held = element (IsBuddyOf c p t h.memory_type) buddies h.memory_type (omega (arith, (known_at object h held).of_type, is.shared.count)) (is.shared.each h.memory_type)
 
-  list_at : (object : ℕ) (h : HeldObject) → map.get t.held object ≡ Some h → (l : Listing) × IsListOf c p t h.memory_type l
+  list_at : (object : ℕ) (h : HeldObject) → map.get t.held object ≡ Some h → (l : FreeListState) × IsListOf c p t h.memory_type l
   list_at object h held = element (IsListOf c p t h.memory_type) lists h.memory_type (omega (arith, (known_at object h held).of_type, is.listed.count)) (is.listed.each h.memory_type)
 
-  fit_at : (object : ℕ) (h : HeldObject) → map.get t.held object ≡ Some h → (f : Fitting) × IsFitOf c p t h.memory_type f
+  fit_at : (object : ℕ) (h : HeldObject) → map.get t.held object ≡ Some h → (f : FitState) × IsFitOf c p t h.memory_type f
   fit_at object h held = element (IsFitOf c p t h.memory_type) fits h.memory_type (omega (arith, (known_at object h held).of_type, is.fitted.count)) (is.fitted.each h.memory_type)
 
   -- the live spans of a chunk are inside and apart
@@ -283,7 +283,7 @@ read_is [] i x is = absurd (cc)
 read_is (y ∷ xs) zero x is = let same : y ≡ x = cc is in sym same
 read_is (y ∷ xs) (suc i) x is = read_is xs i x is
 
-module _ {A : Type 0} (l : Limits A) (heaps : List Heap) (buddies : List Buddy) (lists : List Listing) (fits : List Fitting) (t : Table) (remaining : ℕ)
+module _ {A : Type 0} (l : Limits A) (heaps : List Heap) (buddies : List Buddy) (lists : List FreeListState) (fits : List FitState) (t : Table) (remaining : ℕ)
     (is : IsConsistent l.sharing l.config (properties_in l heaps) heaps buddies lists fits t remaining) (index number : ℕ) where
   abbrev s : State
   s = state_in l heaps buddies lists fits t remaining
@@ -291,11 +291,11 @@ module _ {A : Type 0} (l : Limits A) (heaps : List Heap) (buddies : List Buddy) 
   -- The free list of a memory type that is known.
 
   module _ (known : index < length (properties_in l heaps).memory_types) where
-    own_list : (fl : Listing) × (slice_get lists index ≡ Some fl)
+    own_list : (fl : FreeListState) × (slice_get lists index ≡ Some fl)
     own_list = there_is lists index (omega (arith, known, is.listed.count))
 
     list_own : IsListOf l.config (properties_in l heaps) t index own_list.0
-    list_own = subst (λ (o : Option Listing). IfSome o (IsListOf l.config (properties_in l heaps) t index)) own_list.1 (is.listed.each index)
+    list_own = subst (λ (o : Option FreeListState). IfSome o (IsListOf l.config (properties_in l heaps) t index)) own_list.1 (is.listed.each index)
 
     abbrev types : List TypeState
     types = types_in (first_types l.config (properties_in l heaps)) buddies
@@ -325,11 +325,11 @@ module _ {A : Type 0} (l : Limits A) (heaps : List Heap) (buddies : List Buddy) 
 
     -- Its allocator of fit chunks.
 
-    own_fitting : (f : Fitting) × (slice_get fits index ≡ Some f)
+    own_fitting : (f : FitState) × (slice_get fits index ≡ Some f)
     own_fitting = there_is fits index fitted
 
     fitting_own : IsFitOf l.config (properties_in l heaps) t index own_fitting.0
-    fitting_own = subst (λ (o : Option Fitting). IfSome o (IsFitOf l.config (properties_in l heaps) t index)) own_fitting.1 (is.fitted.each index)
+    fitting_own = subst (λ (o : Option FitState). IfSome o (IsFitOf l.config (properties_in l heaps) t index)) own_fitting.1 (is.fitted.each index)
 
     listed : index < length (lists_in types lists)
     listed = lists_within types lists index typed (omega (arith, known, is.listed.count))
@@ -355,7 +355,7 @@ module _ {A : Type 0} (l : Limits A) (heaps : List Heap) (buddies : List Buddy) 
   type_known : (object : ℕ) → IsListChunk s index number object → index < length (properties_in l heaps).memory_types
   type_known object of = subst (λ n. n < length (properties_in l heaps).memory_types) of.of_type (known_at is object of.chunk of.held).of_type
 
-  module _ (fl : Listing) (own : IsListOf l.config (properties_in l heaps) t index fl) where
+  module _ (fl : FreeListState) (own : IsListOf l.config (properties_in l heaps) t index fl) where
     numbered_in : (object : ℕ) (of : IsListChunk s index number object) → IsNumberedChunk t fl.memory_type number object of.chunk
     numbered_in object of = record { held = of.held; of_kind = of.of_kind; of_type = of.of_type ∙ sym own.for_type.memory_type }
 
@@ -407,7 +407,7 @@ module _ {A : Type 0} (l : Limits A) (heaps : List Heap) (buddies : List Buddy) 
 
   -- Of those without a live span there is one.
 
-  module _ (f : Fitting) (own : IsFitOf l.config (properties_in l heaps) t index f) where
+  module _ (f : FitState) (own : IsFitOf l.config (properties_in l heaps) t index f) where
     own_fit : (object : ℕ) (of : IsFitChunk s index object) → IsFitOf l.config (properties_in l heaps) t of.chunk.memory_type f
     own_fit object of = subst (λ i. IsFitOf l.config (properties_in l heaps) t i f) (sym of.of_type) own
 
@@ -423,7 +423,7 @@ module _ {A : Type 0} (l : Limits A) (heaps : List Heap) (buddies : List Buddy) 
       let there = fit_at is a of.chunk of.held in
       one_without there.0 (subst (λ i. IsFitOf l.config (properties_in l heaps) t i there.0) of.of_type there.1) a b of
 
-pub sound_is : {A : Type 0} (l : Limits A) (heaps : List Heap) (buddies : List Buddy) (lists : List Listing) (fits : List Fitting) (t : Table) (remaining : ℕ) → IsConsistent l.sharing l.config (properties_in l heaps) heaps buddies lists fits t remaining
+pub sound_is : {A : Type 0} (l : Limits A) (heaps : List Heap) (buddies : List Buddy) (lists : List FreeListState) (fits : List FitState) (t : Table) (remaining : ℕ) → IsConsistent l.sharing l.config (properties_in l heaps) heaps buddies lists fits t remaining
     → IsSound (state_in l heaps buddies lists fits t remaining)
 sound_is l heaps buddies lists fits t remaining is = record {
   nonempty = λ span live. (is.books.spans span live).nonempty;
@@ -451,7 +451,7 @@ sound_is l heaps buddies lists fits t remaining is = record {
       omega (arith, of.limit, of.limited, of.size);
 }
 
-pub atoms_kept : {A : Type 0} (l : Limits A) (heaps : List Heap) (buddies : List Buddy) (lists : List Listing) (fits : List Fitting) (t : Table) (remaining : ℕ) → IsConsistent l.sharing l.config (properties_in l heaps) heaps buddies lists fits t remaining
+pub atoms_kept : {A : Type 0} (l : Limits A) (heaps : List Heap) (buddies : List Buddy) (lists : List FreeListState) (fits : List FitState) (t : Table) (remaining : ℕ) → IsConsistent l.sharing l.config (properties_in l heaps) heaps buddies lists fits t remaining
     → KeepsAtoms (state_in l heaps buddies lists fits t remaining)
 atoms_kept l heaps buddies lists fits t remaining is = record {
   atom = λ index.

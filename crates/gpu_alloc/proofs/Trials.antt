@@ -46,7 +46,7 @@ module _ (s : State) (asked : ℕ → Ask) (allowed : ℕ → Bool) (ts : List �
   continues_end i es le goes =
       let h = goes [] (Err OutOfDeviceMemory) s (rw (drop_of_length-le ts le) (refl, refl, refl)) in rw append-nil at h
 
--- the same decision, told of what is equal
+-- the same decision, for what is equal
 pub decides_as : (now s : State) (a b : Ask) (t u : ℕ) → now ≡ s → a ≡ b → t ≡ u → (es : List Event) (answer : Result Block AllocationError) (new : State) → CandidateDecides now a.request a.hint t es answer new → CandidateDecides s b.request b.hint u es answer new
 decides_as now s a b t u same is at es answer new decides =
     subst (λ x. CandidateDecides x b.request b.hint u es answer new) same

@@ -11,8 +11,8 @@ use Rattle.gpu_alloc_base.proofs.Slots.{slot_exact, slot_total}
 use Rattle.gpu_alloc_block.specs.Parts.{HaveOwnObjects}
 use Rattle.gpu_alloc_block.specs.State.{HeldObject, Span, span_cmp}
 use Rattle.gpu_alloc_block.specs.declared.block.Kind.TheVariants.{FitChunk}
-use Rattle.gpu_alloc_fit.specs.Fit.{Fitting}
-use Rattle.gpu_alloc_fit.specs.FitSound.{IsSoundFitting}
+use Rattle.gpu_alloc_fit.specs.Fit.{FitState}
+use Rattle.gpu_alloc_fit.specs.FitSound.{IsSoundFit}
 use Rattle.gpu_alloc_fits.specs.Inside.{chunk_of_row, leaf_of_slot}
 use Rattle.gpu_alloc_fits.specs.Listed.{ListsChunks}
 use Rattle.gpu_alloc_fits.specs.declared.fits.Chunk.{Chunk as Row}
@@ -32,7 +32,7 @@ abbrev pub fit_row : {M : Type 0} → (M → ℕ) → ℕ → ℕ × Row M → �
 fit_row object memory_type e =
     (object e.1.memory, record { memory_type = memory_type; counted = e.1.size; kind = FitChunk })
 
-module _ {M : Type 0} (object : M → ℕ) (f : Fitting) (named : HaveOwnObjects f.space.chunks) (listed : List (ℕ × Row M)) (lists : ListsChunks object f.space.chunks listed) where
+module _ {M : Type 0} (object : M → ℕ) (f : FitState) (named : HaveOwnObjects f.space.chunks) (listed : List (ℕ × Row M)) (lists : ListsChunks object f.space.chunks listed) where
   -- a listed chunk is held as its row says
   pub fit_chunk_held : (e : ℕ × Row M) → Contains listed e → finite.get (fit_part f).held (object e.1.memory) ≡ Some (fit_object f (chunk_of_row object e.1))
   fit_chunk_held = keyed_held (chunk_of_row object) (fit_object f) f.space.chunks named lists.rows lists.exact listed lists.are
@@ -56,7 +56,7 @@ module _ {M : Type 0} (object : M → ℕ) (f : Fitting) (named : HaveOwnObjects
 
 -- The live blocks in them.
 
-module _ (f : Fitting) (sound : IsSoundFitting f) (slots : List Slot) (exact : set.from_list slots ≡ f.space.live) (once : IsDistinct (eq_by_cmp slot_cmp) slots) where
+module _ (f : FitState) (sound : IsSoundFit f) (slots : List Slot) (exact : set.from_list slots ≡ f.space.live) (once : IsDistinct (eq_by_cmp slot_cmp) slots) where
   named_so : map span_in (map leaf_of_slot slots) ≡ map span_of_slot slots
   named_so = mapped_twice leaf_of_slot span_in span_of_slot (λ e. refl) slots
 

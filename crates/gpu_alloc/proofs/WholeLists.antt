@@ -22,8 +22,8 @@ use Rattle.gpu_alloc_block.specs.Parts.{HaveOwnObjects}
 use Rattle.gpu_alloc_block.specs.State.{HeldObject, Span, span_cmp}
 use Rattle.gpu_alloc_block.specs.declared.block.Kind.TheVariants.{FreeListChunk}
 use Rattle.gpu_alloc_freelist.specs.Chunks.{ListsChunks, chunk_of}
-use Rattle.gpu_alloc_freelist.specs.FreeListSound.{IsSoundListing}
-use Rattle.gpu_alloc_freelist.specs.FreeListState.{Listing}
+use Rattle.gpu_alloc_freelist.specs.FreeListSound.{IsSoundFreeList}
+use Rattle.gpu_alloc_freelist.specs.FreeListState.{FreeListState}
 use Rattle.gpu_alloc_freelist.specs.Live.{ListsSlots}
 use Rattle.gpu_alloc_freelist.specs.declared.freelist.chunks.NumberedChunk.{NumberedChunk}
 use Rattle.gpu_alloc.specs.Inside.{list_object, span_of_slot}
@@ -43,7 +43,7 @@ abbrev pub chunk_row : {M : Type 0} → (M → ℕ) → ℕ → ℕ × NumberedC
 chunk_row object memory_type e =
     (object e.1.memory, record { memory_type = memory_type; counted = e.1.size; kind = FreeListChunk e.1.number })
 
-module _ {M : Type 0} (object : M → ℕ) (l : Listing) (named : HaveOwnObjects l.space.chunks) (listed : List (ℕ × NumberedChunk M)) (lists : ListsChunks object l.space.chunks listed) where
+module _ {M : Type 0} (object : M → ℕ) (l : FreeListState) (named : HaveOwnObjects l.space.chunks) (listed : List (ℕ × NumberedChunk M)) (lists : ListsChunks object l.space.chunks listed) where
   -- a row's chunk is held under its number
   is_held : (key : ℕ) (row : NumberedChunk M) → get lists.rows key ≡ Some row → finite.get l.space.chunks row.number ≡ Some (chunk_of object row)
   is_held key row at =
@@ -109,7 +109,7 @@ module _ {M : Type 0} (object : M → ℕ) (l : Listing) (named : HaveOwnObjects
 abbrev pub slot_row : ℕ × Slot → LiveSpan
 slot_row e = record { object = e.1.object; offset = e.1.offset; size = e.1.size; chunk = 0; index = e.0 }
 
-module _ (l : Listing) (sound : IsSoundListing l) (listed : List (ℕ × Slot)) (lists : ListsSlots l.space.live listed) where
+module _ (l : FreeListState) (sound : IsSoundFreeList l) (listed : List (ℕ × Slot)) (lists : ListsSlots l.space.live listed) where
   under : (e : ℕ × Slot) → Contains listed e → get lists.slots e.0 ≡ Some e.1
   under e has = (Contains-entries lists.slots e.0 e.1).0 (subst (λ (es : List (ℕ × Slot)). Contains es e) lists.are has)
 

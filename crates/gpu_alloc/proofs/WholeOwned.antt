@@ -17,9 +17,9 @@ use Rattle.gpu_alloc_block.proofs.Parts.ByName.{name_there, name_was, span_row_l
 use Rattle.gpu_alloc_block.proofs.Parts.Steps.{holds_of, own_part, part_span}
 use Rattle.gpu_alloc_block.proofs.Parts.Unions.{live_of}
 use Rattle.gpu_alloc_buddy.specs.BuddyState.{Buddy, IsLiveBuddySpan, IsNoLiveBuddySpan}
-use Rattle.gpu_alloc_fit.specs.Fit.{Fitting}
+use Rattle.gpu_alloc_fit.specs.Fit.{FitState}
 use Rattle.gpu_alloc_fits.specs.Space.{IsLiveFitSpan, IsNoLiveFitSpan}
-use Rattle.gpu_alloc_freelist.specs.FreeListState.{Listing, IsLiveSlot}
+use Rattle.gpu_alloc_freelist.specs.FreeListState.{FreeListState, IsLiveSlot}
 use Rattle.gpu_alloc.specs.Inside.{IsBuddyFor, IsFitFor, IsListFor, chunk_object, fit_object, list_object, properties_in, span_of_leaf, span_of_slot, state_in}
 use Rattle.gpu_alloc.specs.Own.{OwnTable, IsRowOf, own_held, own_span}
 use Rattle.gpu_alloc.specs.Spans.{span_at}
@@ -30,7 +30,7 @@ use Rattle.gpu_alloc.proofs.Links.{slot_at}
 use Rattle.gpu_alloc.proofs.WholeParts.{next_buddy, next_fit, next_list}
 use Rattle.gpu_alloc.proofs.Wholes.{at_buddy, at_fit, at_list, at_read, held_here, held_whole, live_here, single}
 
-module _ {A : Type 0} (l : Limits A) (heaps : List Heap) (buddies : List Buddy) (lists : List Listing) (fits : List Fitting) (own : OwnTable) (remaining : ℕ) (kept : IsKept l.sharing l.config (properties_in l heaps) heaps buddies lists fits own remaining) (b : Block) where
+module _ {A : Type 0} (l : Limits A) (heaps : List Heap) (buddies : List Buddy) (lists : List FreeListState) (fits : List FitState) (own : OwnTable) (remaining : ℕ) (kept : IsKept l.sharing l.config (properties_in l heaps) heaps buddies lists fits own remaining) (b : Block) where
   abbrev state : State
   state = state_in l heaps buddies lists fits (whole own buddies lists fits) remaining
 
@@ -105,7 +105,7 @@ module _ {A : Type 0} (l : Limits A) (heaps : List Heap) (buddies : List Buddy) 
 
   -- In a free list.
 
-  module _ (number : ℕ) (kind : b.kind ≡ FreeListChunk number) (fl : Listing) (inside : b.memory_type < length lists) (at : fl ≡ get_or lists b.memory_type fl) where
+  module _ (number : ℕ) (kind : b.kind ≡ FreeListChunk number) (fl : FreeListState) (inside : b.memory_type < length lists) (at : fl ≡ get_or lists b.memory_type fl) where
     its_list : IsListFor l.config (properties_in l heaps) b.memory_type fl
     its_list = next_list l heaps buddies lists fits own remaining kept (length lists) kept.listed.count b.memory_type fl inside at
 
@@ -144,7 +144,7 @@ module _ {A : Type 0} (l : Limits A) (heaps : List Heap) (buddies : List Buddy) 
 
   -- In a fit chunk.
 
-  module _ (kind : b.kind ≡ FitChunk) (f : Fitting) (inside : b.memory_type < length fits) (at : f ≡ get_or fits b.memory_type f) where
+  module _ (kind : b.kind ≡ FitChunk) (f : FitState) (inside : b.memory_type < length fits) (at : f ≡ get_or fits b.memory_type f) where
     its_fit : IsFitFor l.config (properties_in l heaps) b.memory_type f
     its_fit = next_fit l heaps buddies lists fits own remaining kept (length fits) kept.fitted.count b.memory_type f inside at
 

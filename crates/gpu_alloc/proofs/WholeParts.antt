@@ -21,8 +21,8 @@ use Rattle.gpu_alloc_block.proofs.Parts.Entries.{first, second, later_above, t_t
 use Rattle.gpu_alloc_block.proofs.Parts.Unions.{or_else, get_join, held_at, live_at}
 use Rattle.gpu_alloc_base.specs.declared.heap.Heap.{Heap}
 use Rattle.gpu_alloc_buddy.specs.BuddyState.{Buddy}
-use Rattle.gpu_alloc_fit.specs.Fit.{Fitting}
-use Rattle.gpu_alloc_freelist.specs.FreeListState.{Listing}
+use Rattle.gpu_alloc_fit.specs.Fit.{FitState}
+use Rattle.gpu_alloc_freelist.specs.FreeListState.{FreeListState}
 use Rattle.gpu_alloc.specs.Inside.{properties_in, IsBuddyFor, IsFitFor, IsListFor}
 use Rattle.gpu_alloc.specs.Listing.{AreOnce}
 use Rattle.gpu_alloc.specs.Own.{OwnTable}
@@ -57,14 +57,14 @@ rest_holds p ps q none = get_more p ps q ∙ ap (λ o. or_else o (finite.get (he
 -- Buddy allocators, free lists and allocators of fit chunks by memory type.
 
 -- all that is left from the free list of a memory type on
-abbrev pub lists_from : List Listing → List Fitting → ℕ → List Part
+abbrev pub lists_from : List FreeListState → List FitState → ℕ → List Part
 lists_from lists fits i = map list_part (drop i lists) ++ map fit_part fits
 
 -- and from the buddy allocator of one on
-abbrev pub left_from : List Buddy → List Listing → List Fitting → ℕ → List Part
+abbrev pub left_from : List Buddy → List FreeListState → List FitState → ℕ → List Part
 left_from buddies lists fits i = map buddy_part (drop i buddies) ++ lists_from lists fits 0
 
-module _ {A : Type 0} (l : Limits A) (heaps : List Heap) (buddies : List Buddy) (lists : List Listing) (fits : List Fitting) (own : OwnTable) (remaining : ℕ) (kept : IsKept l.sharing l.config (properties_in l heaps) heaps buddies lists fits own remaining)
+module _ {A : Type 0} (l : Limits A) (heaps : List Heap) (buddies : List Buddy) (lists : List FreeListState) (fits : List FitState) (own : OwnTable) (remaining : ℕ) (kept : IsKept l.sharing l.config (properties_in l heaps) heaps buddies lists fits own remaining)
     (count : ℕ) (counted : count ≡ length (properties_in l heaps).memory_types) (i : ℕ) where
   module _ (b : Buddy) (inside : i < count) (at : b ≡ get_or buddies i b) where
     buddy_there : slice_get buddies i ≡ Some b
@@ -84,12 +84,12 @@ module _ {A : Type 0} (l : Limits A) (heaps : List Heap) (buddies : List Buddy) 
   pub lists_left : count ≤ i → left_from buddies lists fits i ≡ lists_from lists fits 0
   lists_left past = ap (λ (ps : List Part). ps ++ lists_from lists fits 0) (at_drop_all (map buddy_part) buddies i (omega (arith, kept.shared.count, counted, past)))
 
-  module _ (fl : Listing) (inside : i < count) (at : fl ≡ get_or lists i fl) where
+  module _ (fl : FreeListState) (inside : i < count) (at : fl ≡ get_or lists i fl) where
     list_there : slice_get lists i ≡ Some fl
     list_there = slice_get_read lists (length lists) i fl refl (omega (arith, inside, counted, kept.listed.count)) at
 
     pub next_list : IsListFor l.config (properties_in l heaps) i fl
-    next_list = subst (λ (o : Option Listing). IfSome o (IsListFor l.config (properties_in l heaps) i)) list_there (kept.listed.each i)
+    next_list = subst (λ (o : Option FreeListState). IfSome o (IsListFor l.config (properties_in l heaps) i)) list_there (kept.listed.each i)
 
     pub next_left : lists_from lists fits i ≡ list_part fl ∷ lists_from lists fits (i + 1)
     next_left =
@@ -100,12 +100,12 @@ module _ {A : Type 0} (l : Limits A) (heaps : List Heap) (buddies : List Buddy) 
   pub fits_left : count ≤ i → lists_from lists fits i ≡ map fit_part (drop 0 fits)
   fits_left past = ap (λ (ps : List Part). ps ++ map fit_part fits) (at_drop_all (map list_part) lists i (omega (arith, kept.listed.count, counted, past)))
 
-  module _ (f : Fitting) (inside : i < count) (at : f ≡ get_or fits i f) where
+  module _ (f : FitState) (inside : i < count) (at : f ≡ get_or fits i f) where
     fit_there : slice_get fits i ≡ Some f
     fit_there = slice_get_read fits (length fits) i f refl (omega (arith, inside, counted, kept.fitted.count)) at
 
     pub next_fit : IsFitFor l.config (properties_in l heaps) i f
-    next_fit = subst (λ (o : Option Fitting). IfSome o (IsFitFor l.config (properties_in l heaps) i)) fit_there (kept.fitted.each i)
+    next_fit = subst (λ (o : Option FitState). IfSome o (IsFitFor l.config (properties_in l heaps) i)) fit_there (kept.fitted.each i)
 
     pub next_fit_left : map fit_part (drop i fits) ≡ fit_part f ∷ map fit_part (drop (i + 1) fits)
     next_fit_left = at_drop_more (map fit_part) fits i f (omega (arith, kept.fitted.count, counted, inside)) ∙ (λ k. fit_part (sym at k) ∷ map fit_part (drop (i + 1) fits))
@@ -189,13 +189,13 @@ join_len m n other =
     ∙ named_len nat_cmp_total nat_cmp-IsAntisymmetric (λ (e : ℕ × HeldObject). e.0) (λ e. e.1) (es ++ fs) apart in
     omega (arith, both, length-append es fs, finite.len-entries m, finite.len-entries n)
 
--- so many were counted, and with what the parts that are left hold it is all
+-- that many were counted, and with what the parts that are left hold it is all
 pub record AreCounted (all count : ℕ) (ps : List Part) : Type 0 where
   pub exact : count + finite.len (held_in_parts ps) ≡ all
   pub separate : AreSeparate ps
 
 -- the objects of one block are the first
-pub own_counted : (own : OwnTable) (buddies : List Buddy) (lists : List Listing) (fits : List Fitting) → AreOneWhole own buddies lists fits
+pub own_counted : (own : OwnTable) (buddies : List Buddy) (lists : List FreeListState) (fits : List FitState) → AreOneWhole own buddies lists fits
     → AreCounted (finite.len (whole own buddies lists fits).held) (finite.len own.held) (left_from buddies lists fits 0)
 own_counted own buddies lists fits apart =
     let parts = separate (IsPartFor (length buddies) (length lists)) (parts_of own buddies lists fits) apart in

@@ -28,15 +28,15 @@ use Rattle.gpu_alloc_block.proofs.Parts.Unions.{none_at, none_of, live_at}
 use Rattle.gpu_alloc_buddy.specs.BuddySound.{IsSoundBuddy}
 use Rattle.gpu_alloc_buddy.specs.BuddyState.{Buddy, IsLiveBuddyLeaf, space_of}
 use Rattle.gpu_alloc_pairs.proofs.LiveSpans.{one_leaf}
-use Rattle.gpu_alloc_freelist.specs.FreeListSound.{IsSoundListing}
-use Rattle.gpu_alloc_freelist.specs.FreeListState.{Listing, IsLiveSlot}
-use Rattle.gpu_alloc_fit.specs.FitSound.{IsSoundFitting}
+use Rattle.gpu_alloc_freelist.specs.FreeListSound.{IsSoundFreeList}
+use Rattle.gpu_alloc_freelist.specs.FreeListState.{FreeListState, IsLiveSlot}
+use Rattle.gpu_alloc_fit.specs.FitSound.{IsSoundFit}
 use Rattle.gpu_alloc_fits.specs.Space.{IsLiveSlot as IsLiveFit}
 use Rattle.gpu_alloc.specs.Inside.{chunk_object, fit_object, list_object, span_of_leaf, span_of_slot}
 use Rattle.gpu_alloc.specs.Own.{OwnTable, own_held, own_span, IsRowOf}
 use Rattle.gpu_alloc.specs.declared.own.OwnRow.{OwnRow}
 use Rattle.gpu_alloc.specs.Whole.{own_part as part_of_own, buddy_part, fit_part, list_part, parts_of, whole, AreOneWhole, IsPartFor}
-use Rattle.gpu_alloc_fit.specs.Fit.{Fitting}
+use Rattle.gpu_alloc_fit.specs.Fit.{FitState}
 
 -- an object has one place
 pub single : (buddies lists i j : ℕ) (h : HeldObject) → IsPartFor buddies lists i h → IsPartFor buddies lists j h → i ≡ j
@@ -90,7 +90,7 @@ set_map f [] i x = refl
 set_map f (y ∷ ys) zero x = refl
 set_map f (y ∷ ys) (suc i) x = ap (λ zs. f y ∷ zs) (set_map f ys i x)
 
--- among the first ones, and among those behind them
+-- among the first ones, and among those after them
 
 at_first : {A B : Type 0} (f : A → B) (xs : List A) (ys : List B) (i : ℕ) (x : A) → IsAt xs i x → IsAt (map f xs ++ ys) i (f x)
 at_first f [] ys i x at = absurd at
@@ -102,7 +102,7 @@ set_first f [] ys i x new at = absurd at
 set_first f (z ∷ zs) ys zero x new at = refl
 set_first f (z ∷ zs) ys (suc i) x new at = ap (λ rest. f z ∷ rest) (set_first f zs ys i x new at)
 
--- the place behind so many
+-- the place after that many
 abbrev behind : {A : Type 0} → List A → ℕ → ℕ
 behind [] i = i
 behind (x ∷ xs) i = suc (behind xs i)
@@ -138,7 +138,7 @@ at_of_map f (x ∷ xs) (suc i) y at = at_of_map f xs i y at
 
 -- Objects of one block.
 
-module _ (own : OwnTable) (buddies : List Buddy) (lists : List Listing) (fits : List Fitting) (apart : AreOneWhole own buddies lists fits) where
+module _ (own : OwnTable) (buddies : List Buddy) (lists : List FreeListState) (fits : List FitState) (apart : AreOneWhole own buddies lists fits) where
   abbrev ps : List Part
   ps = parts_of own buddies lists fits
 
@@ -172,13 +172,13 @@ module _ (own : OwnTable) (buddies : List Buddy) (lists : List Listing) (fits : 
 
 -- Room is made for one more, and nothing else changes.
 
-module _ (own now : OwnTable) (buddies : List Buddy) (lists : List Listing) (fits : List Fitting) (apart : AreOneWhole own buddies lists fits) (kept : now ≡ record own { room = now.room }) (object : ℕ) (none : finite.get (whole own buddies lists fits).held object ≡ None) where
+module _ (own now : OwnTable) (buddies : List Buddy) (lists : List FreeListState) (fits : List FitState) (apart : AreOneWhole own buddies lists fits) (kept : now ≡ record own { room = now.room }) (object : ℕ) (none : finite.get (whole own buddies lists fits).held object ≡ None) where
   pub unheld_then : finite.get now.held object ≡ None
   unheld_then = ap (λ (x : OwnTable). finite.get x.held object) kept ∙ unheld_here own buddies lists fits apart object none
 
 -- A memory type's buddy allocator.
 
-module _ (own : OwnTable) (buddies : List Buddy) (lists : List Listing) (fits : List Fitting) (apart : AreOneWhole own buddies lists fits) (index : ℕ) (b : Buddy) (at : IsAt buddies index b) (inside : index < length buddies) (sound : IsSoundBuddy b) (typed : b.memory_type ≡ index) where
+module _ (own : OwnTable) (buddies : List Buddy) (lists : List FreeListState) (fits : List FitState) (apart : AreOneWhole own buddies lists fits) (index : ℕ) (b : Buddy) (at : IsAt buddies index b) (inside : index < length buddies) (sound : IsSoundBuddy b) (typed : b.memory_type ≡ index) where
   abbrev types : ℕ
   types = length buddies
 
@@ -232,7 +232,7 @@ module _ (own : OwnTable) (buddies : List Buddy) (lists : List Listing) (fits : 
 -- A memory type's free list.
 
 -- no two live slots have one span
-pub one_slot : (l : Listing) → IsSoundListing l → (a b : Slot) → IsLiveSlot l.space a → IsLiveSlot l.space b → ◌≡◌ {A = Span} (span_of_slot a) (span_of_slot b) → a ≡ b
+pub one_slot : (l : FreeListState) → IsSoundFreeList l → (a b : Slot) → IsLiveSlot l.space a → IsLiveSlot l.space b → ◌≡◌ {A = Span} (span_of_slot a) (span_of_slot b) → a ≡ b
 one_slot l sound a b live_a live_b same =
     let in_a = sound.space.inside a live_a in
     let in_b = sound.space.inside b live_b in
@@ -240,14 +240,14 @@ one_slot l sound a b live_a live_b same =
     let number = sound.one_object a.chunk b.chunk in_a.chunk in_b.chunk in_a.held in_b.held objects in
     λ k. record { object = (same k).object; chunk = number k; offset = (same k).offset; size = (same k).size }
 
-module _ (own : OwnTable) (buddies : List Buddy) (lists : List Listing) (fits : List Fitting) (apart : AreOneWhole own buddies lists fits) (index : ℕ) (l : Listing) (at : IsAt lists index l) (sound : IsSoundListing l) (typed : l.memory_type ≡ index) where
+module _ (own : OwnTable) (buddies : List Buddy) (lists : List FreeListState) (fits : List FitState) (apart : AreOneWhole own buddies lists fits) (index : ℕ) (l : FreeListState) (at : IsAt lists index l) (sound : IsSoundFreeList l) (typed : l.memory_type ≡ index) where
   abbrev types_before : ℕ
   types_before = length buddies
 
   pub at_list : IsAt (parts_of own buddies lists fits) (suc (types_before + index)) (list_part l)
   at_list = at_later buddy_part buddies (map list_part lists ++ map fit_part fits) index (list_part l) (at_first list_part lists (map fit_part fits) index l at)
 
-  module _ (new : Listing) (same : new.memory_type ≡ l.memory_type) where
+  module _ (new : FreeListState) (same : new.memory_type ≡ l.memory_type) where
     list_held_as : (chunks : Chunks) → new.space.chunks ≡ chunks → (list_part new).held ≡ by_name (list_object l) chunks
     list_held_as chunks is = λ k. by_name (λ number c. record { memory_type = same k; counted = c.size; kind = FreeListChunk number }) (is k)
 
@@ -289,7 +289,7 @@ module _ (own : OwnTable) (buddies : List Buddy) (lists : List Listing) (fits : 
 -- A memory type's allocator of fit chunks.
 
 -- no two live slots have one span
-pub one_fit : (f : Fitting) → IsSoundFitting f → (a b : Slot) → IsLiveFit f.space a → IsLiveFit f.space b → ◌≡◌ {A = Span} (span_of_slot a) (span_of_slot b) → a ≡ b
+pub one_fit : (f : FitState) → IsSoundFit f → (a b : Slot) → IsLiveFit f.space a → IsLiveFit f.space b → ◌≡◌ {A = Span} (span_of_slot a) (span_of_slot b) → a ≡ b
 one_fit f sound a b live_a live_b same =
     let in_a = sound.space.inside a live_a in
     let in_b = sound.space.inside b live_b in
@@ -297,7 +297,7 @@ one_fit f sound a b live_a live_b same =
     let key = sound.space.one_object a.chunk b.chunk in_a.chunk in_b.chunk in_a.held in_b.held objects in
     λ k. record { object = (same k).object; chunk = key k; offset = (same k).offset; size = (same k).size }
 
-module _ (own : OwnTable) (buddies : List Buddy) (lists : List Listing) (fits : List Fitting) (apart : AreOneWhole own buddies lists fits) (index : ℕ) (f : Fitting) (at : IsAt fits index f) (sound : IsSoundFitting f) (typed : f.memory_type ≡ index) where
+module _ (own : OwnTable) (buddies : List Buddy) (lists : List FreeListState) (fits : List FitState) (apart : AreOneWhole own buddies lists fits) (index : ℕ) (f : FitState) (at : IsAt fits index f) (sound : IsSoundFit f) (typed : f.memory_type ≡ index) where
   abbrev Spot : ℕ → HeldObject → Type 0
   Spot = IsPartFor (length buddies) (length lists)
 
@@ -310,7 +310,7 @@ module _ (own : OwnTable) (buddies : List Buddy) (lists : List Listing) (fits : 
   pub at_fit : IsAt (parts_of own buddies lists fits) fit_spot (fit_part f)
   at_fit = at_later buddy_part buddies (map list_part lists ++ map fit_part fits) (length lists + index) (fit_part f) (at_later list_part lists (map fit_part fits) index (fit_part f) (at_map fit_part fits index f at))
 
-  module _ (new : Fitting) (same : new.memory_type ≡ f.memory_type) where
+  module _ (new : FitState) (same : new.memory_type ≡ f.memory_type) where
     fit_held_as : (chunks : Chunks) → new.space.chunks ≡ chunks → (fit_part new).held ≡ by_name fit_in chunks
     fit_held_as chunks is = λ k. by_name (λ _ c. record { memory_type = same k; counted = c.size; kind = FitChunk }) (is k)
 
@@ -359,9 +359,9 @@ module _ (own : OwnTable) (buddies : List Buddy) (lists : List Listing) (fits : 
 
 -- Where nothing is held.
 
-module _ (own : OwnTable) (buddies : List Buddy) (lists : List Listing) (fits : List Fitting) (held : own.held ≡ finite.empty) (live : own.live ≡ set_of.empty) (no_buddy : (i : ℕ) (b : Buddy) → IsAt buddies i b → (b.chunks ≡ finite.empty) × (b.live ≡ set_of.empty))
-    (no_list : (i : ℕ) (l : Listing) → IsAt lists i l → (l.space.chunks ≡ finite.empty) × (l.space.live ≡ set_of.empty))
-    (no_fit : (i : ℕ) (f : Fitting) → IsAt fits i f → (f.space.chunks ≡ finite.empty) × (f.space.live ≡ set_of.empty)) where
+module _ (own : OwnTable) (buddies : List Buddy) (lists : List FreeListState) (fits : List FitState) (held : own.held ≡ finite.empty) (live : own.live ≡ set_of.empty) (no_buddy : (i : ℕ) (b : Buddy) → IsAt buddies i b → (b.chunks ≡ finite.empty) × (b.live ≡ set_of.empty))
+    (no_list : (i : ℕ) (l : FreeListState) → IsAt lists i l → (l.space.chunks ≡ finite.empty) × (l.space.live ≡ set_of.empty))
+    (no_fit : (i : ℕ) (f : FitState) → IsAt fits i f → (f.space.chunks ≡ finite.empty) × (f.space.live ≡ set_of.empty)) where
   no_name : (g : ℕ → Chunk → HeldObject) (chunks : Chunks) → chunks ≡ finite.empty → (object : ℕ) → finite.get (by_name g chunks) object ≡ None
   no_name g chunks is object =
       named_absent nat_cmp_total nat_cmp-IsAntisymmetric (λ (e : ℕ × Chunk). e.1.object) (λ e. g e.0 e.1) (finite.entries chunks) object (λ e has same.

@@ -79,7 +79,7 @@ passing OutOfHostMemory = Err OutOfHostMemory
 passing NoCompatibleMemoryTypes = Err NoCompatibleMemoryTypes
 passing TooManyObjects = Err TooManyObjects
 
--- A candidate was tried that is served so, and whose heap is no smaller than the request.
+-- A candidate was tried that is served in this way, and whose heap is no smaller than the request.
 abbrev pub TriesBy : Strategy → State → Request → ℕ → List Event → Result (Option Block) AllocationError → State
     → Type 0
 TriesBy w s r t es answer new = case.Tries (candidate w s r t) es answer new
@@ -99,7 +99,7 @@ ask r hint t = record { request = r; hint = hint }
 abbrev pub TriesAsked : State → (ℕ → Ask) → ℕ → List Event → Result (Option Block) AllocationError → State → Type 0
 TriesAsked s asked t es answer new = TriesCandidate s (asked t).request (asked t).hint t es answer new
 
--- In rank, the first candidate that is not passed over decides. Where all are, there is no device memory.
+-- In order of rank, the first candidate that is not passed over decides. Where all are, there is no device memory.
 abbrev pub TriesAll : State → (ℕ → Ask) → List ℕ → List Event → Result Block AllocationError → State → Type 0
 TriesAll s asked [] es answer new = (es ≡ []) × (answer ≡ Err OutOfDeviceMemory) × (new ≡ s)
 TriesAll s asked (t ∷ ts) es answer new =
@@ -147,7 +147,7 @@ plan s r hint = record {
 unfoldable pub Allocates : State → Request → Option Dedicated → List Event → Result Block AllocationError → State → Type 0
 Allocates s r hint es answer new = AllocatesBy s (plan s r hint) es answer new
 
--- Images that are not linear, which whole pages of a granularity keep apart from all else.
+-- Optimal images: whole pages of a granularity keep them apart from other blocks.
 
 -- whether it is by an object of its own
 abbrev pub is_alone : Strategy → Bool
@@ -159,7 +159,7 @@ is_alone InFitChunk = false
 abbrev pub serves_alone : State → Request → Option Dedicated → ℕ → Bool
 serves_alone s r hint t = is_alone (strategy s r hint t)
 
--- a block has an object of its own exactly where its memory type serves the request so
+-- a block has an object of its own exactly where its memory type serves the request that way
 unfoldable pub IsAloneWhereServed : State → Request → Option Dedicated → Block → Type 0
 IsAloneWhereServed s r hint b = IsTrue (serves_alone s r hint b.memory_type) ↔ (b.kind ≡ DedicatedObject)
 
@@ -219,7 +219,7 @@ abbrev pub ObjectsAfter : State → Result Block AllocationError → State → (
 ObjectsAfter s (Ok b) after old new = ObjectsWith s b after old new
 ObjectsAfter s (Err e) after old new = new ≡ old
 
--- the same of one candidate that was tried
+-- the same for one candidate that was tried
 abbrev pub ObjectsTried : State → Result (Option Block) AllocationError → State → (ℕ → Option Object)
     → (ℕ → Option Object) → Type 0
 ObjectsTried s (Ok None) after old new = new ≡ old

@@ -39,7 +39,7 @@ with_heap_limit s heap limit =
 
 -- What is held of a heap apart from imports.
 
--- an object that another made
+-- the object is an import
 abbrev pub is_import : Kind → Bool
 is_import DedicatedObject = false
 is_import Imported = true

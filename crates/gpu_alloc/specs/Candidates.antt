@@ -133,7 +133,7 @@ fit_candidate s size alignment t = record {
   with_object = λ b. with_span (with_fit_chunk s t b.object (fit_question s t size).size) (span_of b);
 }
 
--- a request to a candidate that is served so
+-- a request to a candidate that is served in this way
 abbrev pub candidate : Strategy → State → Request → ℕ → Case Block State
 candidate OwnObject s r t = own_candidate s r.size t
 candidate InBuddyChunk s r t = buddy_candidate s (buddy_size s r t) t

@@ -32,12 +32,12 @@ first_fit c heap g = down (min c.starting_free_list_chunk (heap / 32)) g
 abbrev pub largest_fit : Config → ℕ → ℕ → ℕ
 largest_fit c heap g = min (4 * starting_size c heap g) (final_size c heap g)
 
--- a size that a fit chunk can have: that of the first, doubled any number of times and cut at the largest
+-- a size that a fit chunk can have: that of the first, doubled any number of times and capped at the largest
 abbrev pub IsFitChunkSize : Config → ℕ → ℕ → ℕ → Type 0
 IsFitChunkSize c heap g size = (n : ℕ) × (size ≡ min (starting_size c heap g * 2 ^ n) (largest_fit c heap g))
 
--- what such a size is: some whole grains, no less than the first and at most four times as much, and no more than a 32nd
--- of the heap or a single grain
+-- what such a size is: some whole grains, no less than the first and at most four times as much, and no more than a
+-- 32nd of the heap or a single grain
 pub record IsSmallChunk (c : Config) (heap g size : ℕ) : Type 0 where
   pub whole : IsMultipleOf g size
   pub least : starting_size c heap g ≤ size
@@ -94,8 +94,8 @@ counted_of (Some object) = object.counted
 abbrev pub object_bytes : State → ℕ → ℕ
 object_bytes s object = counted_of (map.get s.held object)
 
--- the span has exactly this size, starts at a multiple of the alignment, and each byte of it is free: it is the last such
--- one in the free run that is chosen, whose chunk is the object
+-- the span has exactly this size, starts at a multiple of the alignment, and each byte of it is free: it is the last
+-- such one in the free run that is chosen, whose chunk is the object
 pub record IsInFreeRun (s : State) (t size alignment : ℕ) (span : Span) : Type 0 where
   pub exact : span.size ≡ size
   pub aligned : IsMultipleOf alignment span.offset

@@ -13,7 +13,8 @@ use Rattle.gpu_alloc.specs.declared.allocator.Strategy.{Strategy}
 use Rattle.gpu_alloc.specs.declared.request.Dedicated.{Dedicated}
 use Rattle.gpu_alloc.specs.declared.request.Request.{Request}
 
--- A memory type that is served so has a place for the request in a held chunk. An object of its own is never a place.
+-- A memory type that is served in this way has a place for the request in a held chunk. An object of its own is never a
+-- place.
 pub record HasPlaceBy (w : Strategy) (s : State) (r : Request) (t : ℕ) : Type 0 where
   pub fits : (candidate w s r t).Fits
   pub place : (candidate w s r t).HasPlace
@@ -30,8 +31,8 @@ IsFirstWithPlace s asked (t ∷ ts) found =
     (HasPlaceFor s asked t × (found ≡ Some t))
     ⊎ ((HasPlaceFor s asked t → ⊥) × IsFirstWithPlace s asked ts found)
 
--- What that candidate answers, `None` where there is none: it gives the block that it gives without a question to the
--- device, or lacks host memory.
+-- What that candidate answers, or `None` without a candidate. It gives the block that it gives without a question to
+-- the device, or the error for want of host memory.
 abbrev pub ServesHeld : State → (ℕ → Ask) → Option ℕ → Result (Option Block) AllocationError → State → Type 0
 ServesHeld s asked None answer new = (answer ≡ Ok None) × (new ≡ s)
 ServesHeld s asked (Some t) (Ok None) new = ⊥
@@ -43,7 +44,7 @@ abbrev pub IsRefused : State → AllocationError → Result (Option Block) Alloc
 IsRefused s e answer new = (answer ≡ Err e) × (new ≡ s)
 
 -- The checks before any candidate, as for a request that may ask. The count of objects is not checked, since none is
--- made. Then the first candidate in rank with a place serves.
+-- made. Then the first candidate with a place, in order of rank, serves.
 abbrev pub AllocatesHeld : State → Plan → Result (Option Block) AllocationError → State → Type 0
 AllocatesHeld s p answer new =
     MatchBool p.too_large (IsRefused s OutOfDeviceMemory answer new) (

@@ -67,8 +67,8 @@ pub record ImportsInHand (s : State) (object memory_type offset size : ℕ) (new
   pub others : (objects : ℕ → Option Object) (name : ℕ) → name ≢ object
       → outside new objects name ≡ outside s objects name
 
--- Which objects may be imported: exactly these. Where the range starts is left open. So a range may be imported if it
--- ends where one does that may be, or before it on the atom.
+-- Which objects may be imported: exactly these. Where the range starts is left open. So a range may also be imported if
+-- it ends where one that may be imported does, or before it on the atom.
 pub record WhichMayBeImported : Type 0 where
   pub exactly : (p : Properties) (objects : ℕ → Option Object) (object memory_type offset size : ℕ)
       → HeldWith objects object (IsImportable p memory_type offset size)

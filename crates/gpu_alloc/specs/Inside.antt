@@ -15,10 +15,10 @@ use Rattle.gpu_alloc_base.specs.declared.heap.Heap.{Heap}
 use Rattle.gpu_alloc_buddy.specs.BuddySound.{IsSoundBuddy}
 use Rattle.gpu_alloc_buddy.specs.BuddyState.{Buddy}
 use Rattle.gpu_alloc_base.specs.Chunks.{Chunk}
-use Rattle.gpu_alloc_fit.specs.Fit.{Fitting}
+use Rattle.gpu_alloc_fit.specs.Fit.{FitState}
 use Rattle.gpu_alloc_fit.specs.FitSound as fit
 use Rattle.gpu_alloc_freelist.specs.FreeListSound as list
-use Rattle.gpu_alloc_freelist.specs.FreeListState.{Listing}
+use Rattle.gpu_alloc_freelist.specs.FreeListState.{FreeListState}
 use Rattle.gpu_alloc_base.specs.Sizes.{minimal_size, final_size}
 use Rattle.gpu_alloc.specs.Budget.{asked_share}
 use Rattle.gpu_alloc.specs.FirstTypes.{first_types}
@@ -52,19 +52,19 @@ types_in (type ∷ types) [] = []
 types_in (type ∷ types) (b ∷ buddies) = record type { next_chunk = b.next_chunk } ∷ types_in types buddies
 
 -- with the next free-list chunk and the latest number as its free list has them
-abbrev pub lists_in : List TypeState → List Listing → List TypeState
+abbrev pub lists_in : List TypeState → List FreeListState → List TypeState
 lists_in [] lists = []
 lists_in (type ∷ types) [] = []
 lists_in (type ∷ types) (l ∷ lists) =
     record type { list_chunk = l.next_chunk; number = l.space.latest } ∷ lists_in types lists
 
 -- with the next fit chunk's least size as its allocator of fit chunks has it
-abbrev pub fits_in : List TypeState → List Fitting → List TypeState
+abbrev pub fits_in : List TypeState → List FitState → List TypeState
 fits_in [] fits = []
 fits_in (type ∷ types) [] = []
 fits_in (type ∷ types) (f ∷ fits) = record type { fit_chunk = f.next_chunk } ∷ fits_in types fits
 
-abbrev pub state_in : {A : Type 0} → Limits A → List Heap → List Buddy → List Listing → List Fitting → Table → ℕ → State
+abbrev pub state_in : {A : Type 0} → Limits A → List Heap → List Buddy → List FreeListState → List FitState → Table → ℕ → State
 state_in l heaps buddies lists fits t remaining = record {
   held = t.held;
   live = t.live;
@@ -145,56 +145,56 @@ pub record AreBuddies (c : Config) (p : Properties) (buddies : List Buddy) : Typ
 -- The table and a free list.
 
 -- a held chunk as an object
-abbrev pub list_object : Listing → ℕ → Chunk → HeldObject
+abbrev pub list_object : FreeListState → ℕ → Chunk → HeldObject
 list_object l number c = record { memory_type = l.memory_type; counted = c.size; kind = FreeListChunk number }
 
 abbrev pub span_of_slot : Slot → Span
 span_of_slot slot = record { object = slot.object; offset = slot.offset; size = slot.size }
 
 -- what a memory type's free list was given
-pub record IsListForType (c : Config) (p : Properties) (index : ℕ) (l : Listing) : Type 0 where
+pub record IsListForType (c : Config) (p : Properties) (index : ℕ) (l : FreeListState) : Type 0 where
   pub memory_type : l.memory_type ≡ index
   pub props : l.props ≡ props_at p index
   pub atom : l.atom ≡ atom_of p index
   pub final_chunk : l.final_chunk ≡ final_size c (heap_size p index) (atom_of p index)
 
 -- and it is sound
-pub record IsListFor (c : Config) (p : Properties) (index : ℕ) (l : Listing) : Type 0 where
+pub record IsListFor (c : Config) (p : Properties) (index : ℕ) (l : FreeListState) : Type 0 where
   pub for_type : IsListForType c p index l
-  pub sound : list.IsSoundListing l
+  pub sound : list.IsSoundFreeList l
 
 -- each memory type has a free list
-pub record AreLists (c : Config) (p : Properties) (lists : List Listing) : Type 0 where
+pub record AreLists (c : Config) (p : Properties) (lists : List FreeListState) : Type 0 where
   pub count : length lists ≡ length p.memory_types
   pub each : (index : ℕ) → IfSome (slice_get lists index) (IsListFor c p index)
 
 -- The table and an allocator of fit chunks.
 
 -- a held chunk as an object
-abbrev pub fit_object : Fitting → Chunk → HeldObject
+abbrev pub fit_object : FitState → Chunk → HeldObject
 fit_object f c = record { memory_type = f.memory_type; counted = c.size; kind = FitChunk }
 
 -- what a memory type's allocator of fit chunks was given
-pub record IsFitForType (c : Config) (p : Properties) (index : ℕ) (f : Fitting) : Type 0 where
+pub record IsFitForType (c : Config) (p : Properties) (index : ℕ) (f : FitState) : Type 0 where
   pub memory_type : f.memory_type ≡ index
   pub props : f.props ≡ props_at p index
   pub atom : f.atom ≡ grain (atom_of p index)
   pub final_chunk : f.final_chunk ≡ largest_fit c (heap_size p index) (grain (atom_of p index))
 
 -- its chunks and its next one have sizes that fit chunks can have
-pub record HasFitSizes (c : Config) (p : Properties) (index : ℕ) (f : Fitting) : Type 0 where
+pub record HasFitSizes (c : Config) (p : Properties) (index : ℕ) (f : FitState) : Type 0 where
   pub next : IsFitChunkSize c (heap_size p index) (grain (atom_of p index)) f.next_chunk
   pub chunks : (key : ℕ) (chunk : Chunk) → map_of.get f.space.chunks key ≡ Some chunk
       → IsFitChunkSize c (heap_size p index) (grain (atom_of p index)) chunk.size
 
 -- and it is sound
-pub record IsFitFor (c : Config) (p : Properties) (index : ℕ) (f : Fitting) : Type 0 where
+pub record IsFitFor (c : Config) (p : Properties) (index : ℕ) (f : FitState) : Type 0 where
   pub for_type : IsFitForType c p index f
   pub sized : HasFitSizes c p index f
-  pub sound : fit.IsSoundFitting f
+  pub sound : fit.IsSoundFit f
 
 -- each memory type has an allocator of fit chunks
-pub record AreFits (c : Config) (p : Properties) (fits : List Fitting) : Type 0 where
+pub record AreFits (c : Config) (p : Properties) (fits : List FitState) : Type 0 where
   pub count : length fits ≡ length p.memory_types
   pub each : (index : ℕ) → IfSome (slice_get fits index) (IsFitFor c p index)
 

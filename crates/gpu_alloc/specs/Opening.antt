@@ -8,11 +8,11 @@ use Rattle.gpu_alloc_buddy.specs.Buddy as buddy
 use Rattle.gpu_alloc_buddy.specs.BuddySound.{IsSoundBuddy}
 use Rattle.gpu_alloc_buddy.specs.BuddyState.{Buddy}
 use Rattle.gpu_alloc_fit.specs.Fit as fit
-use Rattle.gpu_alloc_fit.specs.Fit.{Fitting}
+use Rattle.gpu_alloc_fit.specs.Fit.{FitState}
 use Rattle.gpu_alloc_fit.specs.FitSound as fit_sound
 use Rattle.gpu_alloc_freelist.specs.FreeListAllocator as list
 use Rattle.gpu_alloc_freelist.specs.FreeListSound as list_sound
-use Rattle.gpu_alloc_freelist.specs.FreeListState.{Listing}
+use Rattle.gpu_alloc_freelist.specs.FreeListState.{FreeListState}
 use Rattle.gpu_alloc_block.specs.State.{State}
 use Rattle.gpu_alloc_block.specs.declared.sharing.Sharing.{Sharing}
 use Rattle.gpu_alloc_block.specs.declared.sharing.Sharing.TheVariants.{Buddy as SharingBuddy}
@@ -53,23 +53,23 @@ abbrev pub AreFirstBuddies : Config → Properties → List Buddy → Type 0
 AreFirstBuddies c p buddies = (t : ℕ) → IfSome (slice_get buddies t) (λ b. (b ≡ first_buddy c p t) × IsSoundBuddy b)
 
 -- a memory type's free list, with no chunk
-abbrev pub first_listing : Config → Properties → ℕ → Listing
+abbrev pub first_listing : Config → Properties → ℕ → FreeListState
 first_listing c p t =
     let heap = heap_size p t in
     let atom = atom_of p t in
     list.opened (starting_size c heap atom) (final_size c heap atom) t (props_at p t) atom
 
 -- a memory type's allocator of fit chunks, with no chunk
-abbrev pub first_fitting : Config → Properties → ℕ → Fitting
+abbrev pub first_fitting : Config → Properties → ℕ → FitState
 first_fitting c p t =
     let heap = heap_size p t in
     let g = grain (atom_of p t) in
     fit.opened (starting_size c heap g) (largest_fit c heap g) t (props_at p t) g
 
-abbrev pub AreFirstFittings : Config → Properties → List Fitting → Type 0
-AreFirstFittings c p fits =
-    (t : ℕ) → IfSome (slice_get fits t) (λ f. (f ≡ first_fitting c p t) × fit_sound.IsSoundFitting f)
+abbrev pub AreFirstFits : Config → Properties → List FitState → Type 0
+AreFirstFits c p fits =
+    (t : ℕ) → IfSome (slice_get fits t) (λ f. (f ≡ first_fitting c p t) × fit_sound.IsSoundFit f)
 
-abbrev pub AreFirstListings : Config → Properties → List Listing → Type 0
-AreFirstListings c p lists =
-    (t : ℕ) → IfSome (slice_get lists t) (λ l. (l ≡ first_listing c p t) × list_sound.IsSoundListing l)
+abbrev pub AreFirstFreeLists : Config → Properties → List FreeListState → Type 0
+AreFirstFreeLists c p lists =
+    (t : ℕ) → IfSome (slice_get lists t) (λ l. (l ≡ first_listing c p t) × list_sound.IsSoundFreeList l)

@@ -32,8 +32,8 @@ without_objects objects [] = objects
 without_objects objects (name ∷ names) = without_objects (put objects name None) names
 
 -- these objects are released to the device, in this order
-abbrev pub LetsGo : State → List ℕ → List Event → State → Type 0
-LetsGo s gone es new =
+abbrev pub Releases : State → List ℕ → List Event → State → Type 0
+Releases s gone es new =
     (es ≡ map Deallocated gone)
     × (new ≡ record s { held = without_all s.held gone; remaining = s.remaining + length gone })
 
@@ -51,16 +51,17 @@ pub record ListChunkMayGo (s : State) (t : ℕ) (keep_last : Bool) (number objec
   pub not_last : keep_last ≡ true → HasLastListRun s t number → ⊥
 
 -- These are all the objects that may be released, in rising number.
-pub record AreChunksGone (s : State) (t : ℕ) (keep_last : Bool) (gone : List ℕ) : Type 0 where
+pub record AreChunksReleased (s : State) (t : ℕ) (keep_last : Bool) (gone : List ℕ) : Type 0 where
   pub rising : (i j d m n : ℕ) → i < j → j < length gone
       → IsListChunk s t m (get_or gone i d) → IsListChunk s t n (get_or gone j d) → m < n
   pub all : (object : ℕ) → Contains gone object ↔ ((number : ℕ) × ListChunkMayGo s t keep_last number object)
 
--- These are all the chunks of a memory type that may be released. They are, and the device has the other objects then.
-pub record LetsChunksGo (s : State) (t : ℕ) (keep_last : Bool) (gone : List ℕ) (es : List Event) (new : State)
+-- These are all the chunks of a memory type that may be released. They are released, and the device then has the other
+-- objects.
+pub record ReleasesChunks (s : State) (t : ℕ) (keep_last : Bool) (gone : List ℕ) (es : List Event) (new : State)
     (old_objects new_objects : ℕ → Option Object) : Type 0 where
-  pub chunks : AreChunksGone s t keep_last gone
-  pub lets : LetsGo s gone es new
+  pub chunks : AreChunksReleased s t keep_last gone
+  pub lets : Releases s gone es new
   pub objects : new_objects ≡ without_objects old_objects gone
 
 -- Fit chunks of a memory type.
@@ -80,65 +81,65 @@ pub record IsSpareFit (s : State) (object : ℕ) : Type 0 where
   pub also : IsUnusedFit s chunk.memory_type other
 
 -- These are all the fit chunks without a live block, of which there is at most one.
-pub record AreFitsGone (s : State) (t : ℕ) (gone : List ℕ) : Type 0 where
+pub record AreFitChunksReleased (s : State) (t : ℕ) (gone : List ℕ) : Type 0 where
   pub few : length gone ≤ 1
   pub all : (object : ℕ) → Contains gone object ↔ IsUnusedFit s t object
 
--- They are released, and the device has the other objects then.
-pub record LetsFitsGo (s : State) (t : ℕ) (gone : List ℕ) (es : List Event) (new : State)
+-- They are released, and the device then has the other objects.
+pub record ReleasesFitChunks (s : State) (t : ℕ) (gone : List ℕ) (es : List Event) (new : State)
     (old_objects new_objects : ℕ → Option Object) : Type 0 where
-  pub chunks : AreFitsGone s t gone
-  pub lets : LetsGo s gone es new
+  pub chunks : AreFitChunksReleased s t gone
+  pub lets : Releases s gone es new
   pub objects : new_objects ≡ without_objects old_objects gone
 
--- What is released with a block whose span was removed, by what its object is held for: an object of its own, or a
--- buddy chunk without a live block. A fit chunk without one is released if another is kept so.
-abbrev pub GoesWith : Kind → State → ℕ → List ℕ → Type 0
-GoesWith Dedicated s object gone = gone ≡ object ∷ []
-GoesWith Imported s object gone = gone ≡ object ∷ []
-GoesWith BuddyChunk s object gone = (IsUnused s object × (gone ≡ object ∷ [])) ⊎ ((IsUnused s object → ⊥) × (gone ≡ []))
-GoesWith (FreeListChunk number) s object gone =
-    (chunk : HeldObject) × (finite.get s.held object ≡ Some chunk) × AreChunksGone s chunk.memory_type true gone
-GoesWith FitChunk s object gone = (IsSpareFit s object × (gone ≡ object ∷ [])) ⊎ ((IsSpareFit s object → ⊥) × (gone ≡ []))
+-- What is released with a block whose span was removed, by the kind of its object: an object of its own, or a buddy
+-- chunk without a live block. A fit chunk without one is released if another is kept so.
+abbrev pub ReleasedWith : Kind → State → ℕ → List ℕ → Type 0
+ReleasedWith Dedicated s object gone = gone ≡ object ∷ []
+ReleasedWith Imported s object gone = gone ≡ object ∷ []
+ReleasedWith BuddyChunk s object gone = (IsUnused s object × (gone ≡ object ∷ [])) ⊎ ((IsUnused s object → ⊥) × (gone ≡ []))
+ReleasedWith (FreeListChunk number) s object gone =
+    (chunk : HeldObject) × (finite.get s.held object ≡ Some chunk) × AreChunksReleased s chunk.memory_type true gone
+ReleasedWith FitChunk s object gone = (IsSpareFit s object × (gone ≡ object ∷ [])) ⊎ ((IsSpareFit s object → ⊥) × (gone ≡ []))
 
 abbrev pub Frees : State → Block → List Event → State → Type 0
 Frees s b es new =
-    (gone : List ℕ) × GoesWith b.kind (without_span s b) b.object gone × LetsGo (without_span s b) gone es new
+    (gone : List ℕ) × ReleasedWith b.kind (without_span s b) b.object gone × Releases (without_span s b) gone es new
 
--- What a return does to the device's objects: those that go with the block are gone.
+-- What a return does to the device's objects: those released with the block are gone.
 abbrev pub ObjectsFreed : State → Block → (ℕ → Option Object) → (ℕ → Option Object) → Type 0
 ObjectsFreed s b old new =
-    (gone : List ℕ) × GoesWith b.kind (without_span s b) b.object gone × (new ≡ without_objects old gone)
+    (gone : List ℕ) × ReleasedWith b.kind (without_span s b) b.object gone × (new ≡ without_objects old gone)
 
 -- What a cleanup releases: each memory type's chunks without a live block. The types come in their order, and for each
 -- the chunks of its free list come first.
 
-pub record AreGoneOfType (s : State) (t : ℕ) (gone : List ℕ) : Type 0 where
+pub record AreReleasedOfType (s : State) (t : ℕ) (gone : List ℕ) : Type 0 where
   pub listed : List ℕ
   pub fitted : List ℕ
   pub both : gone ≡ listed ++ fitted
-  pub of_list : AreChunksGone s t false listed
-  pub of_fits : AreFitsGone s t fitted
+  pub of_list : AreChunksReleased s t false listed
+  pub of_fits : AreFitChunksReleased s t fitted
 
--- these are all chunks of a memory type without a live block; they are released, and the device has the other objects
--- then
-pub record LetsTypeGo (s : State) (t : ℕ) (gone : List ℕ) (es : List Event) (new : State)
+-- these are all chunks of a memory type without a live block; they are released, and the device then has the other
+-- objects
+pub record ReleasesType (s : State) (t : ℕ) (gone : List ℕ) (es : List Event) (new : State)
     (old_objects new_objects : ℕ → Option Object) : Type 0 where
-  pub chunks : AreGoneOfType s t gone
-  pub lets : LetsGo s gone es new
+  pub chunks : AreReleasedOfType s t gone
+  pub lets : Releases s gone es new
   pub objects : new_objects ≡ without_objects old_objects gone
 
-abbrev pub AreAllGone : State → ℕ → List ℕ → Type 0
-AreAllGone s zero gone = gone ≡ []
-AreAllGone s (suc t) gone =
-    (earlier own : List ℕ) × (gone ≡ earlier ++ own) × AreAllGone s t earlier × AreGoneOfType s t own
+abbrev pub AreAllReleased : State → ℕ → List ℕ → Type 0
+AreAllReleased s zero gone = gone ≡ []
+AreAllReleased s (suc t) gone =
+    (earlier own : List ℕ) × (gone ≡ earlier ++ own) × AreAllReleased s t earlier × AreReleasedOfType s t own
 
 abbrev pub Cleans : State → List Event → State → Type 0
-Cleans s es new = (gone : List ℕ) × AreAllGone s (length s.properties.memory_types) gone × LetsGo s gone es new
+Cleans s es new = (gone : List ℕ) × AreAllReleased s (length s.properties.memory_types) gone × Releases s gone es new
 
 abbrev pub ObjectsCleaned : State → (ℕ → Option Object) → (ℕ → Option Object) → Type 0
 ObjectsCleaned s old new =
-    (gone : List ℕ) × AreAllGone s (length s.properties.memory_types) gone × (new ≡ without_objects old gone)
+    (gone : List ℕ) × AreAllReleased s (length s.properties.memory_types) gone × (new ≡ without_objects old gone)
 
 -- What a cleanup releases: a free-list chunk or a fit chunk in which nothing is live.
 abbrev pub IsCleanedUp : State → ℕ → HeldObject → Type 0

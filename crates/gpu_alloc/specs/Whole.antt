@@ -9,8 +9,8 @@ use Rattle.gpu_alloc_block.specs.State.{HeldObject, is_shared}
 use Rattle.gpu_alloc_block.specs.declared.block.Kind.TheVariants.{BuddyChunk, FreeListChunk, FitChunk}
 use Rattle.gpu_alloc_block.specs.declared.sharing.Sharing.{Sharing}
 use Rattle.gpu_alloc_buddy.specs.BuddyState.{Buddy}
-use Rattle.gpu_alloc_fit.specs.Fit.{Fitting}
-use Rattle.gpu_alloc_freelist.specs.FreeListState.{Listing}
+use Rattle.gpu_alloc_fit.specs.Fit.{FitState}
+use Rattle.gpu_alloc_freelist.specs.FreeListState.{FreeListState}
 use Rattle.gpu_alloc.specs.Inside.{chunk_object, fit_object, list_object, span_of_leaf, span_of_slot}
 use Rattle.gpu_alloc.specs.Inside.{AreBuddies, AreFits, AreLists, IsBooked, IsChosen}
 use Rattle.gpu_alloc.specs.Own.{OwnTable}
@@ -23,13 +23,13 @@ own_part own = record { held = own.held; live = own.live }
 abbrev pub buddy_part : Buddy → Part
 buddy_part b = record { held = by_name (λ _ c. chunk_object b c) b.chunks; live = by_span span_of_leaf b.live }
 
-abbrev pub list_part : Listing → Part
+abbrev pub list_part : FreeListState → Part
 list_part l = record { held = by_name (list_object l) l.space.chunks; live = by_span span_of_slot l.space.live }
 
-abbrev pub fit_part : Fitting → Part
+abbrev pub fit_part : FitState → Part
 fit_part f = record { held = by_name (λ _ c. fit_object f c) f.space.chunks; live = by_span span_of_slot f.space.live }
 
-abbrev pub parts_of : OwnTable → List Buddy → List Listing → List Fitting → List Part
+abbrev pub parts_of : OwnTable → List Buddy → List FreeListState → List FitState → List Part
 parts_of own buddies lists fits =
     own_part own ∷ map buddy_part buddies ++ (map list_part lists ++ map fit_part fits)
 
@@ -42,16 +42,16 @@ IsPartFor buddies lists (suc i) h = ((h.kind ≡ BuddyChunk) × (h.memory_type �
     ⊎ ((h.kind ≡ FitChunk) × (buddies + (lists + h.memory_type) ≡ i)))
 
 -- all of it
-abbrev pub whole : OwnTable → List Buddy → List Listing → List Fitting → Table
+abbrev pub whole : OwnTable → List Buddy → List FreeListState → List FitState → Table
 whole own buddies lists fits =
     record { held = held_in_parts (parts_of own buddies lists fits); live = live_in_parts (parts_of own buddies lists fits) }
 
-abbrev pub AreOneWhole : OwnTable → List Buddy → List Listing → List Fitting → Type 0
+abbrev pub AreOneWhole : OwnTable → List Buddy → List FreeListState → List FitState → Type 0
 AreOneWhole own buddies lists fits = ArePartsApart (IsPartFor (length buddies) (length lists)) (parts_of own buddies lists fits)
 
 -- what an allocator's fields keep between calls
 pub record IsKept (sharing : Sharing) (c : Config) (p : Properties) (heaps : List Heap) (buddies : List Buddy)
-    (lists : List Listing) (fits : List Fitting) (own : OwnTable) (remaining : ℕ) : Type 0 where
+    (lists : List FreeListState) (fits : List FitState) (own : OwnTable) (remaining : ℕ) : Type 0 where
   pub books : IsBooked p heaps (whole own buddies lists fits) remaining
   pub shared : AreBuddies c p buddies
   pub listed : AreLists c p lists

@@ -133,15 +133,16 @@ impl<M: MemoryObject, A: Allocator> GpuAllocator<M, A> {
     ///   chunk. That is twice as large as the latest fit chunk, at most four times the first, and no larger than a free
     ///   list's largest. A request larger than the first fit chunk gets an object of its own.
     ///
-    ///   Which run: lengths are sorted into classes, one for each whole number of 256 bytes below 64, and from there on
-    ///   eight for each power of two. A class is *sure* where each of its runs has room, wherever it starts. The run's
-    ///   class is no higher than the lowest sure class that has runs. A run with room in a lower class is passed over
-    ///   only for one of a sure class, and only where the first four runs lack room, from the class of the size on. A
-    ///   wholly free chunk comes last in its class.
+    ///   Which run: lengths are sorted into classes, one for each whole number of 256-byte units below 64, and from
+    ///   there on eight for each power of two. A class is *sure* where each of its runs has room, wherever it starts.
+    ///   The run's class is no higher than the lowest sure class that has runs. A run with room in a lower class is
+    ///   passed over only for one of a sure class, and only where the first four runs lack room, from the class of the
+    ///   size on. A wholly free chunk comes last in its class.
     /// - With `TRANSIENT` the block comes from a chunk of the free list. It is the tail of the last free run with room,
-    ///   from the last byte on that is aligned (to the request's alignment and the atom) and leaves the size in whole
+    ///   from the last byte that is aligned (to the request's alignment and the atom) and leaves the size in whole
     ///   atoms. Where no run has room, the device is asked for a chunk. That is twice as large as the free list's
-    ///   latest, or larger where the request needs it, and cut at the largest (`FreeListAllocator::alloc` says more).
+    ///   latest, or larger where the request needs it, and capped at the largest (`FreeListAllocator::alloc` says
+    ///   more).
     ///
     /// A chunk is mapped whole where its type is host-visible. It may be larger than `max_memory_allocation_size`; the
     /// device decides. A block lies inside its object and is not mapped. Each question to the device carries
@@ -159,7 +160,7 @@ impl<M: MemoryObject, A: Allocator> GpuAllocator<M, A> {
     /// - `NoCompatibleMemoryTypes` where no memory type among the request's serves its usage
     /// - the errors of the memory types, below.
     ///
-    /// Then the memory types are tried in rank. A type is passed over in any of these cases:
+    /// Then the memory types are tried in order of rank. A type is passed over in any of these cases:
     ///
     /// - its heap is smaller than the request
     /// - a chunk for the request would have 2^64 bytes or more
@@ -306,7 +307,7 @@ impl<M: MemoryObject, A: Allocator> GpuAllocator<M, A> {
         self.limits.memory_for_usage.types(usage)
     }
 
-    /// Tries the candidates in rank: the memory types that serve this usage and that the request allows.
+    /// Tries the candidates in order of rank: the memory types that serve this usage and that the request allows.
     fn try_all<D: ObjectDevice<M>>(
         &mut self,
         device: &mut D,
@@ -592,7 +593,7 @@ impl<M: MemoryObject, A: Allocator> GpuAllocator<M, A> {
         self.heaps[self.limits.heap_index(memory_type)].size()
     }
 
-    /// Returns a block. The objects that it was the last to need are released:
+    /// Returns a block, and releases objects that are then no longer needed:
     ///
     /// - An object of its own, or an import, is released.
     /// - A buddy chunk is released if no other block in it is live.
@@ -602,8 +603,8 @@ impl<M: MemoryObject, A: Allocator> GpuAllocator<M, A> {
     /// - A fit chunk without another live block is released if its memory type has another such chunk, and kept
     ///   otherwise.
     ///
-    /// For each released object, one more may be held. The ledger of its heap is lowered by what it counted: its size,
-    /// or for an import the block's size. In any other chunk the block joins the free space.
+    /// For each released object, one more may be held. Its heap's ledger is reduced by the object's counted size: its
+    /// own size, or for an import the block's size. In any other chunk the block joins the free space.
     ///
     /// The block must be live here (see `owns`). The device must be the one that this allocator has served, so that the
     /// two agree. The block may be mapped. It allocates nothing and cannot fail. Each other owned block that agreed
@@ -628,9 +629,9 @@ impl<M: MemoryObject, A: Allocator> GpuAllocator<M, A> {
         self.put_back(device, block);
     }
 
-    /// Releases every free-list chunk and every fit chunk without a live block. It goes by memory type, and for each
-    /// type releases the chunks of its free list first, the oldest first. For each, one more object may be held, and
-    /// the ledger of its heap is lowered by its size.
+    /// Releases every free-list chunk and every fit chunk without a live block. It takes the memory types in order, and
+    /// for each type releases the chunks of its free list first, the oldest first. For each chunk, one more object may
+    /// be held, and its heap's ledger is reduced by the chunk's size.
     ///
     /// Where no block is live, nothing is held afterwards, and every ledger is 0. Each owned block that agreed with the
     /// device still does, and its bytes are unchanged. The device must be the one that this allocator has served, so

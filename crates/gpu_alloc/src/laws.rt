@@ -62,8 +62,8 @@ pub use gpu_alloc_usage::laws::{
 use std::alloc::Allocator;
 
 /// Pieces are exactly the free pieces if they are aligned and apart, no two are halves of one range, and together they
-/// are the free bytes. (Free pieces are the longest free ranges of a power of two of bytes that start at a multiple of
-/// their length.) This holds of a buddy allocator's chunks by key, and of an allocator's objects by name.
+/// are the free bytes. (Free pieces are the longest free ranges with a power of two as length that start at a multiple
+/// of it.) This holds of a buddy allocator's chunks by key, and of an allocator's objects by name.
 pub fn kept_pieces_are_the_free_pieces()
     ensures exact { (b : Buddy) (pieces : List Piece)
         → AreCanonical (IsFreeInBuddy b) pieces → AreFreePieces (IsFreeInBuddy b) pieces }
@@ -112,7 +112,7 @@ pub fn free_ranges_are_the_free_bytes()
 {}
 
 /// Free-list chunks and the blocks at their tails, for a first chunk of 8192 bytes. The chunks are the next one, one
-/// that must be larger, and one that is cut at the largest. The blocks are a tail, and one at a multiple of 256.
+/// that must be larger, and one that is capped at the largest. The blocks are a tail, and one at a multiple of 256.
 #[tactic(auto, unfolding(gpu_alloc_base::specs::Sizes::doubled_up))]
 pub fn free_list_chunks_of_samples()
     ensures first { grown_chunk 8192 32768 100 ≡ 8192 }
@@ -280,7 +280,7 @@ pub fn questions_within_the_budget_are_asked()
     ensures { IsAskedWithinBudget }
 {}
 
-/// A granted block has an object of its own exactly where its memory type serves the request so
+/// A granted block has an object of its own exactly where its memory type serves the request that way
 /// (`GpuAllocator::serves_alone`). After this call a caller knows what the clause `alone` says.
 pub fn own_objects_are_where_served_alone()
     ensures { AloneIsTold }
@@ -369,8 +369,8 @@ pub fn owned_blocks_are_apart()
     ensures { (s : State) (b c : Block) → IsSound s → IsOwned s b → IsOwned s c → span_of b ≢ span_of c → AreTwo b c }
 {}
 
-/// Blocks that are two are so in either order. They are of two objects, or of two ranges of one; where one of them has
-/// its own object, they are of two objects.
+/// If two blocks are apart (`AreTwo`), they are so in either order. They lie in different objects, or in disjoint
+/// ranges of one object. Where one of them has its own object, they lie in different objects.
 pub fn two_blocks_are_apart()
     ensures back { (b c : Block) → AreTwo b c → AreTwo c b }
     ensures apart { (b c : Block) → AreTwo b c
@@ -385,7 +385,7 @@ pub fn pages_are_not_shared()
 {}
 
 /// What is known of a list of blocks in hand is known of each: it is owned and agrees with the device, and blocks at
-/// two places are two. So a list is a map from places, as the clauses on keys use it.
+/// different places are apart (`AreTwo`). So a list is a map from places, as the clauses on keys use it.
 pub fn blocks_in_hand_are_told_by_place()
     ensures { ToldByPlace }
 {}
@@ -393,13 +393,14 @@ pub fn blocks_in_hand_are_told_by_place()
 /// Blocks under the caller's own keys, as an `IndexMap` has them, stay kept (`AreKept`) in three cases. One is put
 /// under a key that had none, the map lends one for a call, or one is taken out. Only what is found under each key
 /// counts, in any order of the pairs. After this call the map's `Updates` with the allocator's `joins` or `in_hand`
-/// gives the same of the new map. Where nothing else is live (`AreAllKept`), that stays so.
+/// gives the same for the new map. Where nothing else is live (`AreAllKept`), that stays so.
 pub fn blocks_under_keys_come_and_go()
     ensures kept { ComeAndGoUnderKeys }
     ensures all { AllComeAndGo }
 {}
 
-/// Unchanged bytes stay so from call to call, and the device still has what it had of a block that keeps its bytes.
+/// Bytes that each call leaves unchanged are unchanged by all of them. What the device had of a block whose bytes are
+/// unchanged, it still has.
 pub fn bytes_stay()
     ensures { BytesStay }
 {}

@@ -32,7 +32,7 @@ pub struct OwnRow {
     /// The index of the object's memory type.
     pub memory_type: u32,
 
-    /// Whether another made the object.
+    /// Whether the object is an import.
     pub imported: bool,
 }
 
@@ -143,8 +143,8 @@ fn is_under<A: Allocator>(rows: &Slab<OwnRow, A>, key: usize, object: u64) -> bo
     }
 }
 
-/// The key of an object's row, which has to be there, by a search over all rows. (It stands apart, so that returns whose
-/// key is the object's do not pay for it.)
+/// The key of an object's row, which has to be there, by a search over all rows. (It stands apart, so that returns
+/// whose key is the object's do not pay for it.)
 #[cold]
 #[inline(never)]
 fn sought<A: Allocator>(rows: &Slab<OwnRow, A>, object: u64) -> usize

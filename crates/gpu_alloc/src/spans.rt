@@ -2,10 +2,10 @@
 
 use gpu_alloc_block::Kind;
 
-/// A live span of a held object, and where its block stands in its store. A block of a buddy chunk has its chunk's key
-/// and its index there. A block of a free list has a chunk of 0 and its key as index. A block of a fit chunk has that
-/// chunk's key and an index of 0. The one block of an object has 0 for both. (Contracts mention only spans; these two
-/// fields are for reports.)
+/// A live span of a held object, with two keys of the store that holds its block. `chunk` is the key of the chunk for a
+/// block of a buddy chunk or a fit chunk, and 0 for any other. `index` is the key of the pair of halves for a block of
+/// a buddy chunk, the key of the block for a block of a free list, and 0 for any other. (Contracts mention only spans;
+/// these two fields are for reports.)
 pub use gpu_alloc_base::buddy_block::Leaf as LiveSpan;
 
 /// What is known of a held object, apart from its name.

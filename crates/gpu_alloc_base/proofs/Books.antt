@@ -10,7 +10,7 @@ use Rattle.gpu_alloc_types.specs.Properties.{Properties}
 use Rattle.gpu_alloc_base.specs.Accounts.{Account, HeldChunks, chunk_bytes, chunks_and_remaining, IsCounted, Agrees, ObjectsAfter}
 use Rattle.gpu_alloc_base.specs.Case.{Case, Answers, Asks}
 use Rattle.gpu_alloc_base.specs.Chunks.{Chunk, IsThere, IsNew}
-use Rattle.gpu_alloc_base.specs.NewChunk.{ChunkQuestion, AsksChunkTwice, HasOneChunkMore, IsLetGo, LacksDeviceMemory, LacksHostMemory}
+use Rattle.gpu_alloc_base.specs.NewChunk.{ChunkQuestion, AsksChunkTwice, HasOneChunkMore, IsReleased, LacksDeviceMemory, LacksHostMemory}
 use Rattle.gpu_alloc_base.specs.NewObject.{HasOneMore, ObjectsGiven}
 use Rattle.gpu_alloc_base.specs.declared.error.AllocationError.{AllocationError}
 use Rattle.gpu_alloc_base.specs.declared.error.AllocationError.TheVariants.{OutOfDeviceMemory, OutOfHostMemory, NoCompatibleMemoryTypes, TooManyObjects}
@@ -29,7 +29,7 @@ refused_keeps c es TooManyObjects new refused = refused.0
 pub refused_chunk : {B S : Type 0} (c : Case B S) (q : ChunkQuestion) (es : List Event) (e : AllocationError) → IsTrue c.two_handles → q ≡ c.question → Asks c → AsksChunkTwice q es (Err e) → Answers c es (Err e) c.before
 refused_chunk c q es OutOfDeviceMemory two is asks lacks = (refl, inr (asks, subst (λ x. LacksDeviceMemory x es) is lacks))
 refused_chunk c q es OutOfHostMemory two is asks (inl lacks) = (refl, inr (asks, inl (subst (λ x. LacksHostMemory x es) is lacks)))
-refused_chunk c q es OutOfHostMemory two is asks (inr back) = (refl, inr (asks, inr (two, subst (λ x. IsLetGo x es) is back)))
+refused_chunk c q es OutOfHostMemory two is asks (inr back) = (refl, inr (asks, inr (two, subst (λ x. IsReleased x es) is back)))
 refused_chunk c q es NoCompatibleMemoryTypes two is asks lacks = absurd lacks
 refused_chunk c q es TooManyObjects two is asks lacks = absurd lacks
 

@@ -18,7 +18,7 @@ tail_ends size alignment end = omega (arith, tail_below size alignment end)
 
 -- Free ranges and regions.
 
--- the byte behind a free run is not free
+-- the byte after a free run is not free
 pub run_stops : (F : ℕ → ℕ → Type 0) (chunk start end : ℕ) → IsFreeRun F chunk start end → F chunk end → ⊥
 run_stops F chunk start end run next =
     let longer = run.longest start (end + 1) (λ at from to. elim (cases_lt at end) [

@@ -8,7 +8,7 @@ use Rattle.gpu_alloc_base.specs.Chunks.{Chunk, object_in}
 use Rattle.gpu_alloc_base.specs.RangeOrder.{same_start}
 use Rattle.gpu_alloc_base.proofs.Lists.{contains_cases, contains_none, contains_head, contains_later}
 
--- A held chunk tells its object.
+-- A held chunk names its object.
 
 pub some_value : {X : Type 0} (o : Option X) → IsSome o → (x : X) × (o ≡ Some x)
 some_value None some = absurd (cc)

@@ -100,7 +100,7 @@ module _ {X : Type 0} where
       negated true e = cc
       negated false e = refl
 
--- what is none is not some
+-- `None` is not `Some`
 pub none_is_some : {X : Type 0} (o : Option X) → o ≡ None → IsSome o → ⊥
 none_is_some None e s = cc
 none_is_some (Some x) e s = cc

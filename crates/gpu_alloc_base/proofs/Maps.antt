@@ -1,4 +1,4 @@
--- Finite maps, by number above all, as an entry comes or goes.
+-- Finite maps, by number above all, as an entry is added or removed.
 use Rattle.std.proofs.Common.{◌≡◌, ◌≢◌, ◌⊎◌, inl, inr, ℕ, Bool, true, false, ◌==◌, Option, Some, None, IsSome, refl, sym, ◌∙◌, ap, subst, arith}
 use Rattle.std.specs.Bool.{Decides}
 use Rattle.std.specs.declared.cmp.Ordering.{Ordering}
@@ -83,7 +83,7 @@ module _ {X : Type 0} where
   pub inserted_kept : (m : finite.FinMap nat_cmp X) (k : ℕ) (v : X) (q : ℕ) (x : X) → finite.get m k ≡ None → finite.get m q ≡ Some x → finite.get (finite.insert m k v) q ≡ Some x
   inserted_kept m k v q x none is = other_inserted m k v q (another_key m k q x none is) ∙ is
 
-  -- An entry goes.
+  -- An entry is removed.
 
   pub gone : (m : finite.FinMap nat_cmp X) (k : ℕ) → finite.get (finite.remove m k) k ≡ None
   gone m k = get_gone nat_cmp_total name_decides m k

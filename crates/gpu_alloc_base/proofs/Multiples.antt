@@ -37,7 +37,7 @@ multiple_of_lower n m x (j, n_is) (k, m_is) le (q, is) =
     let e = pow-from_shorter j k le' in
     (q * 2 ^ (k - j), is ∙ ap (λ z. q * z) (m_is ∙ e) ∙ sym (mul_assoc q (2 ^ (k - j)) (2 ^ j)) ∙ ap (λ z. q * 2 ^ (k - j) * z) (sym n_is))
 
--- what is left of a multiple behind another one is one
+-- where x and x + y are multiples, y is one
 pub multiple_rest : (n x y : ℕ) → IsMultipleOf n x → IsMultipleOf n (x + y) → IsMultipleOf n y
 multiple_rest n x y (m, x_is) (k, all_is) = (k - m, omega (arith, mul-sub n k m))
 

@@ -47,12 +47,12 @@ module _ (q : ChunkQuestion) (f g : ℕ → Option Object) (flags name : ℕ) (p
   still_there h row same = rw (ap (λ x. x name) (same ∙ row.1.2) ∙ put-same f name (Some row.1.0)) refl
 
   -- and when it goes all is as before
-  pub let_go : (h k : ℕ → Option Object) → Row p f (Allocated q.size q.memory_type flags (Ok name)) g → h ≡ g → k ≡ put h name None → k ≡ f
-  let_go h k row same gone = gone ∙ ap (λ x. put x name None) (same ∙ row.1.2) ∙ put-undone f name (Some row.1.0) row.0
+  pub release : (h k : ℕ → Option Object) → Row p f (Allocated q.size q.memory_type flags (Ok name)) g → h ≡ g → k ≡ put h name None → k ≡ f
+  release h k row same gone = gone ∙ ap (λ x. put x name None) (same ∙ row.1.2) ∙ put-undone f name (Some row.1.0) row.0
 
 -- a new chunk that goes again
-pub chunk_let_go : (q : ChunkQuestion) (f g h : ℕ → Option Object) (name : ℕ) → HasOneChunkMore q name f g → h ≡ put g name None → h ≡ f
-chunk_let_go q f g h name more gone = gone ∙ ap (λ x. put x name None) more.1.2 ∙ put-undone f name (Some more.1.0) more.0
+pub chunk_release : (q : ChunkQuestion) (f g h : ℕ → Option Object) (name : ℕ) → HasOneChunkMore q name f g → h ≡ put g name None → h ≡ f
+chunk_release q f g h name more gone = gone ∙ ap (λ x. put x name None) more.1.2 ∙ put-undone f name (Some more.1.0) more.0
 
 pub chunk_is_there : (q : ChunkQuestion) (f g : ℕ → Option Object) (name : ℕ) → HasOneChunkMore q name f g → IsHeld g name
 chunk_is_there q f g name more = rw (ap (λ x. x name) more.1.2 ∙ put-same f name (Some more.1.0)) refl

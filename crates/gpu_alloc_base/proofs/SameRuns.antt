@@ -1,4 +1,4 @@
--- Two ways to tell of free bytes that tell the same have the same places and the same runs.
+-- Two descriptions of free bytes that agree have the same places and the same runs.
 use Rattle.std.proofs.Common.{ℕ, List, Contains}
 use Rattle.gpu_alloc_base.specs.FreeRuns.{AreFree, AreRuns, IsFreeRun, IsListPlace, IsSpaced, IsLastWithRoom, IsLastRun}
 use Rattle.gpu_alloc_base.specs.declared.region.FreeListRegion.{FreeListRegion}

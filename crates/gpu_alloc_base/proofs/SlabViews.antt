@@ -24,7 +24,7 @@ module _ {T : Type 0} where
     pub was_vacant : get old key ≡ None
     pub updates : Updates old new key (Some row)
 
-  -- a row goes from under its key
+  -- a row is removed from under its key
   pub record IsRemoved (old new : Slab T) (key : ℕ) (row : T) : Type 0 where
     pub was : get old key ≡ Some row
     pub updates : Updates old new key None

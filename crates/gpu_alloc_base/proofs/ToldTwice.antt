@@ -1,12 +1,13 @@
--- A request that is told twice, of an allocator's own chunks and of what a larger one holds: what the first refuses, the second does.
+-- A request that is described twice, by an allocator's own chunks and by what a larger one holds: what the first
+-- refuses, the second does.
 use Rattle.std.proofs.Common.{◌≡◌, inl, inr, ◌<◌, List, [], Some, Err, refl, ap, subst, arith, IsTrue}
 use Rattle.gpu_alloc_types.specs.Device.{Event}
 use Rattle.gpu_alloc_base.specs.Case.{Case, MayAsk, HasQuestion, Asks, IsWithinBudget, IsOverBudget, IsOpen, IsShut, IsPassedUnasked, IsPassed, LacksHost, Answers, RefusesFirst}
-use Rattle.gpu_alloc_base.specs.NewChunk.{ChunkQuestion, LacksDeviceMemory, LacksHostMemory, IsLetGo}
+use Rattle.gpu_alloc_base.specs.NewChunk.{ChunkQuestion, LacksDeviceMemory, LacksHostMemory, IsReleased}
 use Rattle.gpu_alloc_base.specs.declared.error.AllocationError.{AllocationError}
 use Rattle.gpu_alloc_base.specs.declared.error.AllocationError.TheVariants.{OutOfDeviceMemory, OutOfHostMemory, NoCompatibleMemoryTypes, TooManyObjects}
 
--- both tell the same of room, of what remains, of the question and of the budget
+-- both say the same of room, of what remains, of the question and of the budget
 pub record IsToldAs {B S B' S' : Type 0} (c : Case B S) (d : Case B' S') : Type 0 where
   pub fits : c.Fits → d.Fits
   pub fitted : d.Fits → c.Fits
@@ -60,7 +61,7 @@ module _ {B S B' S' : Type 0} {c : Case B S} {d : Case B' S'} (told : IsToldAs c
   lacks_is : (es : List Event) → LacksHost c es → LacksHost d es
   lacks_is es (inl (none, is)) = inl (none, open_is is)
   lacks_is es (inr (asks, inl lacks)) = inr (asks_is asks, inl (subst (λ q. LacksHostMemory q es) told.question lacks))
-  lacks_is es (inr (asks, inr back)) = inr (asks_is asks, inr (subst IsTrue told.handles back.0, subst (λ q. IsLetGo q es) told.question back.1))
+  lacks_is es (inr (asks, inr back)) = inr (asks_is asks, inr (subst IsTrue told.handles back.0, subst (λ q. IsReleased q es) told.question back.1))
 
   -- by a call
   pub refused_is : (es : List Event) (e : AllocationError) (new : S) → Answers c es (Err e) new → Answers d es (Err e) d.before

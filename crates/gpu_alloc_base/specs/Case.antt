@@ -2,7 +2,7 @@
 -- allocator for each way of serving a candidate.
 use Rattle.std.specs.Prelude.{◌≡◌, ◌⊎◌, ℕ, ◌+◌, ◌<◌, ◌≤◌, Bool, List, [], Option, Some, None, Result, Ok, Err, IsTrue}
 use Rattle.gpu_alloc_types.specs.Device.{Event}
-use Rattle.gpu_alloc_base.specs.NewChunk.{ChunkQuestion, made, LacksDeviceMemory, LacksHostMemory, IsLetGo}
+use Rattle.gpu_alloc_base.specs.NewChunk.{ChunkQuestion, made, LacksDeviceMemory, LacksHostMemory, IsReleased}
 use Rattle.gpu_alloc_base.specs.declared.error.AllocationError.{AllocationError}
 use Rattle.gpu_alloc_base.specs.declared.error.AllocationError.TheVariants.{OutOfDeviceMemory, OutOfHostMemory}
 use Rattle.gpu_alloc_base.specs.declared.error.AllocationError.TheVariants.{NoCompatibleMemoryTypes, TooManyObjects}
@@ -107,7 +107,7 @@ module _ {B S : Type 0} (c : Case B S) where
 
   -- there was no host memory for what the question led to
   abbrev pub HostRefuses : List Event → Type 0
-  HostRefuses es = LacksHostMemory c.question es ⊎ (IsTrue c.two_handles × IsLetGo c.question es)
+  HostRefuses es = LacksHostMemory c.question es ⊎ (IsTrue c.two_handles × IsReleased c.question es)
 
   -- host memory was missing: for the allocator, before anything was asked, or for the device
   abbrev pub LacksHost : List Event → Type 0

@@ -35,7 +35,7 @@ module _ (F : ℕ → ℕ → Type 0) where
   abbrev pub AreFree : ℕ → ℕ → ℕ → Type 0
   AreFree chunk start end = (at : ℕ) → start ≤ at → at < end → F chunk at
 
-  -- a nonempty free range that lies in no longer one
+  -- a nonempty free range that is not part of a longer one
   pub record IsFreeRun (chunk start end : ℕ) : Type 0 where
     pub nonempty : start < end
     pub free : AreFree chunk start end
@@ -72,7 +72,7 @@ pub record AreRuns (regions : List FreeListRegion) (F : ℕ → ℕ → Type 0) 
   pub spaced : IsSpaced F (Contains regions)
   pub rising : AreRising regions
 
--- the same of the free bytes without those of x, which is in hand
+-- the same for the free bytes without those of x, which is in hand
 pub record AreRunsBeside (regions : List FreeListRegion) (F : ℕ → ℕ → Type 0) (x : FreeListRegion) : Type 0 where
   pub rest : AreRuns regions (Without F x)
   pub inside : AreFree F x.chunk x.start x.end

@@ -23,13 +23,13 @@ module _ (F : ℕ → ℕ → Type 0) where
   abbrev pub IsFreeRange : ℕ → ℕ → ℕ → Type 0
   IsFreeRange object start length = (at : ℕ) → IsIn start length at → F object at
 
-  -- a free range of a power of two of bytes that starts at a multiple of its length
+  -- a free range whose length is a power of two and which starts at a multiple of it
   pub record IsPlace (object start length : ℕ) : Type 0 where
     pub power : IsPowerOfTwo length
     pub aligned : IsMultipleOf length start
     pub free : IsFreeRange object start length
 
-  -- a place that lies in no longer place
+  -- a place that is not part of a longer one
   pub record IsFreePiece (object start length : ℕ) : Type 0 where
     pub place : IsPlace object start length
     pub longest : (start' length' : ℕ) → IsPlace object start' length' → start' ≤ start

@@ -59,8 +59,8 @@ LacksHostMemory q es =
     ((cause : DeviceMapError) × (cause ≢ MapDeviceFull) × (es ≡ unmapped q object cause))))
 
 -- the object was made, and released because there was no host memory for a second handle of it
-abbrev pub IsLetGo : ChunkQuestion → List Event → Type 0
-IsLetGo q es = (object : ℕ) × (es ≡ made q object ++ Deallocated object ∷ [])
+abbrev pub IsReleased : ChunkQuestion → List Event → Type 0
+IsReleased q es = (object : ℕ) × (es ≡ made q object ++ Deallocated object ∷ [])
 
 -- a refused mapping of a new chunk, as a refusal of the chunk
 abbrev pub new_chunk_refusal : DeviceMapError → AllocationError
@@ -80,7 +80,7 @@ AsksChunk q es (Err TooManyObjects) = ⊥
 abbrev pub AsksChunkTwice : ChunkQuestion → List Event → Result (ℕ × ℕ) AllocationError → Type 0
 AsksChunkTwice q es (Ok handles) = (es ≡ made q handles.0) × (handles.1 ≡ handles.0)
 AsksChunkTwice q es (Err OutOfDeviceMemory) = LacksDeviceMemory q es
-AsksChunkTwice q es (Err OutOfHostMemory) = LacksHostMemory q es ⊎ IsLetGo q es
+AsksChunkTwice q es (Err OutOfHostMemory) = LacksHostMemory q es ⊎ IsReleased q es
 AsksChunkTwice q es (Err NoCompatibleMemoryTypes) = ⊥
 AsksChunkTwice q es (Err TooManyObjects) = ⊥
 

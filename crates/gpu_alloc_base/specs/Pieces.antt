@@ -51,7 +51,7 @@ pub record ArePiecesKept (pieces : List Piece) (F : ℕ → ℕ → Type 0) : Ty
   pub canonical : IsCanonical (Contains pieces) F
   pub distinct : IsDistinct same_place pieces
 
--- the same of the free bytes without those of x, which is in hand
+-- the same for the free bytes without those of x, which is in hand
 pub record AreKeptBeside (pieces : List Piece) (F : ℕ → ℕ → Type 0) (x : Piece) : Type 0 where
   pub beside : IsCanonicalBeside (Contains pieces) F x
   pub distinct : IsDistinct same_place pieces

@@ -65,18 +65,18 @@ final_size c heap atom =
     cut heap atom (max (max c.final_free_list_chunk c.starting_free_list_chunk) (transient_threshold c))
 
 -- a chunk for a block of this size, where the next one would have `next` bytes and none has more than `final`. It is
--- the next one, or where that is too small, its least product with a power of two that suffices, cut at the largest
+-- the next one, or where that is too small, doubled until it suffices, and capped at the largest
 abbrev pub grown_chunk : ℕ → ℕ → ℕ → ℕ
 grown_chunk next final size =
     cond (nat_le size next) next (min (next * next_power_of_two ((size + (next - 1)) / next)) final)
 
 -- the same without steps: it holds the block. It is the least that does so of the products of the next one's size with
--- powers of two, each cut at the largest
+-- powers of two, each capped at the largest
 pub record IsLeastProduct (next final size chunk : ℕ) : Type 0 where
   pub enough : size ≤ chunk
   pub product : (k : ℕ) × (chunk ≡ min (next * 2 ^ k) final)
   pub least : (k : ℕ) → size ≤ next * 2 ^ k → chunk ≤ next * 2 ^ k
 
--- the size of the next chunk once one of this size was made: twice as much, cut at the largest
+-- the size of the next chunk once one of this size was made: twice as much, capped at the largest
 abbrev pub doubled_chunk : ℕ → ℕ → ℕ
 doubled_chunk final size = min (2 * size) final

@@ -5,7 +5,7 @@ ghost use Rattle.std.specs.Prelude.{◌≡◌, ◌+◌, ◌-◌, ◌<◌, ◌≤
 
 use crate::heap::Heap;
 
-/// Books a new object of `size` bytes: its heap's ledger counts it, and one object fewer may still be held.
+/// Books a new object of `size` bytes: its heap's ledger counts it, and one fewer object may still be held.
 #[inline(always)]
 pub fn hold(heap: &mut Heap, allocations_remains: &mut u32, size: u64)
     requires room { heap.old.used + size < 2 ^ 128 }
@@ -17,10 +17,10 @@ pub fn hold(heap: &mut Heap, allocations_remains: &mut u32, size: u64)
     *allocations_remains -= 1;
 }
 
-/// Takes a released object of `size` bytes off the books: its heap's ledger is lowered by them, and one object more may
-/// be held.
+/// Takes a released object of `size` bytes off the books: its heap's ledger is reduced by its size, and one more object
+/// may be held.
 #[inline(always)]
-pub fn let_go(heap: &mut Heap, allocations_remains: &mut u32, size: u64)
+pub fn release(heap: &mut Heap, allocations_remains: &mut u32, size: u64)
     requires counted { size ≤ heap.old.used }
     requires fits { allocations_remains.old + 1 < 2 ^ 32 }
     ensures ledger { heap.new ≡ record heap.old { used = heap.old.used - size } }

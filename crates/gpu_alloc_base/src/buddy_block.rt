@@ -25,8 +25,8 @@ pub struct Leaf {
     pub index: usize,
 }
 
-/// A block of a buddy allocator: a power of two of bytes of one of its chunks, at a multiple of its size. It cannot be
-/// dropped, only returned to its allocator.
+/// A block of a buddy allocator: a range of one of its chunks whose size is a power of two, in bytes, at a multiple of
+/// that size. It cannot be dropped, only returned to its allocator.
 pub struct BuddyBlock<M: MemoryObject> {
     memory: M,
     chunk: usize,

@@ -1,4 +1,4 @@
-//! The sizes that steer an allocator.
+//! The sizes that control an allocator.
 
 ghost use Rattle.std.specs.Prelude.{◌≡◌, IsTrue, ◌<◌};
 ghost use Rattle.std.specs.Int.{is_power_of_two};
@@ -15,10 +15,10 @@ const KIBIBYTE: u64 = 1 << 10;
 /// 1024 KiB, in bytes.
 const MEBIBYTE: u64 = 1 << 20;
 
-/// The sizes that steer an allocator, all in bytes. Any values serve, 0 among them.
+/// The sizes that control an allocator, all in bytes. Any values are valid, 0 included.
 ///
-/// `serde` writes it with the names of its fields. It reads them in any order, or a list of the seven values. A text is
-/// an error if it lacks a field, repeats one, or has a value that is not a `u64`. A field of another name is skipped,
+/// `serde` writes it with the names of its fields. It reads them in any order, or a list of the seven values. It is an
+/// error if a text lacks a field, repeats one, or has a value that is not a `u64`. A field of another name is skipped,
 /// as in the original crate.
 #[derive(Clone, Copy, Debug, PartialEq, Eq, Serialize, Deserialize)]
 pub struct Config {
@@ -53,7 +53,7 @@ pub struct Config {
 }
 
 impl Config {
-    /// Sizes to begin with: 1024 times those of [`Config::i_am_potato`].
+    /// Sizes to start with: 1024 times those of [`Config::i_am_potato`].
     ///
     /// Devices and programs differ: a program that knows its own should choose other sizes.
     pub fn i_am_prototyping() -> Config

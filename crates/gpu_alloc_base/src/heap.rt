@@ -40,7 +40,7 @@ impl Heap {
         self.limit
     }
 
-    /// Sets the limit, in bytes, for what is asked for from now on. A value at or above the heap's size removes the
+    /// Sets the limit, in bytes, on what is asked for from now on. A value at or above the heap's size removes the
     /// limit. What is held stays, even above the limit.
     pub fn set_limit(&mut self, limit: u64)
         ensures { self.new ≡ record self.old { limit = min limit self.old.size } }

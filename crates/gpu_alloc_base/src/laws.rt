@@ -5,7 +5,7 @@ ghost use Rattle.gpu_alloc_base.specs.AlignMasks.{IsAlignMask};
 ghost use Rattle.gpu_alloc_base.specs.Sizes.{IsNextPowerOfTwo, next_power_of_two, grown_chunk, IsLeastProduct};
 
 /// The chunk for a block that fits the largest chunk holds the block. It is the least that does so of the next chunk's
-/// size, its double, and so on, each cut at the largest. No other number is.
+/// size, its double, and so on, each capped at the largest. No other number is.
 pub fn free_list_chunk_is_least()
     ensures is { (next final size : ℕ) → 0 < next → next ≤ final → final ≤ 2 ^ 62 → size ≤ final
         → IsLeastProduct next final size (grown_chunk next final size) }

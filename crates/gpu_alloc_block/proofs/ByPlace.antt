@@ -1,4 +1,4 @@
--- Blocks in hand of a list, told by place.
+-- Blocks in hand of a list, by place.
 use Rattle.std.proofs.Common.{◌≡◌, ◌≢◌, ℕ, zero, suc, List, [], ◌∷◌, slice_get, Option, Some, refl, ap, subst}
 use Rattle.gpu_alloc_types.specs.Device.{Object}
 use Rattle.gpu_alloc_types.specs.Properties.{Properties}

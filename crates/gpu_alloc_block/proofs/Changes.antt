@@ -12,7 +12,7 @@ module _ (f : ℕ → Option Object) (name : ℕ) where
   pub changes_none : (P : Object → Object → Type 0) (o : Object) → f name ≡ Some o → P o o → Changes P f name f
   changes_none P o is p = (o, is, (o, p, sym (put-kept f name (Some o) is)))
 
-  -- what is changed is told otherwise
+  -- what is changed is described otherwise
   pub changes_told : (P Q : Object → Object → Type 0) (g : ℕ → Option Object) → ((o new : Object) → P o new → Q o new)
       → Changes P f name g → Changes Q f name g
   changes_told P Q g told c = (c.0, c.1, (c.2.0, told c.0 c.2.0 c.2.1, c.2.2))

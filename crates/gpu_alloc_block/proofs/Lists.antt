@@ -24,7 +24,7 @@ pub last_owned : {s : State} (bs : List Block) {b : Block} → AreOwned s (bs ++
 last_owned [] owned = owned.0
 last_owned (c ∷ bs) owned = last_owned bs owned.2
 
--- the first so many of a list are the same where it loses its last and has still as many
+-- the first n of a list are the same where it loses its last and still has as many
 pub firsts_stay : (n : ℕ) {old : List Block} (new : List Block) {kept : List Block} → (last : Block) × (old ≡ new ++ last ∷ []) → n < length old
     → take n old ≡ kept → take n new ≡ kept
 firsts_stay n {old} new last more same = sym (take-append-le n new (last.0 ∷ []) long) ∙ ap (take n) (sym last.1) ∙ same

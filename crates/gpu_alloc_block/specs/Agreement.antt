@@ -22,7 +22,7 @@ pub record IsInside (p : Properties) (span : Span) (o : Object) : Type 0 where
   pub finish : is_non_coherent p o.memory_type ≡ true → ((span.offset + span.size) % p.non_coherent_atom_size ≡ 0)
       ⊎ (span.offset + span.size ≡ o.size)
 
--- what the allocator counts of an object is so on the device, by what the object is held for
+-- the device has the object as the allocator counts it, depending on what it is held for
 abbrev pub IsCountedFor : Kind → State → ℕ → ℕ → Object → Type 0
 IsCountedFor Dedicated s name counted o = o.size ≡ counted
 IsCountedFor Imported s name counted o = (span : Span) → IsLive s span → span.object ≡ name → IsInside s.properties span o
@@ -39,7 +39,7 @@ pub record Agrees (s : State) (p : Properties) (objects : ℕ → Option Object)
   pub properties : p ≡ s.properties
   pub holds : (name : ℕ) → IfSome (map.get s.held name) (λ h. HeldWith objects name (IsHeldThere s name h))
 
--- The same of one block, whichever allocator it is of.
+-- The same for one block, whichever allocator it is of.
 
 -- a mapping is some bytes inside the block
 pub record IsOfBlock (b : Block) (m : Mapping) : Type 0 where

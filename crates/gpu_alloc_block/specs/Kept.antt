@@ -20,7 +20,7 @@ pub record AreKept (s : State) (p : Properties) (objects : ℕ → Option Object
   pub ready : (key : ℕ) (b : Block) → at key ≡ Some b → BlockAgrees b p objects
   pub two : (j key : ℕ) (b c : Block) → at j ≡ Some b → at key ≡ Some c → j ≢ key → AreTwo b c
 
--- one key has this block now, or none, and every other key what it had
+-- one key now has this block, or none, and every other key has what it had
 pub record ChangesKey (at new : ℕ → Option Block) (key : ℕ) (slot : Option Block) : Type 0 where
   pub changed : new key ≡ slot
   pub others : (other : ℕ) → other ≢ key → new other ≡ at other

@@ -4,7 +4,7 @@ use Rattle.std.specs.Coded.{Coded, coded_option}
 use Rattle.gpu_alloc_block.specs.Codes.{mapping_code}
 use Rattle.gpu_alloc_block.specs.declared.block.Mapping.{Mapping}
 
--- where it starts and how long it is; with length 0 there is none
+-- where it starts and how long it is; length 0 means no mapping
 abbrev pub mapping_in : (start len : ℕ) → Option Mapping
 mapping_in start len = cond (len == 0) None (Some (record { start = start; len = len }))
 

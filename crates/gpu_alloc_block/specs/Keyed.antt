@@ -11,21 +11,21 @@ use Rattle.gpu_alloc_block.specs.State.{State, Block}
 abbrev pub under : List (ℕ × Block) → ℕ → Option Block
 under entries key = lookup (nat_eq key) entries
 
--- one key has this block now, or none, and every other key what it had: a map's `Updates`
+-- one key now has this block, or none, and every other key has what it had: a map's `Updates`
 abbrev pub IsSetUnder : List (ℕ × Block) → ℕ → Option Block → List (ℕ × Block) → Type 0
 IsSetUnder entries key slot new = (other : ℕ) → under new other ≡ cond (nat_eq key other) slot (under entries other)
 
 -- What a map of blocks keeps as they come and go.
 pub record ComeAndGoUnderKeys : Type 0 where
-  -- a granted block comes, under a key that had none
+  -- a granted block is added, under a key that had none
   pub comes : (s after : State) (p q : Properties) (old new : ℕ → Option Object) (entries more : List (ℕ × Block))
       (key : ℕ) (b : Block) → AreKept s p old (under entries) → AddsInHand s p old after q new b
       → under entries key ≡ None → IsSetUnder entries key (Some b) more → AreKept after q new (under more)
-  -- a returned block goes
+  -- a returned block is removed
   pub goes : (s after : State) (p q : Properties) (old new : ℕ → Option Object) (entries fewer : List (ℕ × Block))
       (key : ℕ) (b : Block) → AreKept s p old (under entries) → RemovesInHand s p old b after q new
       → under entries key ≡ Some b → IsSetUnder entries key None fewer → AreKept after q new (under fewer)
-  -- a block was called, and may have another mapping now
+  -- a call of a block may have changed its mapping
   pub changes : (s : State) (p q : Properties) (old new : ℕ → Option Object) (entries changed : List (ℕ × Block))
       (key : ℕ) (b now : Block) → AreKept s p old (under entries) → KeepsInHand b p old now q new
       → under entries key ≡ Some b → IsSetUnder entries key (Some now) changed → AreKept s q new (under changed)

@@ -31,8 +31,8 @@ pub fn bytes_of_a_mapping_may_be_moved<M: MemoryObject>(block: &MemoryBlock<M>)
     block.keeps_end();
 }
 
-/// The same of `len` bytes from `place` on, in bytes from the start of the block's object: after this call a caller may
-/// put or get them.
+/// The same for `len` bytes from `place` on, in bytes from the start of the block's object: after this call a caller
+/// may put or get them.
 pub fn these_bytes_may_be_moved<M: MemoryObject, D: ObjectDevice<M>>(
     block: &MemoryBlock<M>,
     device: &D,

@@ -4,8 +4,8 @@
 /// when an allocator is opened. (The original crate has only buddies.)
 #[derive(Clone, Copy, Debug, PartialEq, Eq, Hash)]
 pub enum Sharing {
-    /// In buddy chunks: each block has a power of two of bytes and starts at a multiple of its size. An allocation looks
-    /// at no more than 63 lengths in each memory type, and a return frees no more than 63 halves.
+    /// In buddy chunks: each block's size is a power of two, in bytes, and the block starts at a multiple of it. An
+    /// allocation looks at no more than 63 lengths in each memory type, and a return frees no more than 63 halves.
     Buddy,
 
     /// In fit chunks: each block is as long as asked, rounded up to a multiple of 256 bytes and of the memory type's

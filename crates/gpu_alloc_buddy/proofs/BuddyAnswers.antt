@@ -163,7 +163,7 @@ module _ (a : Account Buddy) (w : Wanted) (order : ℕ) (is : rounded a.allocato
   refuses_size long = inl (λ fits_it. fits_not order long (subst Fits is fits_it))
 
   module _ (short : order ≤ 62) where
-    -- told of the request's own size
+    -- stated for the request's own size
     pub refuses_chunk : (e : AllocationError) → (HasPlace a.allocator (2 ^ order) → ⊥) → RefusesQuestion (buddy_case a (2 ^ order) w.flags) (Some e) → RefusesFirst (case_of a w) (Some e)
     refuses_chunk e none refused = subst (λ n. RefusesFirst (buddy_case a n w.flags) (Some e)) (sym is) (refuses_unasked (buddy_case a (2 ^ order) w.flags) (fits order short) none e refused)
 

@@ -76,18 +76,18 @@ frees_total a new leaf es (inr goes) = rw (goes.1.2.1) (omega (arith, len_less a
 pub frees_counted : (a new : Account Buddy) (leaf : Leaf) (es : List Event) → IsCounted a.allocator.chunks a.heap a.remaining → Frees a leaf es new → IsCounted new.allocator.chunks new.heap new.remaining
 frees_counted a new leaf es counted frees = record { ledger = frees_bytes a new leaf es counted.ledger frees; objects = omega (arith, frees_total a new leaf es frees, counted.objects) }
 
--- What the store tells of a return, as the allocator's contract has it.
+-- What the store says of a return, as the allocator's contract has it.
 
 module _ (s now : BuddySpace) (n m t p a : ℕ) (leaf : Leaf) (heap : Heap) (remaining : ℕ) where
   pub frees_stays : (spaces.IsUnusedChunk (spaces.without_leaf s leaf) leaf.chunk → ⊥) × (now ≡ spaces.without_leaf s leaf)
       → Frees (account (buddy_in s n m t p a) heap remaining) leaf [] (account (buddy_in now n m t p a) heap remaining)
   frees_stays stays = inl (stays.0, (refl, ap (λ x. account (buddy_in x n m t p a) heap remaining) stays.1))
 
-  -- the chunk goes
-  abbrev pub Goes : Chunk → Type 0
-  Goes held = spaces.IsUnusedChunk (spaces.without_leaf s leaf) leaf.chunk × ((map.get s.chunks leaf.chunk ≡ Some held) × (now ≡ spaces.without_leaf_and_chunk s leaf))
+  -- the chunk is removed
+  abbrev pub ReleasesChunk : Chunk → Type 0
+  ReleasesChunk held = spaces.IsUnusedChunk (spaces.without_leaf s leaf) leaf.chunk × ((map.get s.chunks leaf.chunk ≡ Some held) × (now ≡ spaces.without_leaf_and_chunk s leaf))
 
-  pub frees_goes : (held : Chunk) (less : Heap) → Goes held → less ≡ record heap { used = heap.used - held.size }
+  pub frees_goes : (held : Chunk) (less : Heap) → ReleasesChunk held → less ≡ record heap { used = heap.used - held.size }
       → Frees (account (buddy_in s n m t p a) heap remaining) leaf (Deallocated leaf.object ∷ []) (account (buddy_in now n m t p a) less (remaining + 1))
   frees_goes held less goes is =
       inr (goes.0, (held, goes.1.0, (refl, ap (λ x. account (buddy_in x n m t p a) less (remaining + 1)) goes.1.1 ∙ ap (λ h. account (buddy_in (spaces.without_leaf_and_chunk s leaf) n m t p a) h (remaining + 1)) is)))

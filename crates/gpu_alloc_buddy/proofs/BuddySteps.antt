@@ -29,13 +29,13 @@ one_length F chunk start a b p q = elim (cases_lt a b) [
   | inr ge ↦ let le = q.longest start a p.place (omega arith) (omega (arith, ge)) in omega (arith, le, ge)
 ]
 
--- the power is told by its size
+-- the power is determined by its size
 one_power : (order k l : ℕ) → 2 ^ order * 2 ^ k ≡ 2 ^ order * 2 ^ l → k ≡ l
 one_power order k l same =
     let is : 2 ^ (order + k) ≡ 2 ^ (order + l) = pow-add 2 order k ∙ same ∙ sym (pow-add 2 order l) in
     omega (arith, order-le (order + k) (order + l) (omega (arith, is)), order-le (order + l) (order + k) (omega (arith, is)))
 
--- the block's piece is that of which the store has told
+-- the block's piece is the one that the store has reported
 pub front_counts : (b : Buddy) (order : ℕ) (leaf : Leaf) (looks now splits after : ℕ) → leaf.size ≡ 2 ^ order → CountsFront (space_of b) leaf looks now splits after → CountsSteps b looks now splits after leaf
 front_counts b order leaf looks now splits after size c k piece =
     let lengths = one_length (IsFreeInBuddy b) leaf.chunk leaf.offset (leaf.size * 2 ^ k) (leaf.size * 2 ^ c.doublings) piece c.piece in
@@ -73,7 +73,7 @@ pub granted_begins : (b : Buddy) (order : ℕ) (answer : Result Leaf AllocationE
 granted_begins b order (Ok leaf) looks now splits after begins search halved = new_begins b order leaf looks now splits after begins search halved
 granted_begins b order (Err e) looks now splits after begins search halved = tt
 
--- A refusal that is told.
+-- A refusal that is reported.
 
 -- a chunk would be too large
 pub too_long : (a : Account Buddy) (order size looks now : ℕ) → size ≡ 2 ^ order → 62 < order → now ≡ looks → CountsRefusing a size looks now
@@ -118,7 +118,7 @@ count_ranges f p q same (x ∷ xs) =
     ∙ ap (λ b. cond b 1 0 + count_by p (map f xs)) (same x) ∙ ap (λ n. cond (q x) 1 0 + n) (count_ranges f p q same xs)
     ∙ sym (sum_by-cons (λ y. cond (q y) 1 0) x xs)
 
--- a range tells its piece's order
+-- a range determines its piece's order
 as_long : (start n order : ℕ) → (start + 2 ^ n == start + 2 ^ order) ≡ (n == order)
 as_long start n order = same_from_decides _ _ (Decides-eqb (start + 2 ^ n) (start + 2 ^ order)) (
   (λ t. let is = (Decides-eqb n order).0 t in ap (λ k. start + 2 ^ k) is),

@@ -29,7 +29,7 @@ CountsBeginning b looks now splits after leaf =
     map.get b.chunks leaf.chunk ≡ None → (k : ℕ) → chunk_size b leaf.size ≡ leaf.size * 2 ^ k
     → CountsSearch (space_of b) leaf.size looks now × (after + 1 ≡ splits + k)
 
--- the same of a block of 2^order bytes in a chunk of 2^n bytes
+-- the same for a block of 2^order bytes in a chunk of 2^n bytes
 abbrev pub CountsHalving : Buddy → ℕ → ℕ → ℕ → Type 0
 CountsHalving b order splits after = (n : ℕ) × (chunk_size b (2 ^ order) ≡ 2 ^ n) × (after + order + 1 ≡ splits + n)
 

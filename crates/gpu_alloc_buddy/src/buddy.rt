@@ -43,8 +43,8 @@ use std::sync::ledger::Ledger;
 /// Gives out blocks of shared chunks of one memory type. It cannot be dropped: [`close`](BuddyAllocator::close) ends
 /// it.
 ///
-/// Between calls each held chunk has an object of its own, of a power of two of at most 2^63 bytes, and a live block in
-/// it. Each live block lies inside its chunk, at a multiple of its size, and no two of them share a byte.
+/// Between calls each held chunk has an object of its own, whose size is a power of two of at most 2^63 bytes, and a
+/// live block in it. Each live block lies inside its chunk, at a multiple of its size, and no two of them share a byte.
 pub struct BuddyAllocator<M: MemoryObject, A: Allocator = Global> {
     pairs: Pairs<M, A>,
     next_order: u32,
@@ -114,9 +114,9 @@ impl<M: MemoryObject, A: Allocator + Copy> BuddyAllocator<M, A> {
         })
     }
 
-    /// The free pieces of the held chunks: the longest ranges of a power of two of bytes, at a multiple of their
-    /// length, that lie in a chunk and in no live block. They are sorted by the name of their object, then by start.
-    /// Each is in bytes of its object. No length has more free pieces than live blocks (`few`).
+    /// The free pieces of the held chunks: the longest ranges with a power of two as length, at a multiple of it, that
+    /// lie in a chunk and in no live block. They are sorted by the name of their object, then by start. Each is in
+    /// bytes of its object. No length has more free pieces than live blocks (`few`).
     ///
     /// The only error is want of host memory. Nothing changes.
     pub fn free_ranges(&self) -> Result<Vec<FreeRange, A>, AllocError>
@@ -140,8 +140,8 @@ impl<M: MemoryObject, A: Allocator> BuddyAllocator<M, A> {
     /// block. The block starts at a multiple of its size and lies inside a held chunk, whose object is its own. A new
     /// chunk has exactly the greater of twice the block and the size of the latest chunk that was made, even where that
     /// one is no longer held. A chunk is mapped whole where it is host-visible. `heap` is the ledger of the memory
-    /// type's heap, to which a chunk is added. `allocations_remains` is how many more objects may be held, which a
-    /// chunk lowers.
+    /// type's heap, to which a new chunk is added. `allocations_remains` is how many more objects may be held, which a
+    /// new chunk lowers by one.
     ///
     /// The size must be at least 1, and `align_mask + 1` a power of two of at most 2^63. The address flag may be set
     /// only where the device has the feature. The device must be the one that this allocator has served: it has the
@@ -226,10 +226,10 @@ impl<M: MemoryObject, A: Allocator> BuddyAllocator<M, A> {
         answer
     }
 
-    /// The error that `alloc` gives such a request before it takes any memory or asks anything, or `None` where it goes
-    /// further. It is `OutOfDeviceMemory` where a chunk for it would have 2^64 bytes or more. Where a chunk is needed,
-    /// it is `TooManyObjects` if no more objects may be held, and otherwise `OutOfDeviceMemory` if `heap` has no room
-    /// for the chunk (`Heap::fits`). It allocates nothing.
+    /// The error that `alloc` gives such a request before it takes any memory or calls the device, or `None` where
+    /// there is no such error. It is `OutOfDeviceMemory` where a chunk for it would have 2^64 bytes or more. Where a
+    /// chunk is needed, it is `TooManyObjects` if no more objects may be held, and otherwise `OutOfDeviceMemory` if
+    /// `heap` has no room for the chunk (`Heap::fits`). It allocates nothing.
     ///
     /// As for `alloc`, the size must be at least 1, and `align_mask + 1` a power of two of at most 2^63.
     ///
@@ -316,7 +316,7 @@ impl<M: MemoryObject, A: Allocator> BuddyAllocator<M, A> {
             return;
         };
         device.deallocate_memory(&memory);
-        booking::let_go(heap, allocations_remains, size);
+        booking::release(heap, allocations_remains, size);
     }
 
     /// The live block of this span of an object, or `None` where there is none. `offset` is where it starts in the

@@ -5,8 +5,8 @@ use Rattle.std.proofs.lemmas.Bool.{cases_eq, cases_lt}
 use Rattle.gpu_alloc_base.specs.FreeSpace.{IsMultipleOf}
 use Rattle.gpu_alloc_base.specs.declared.region.FreeListRegion.{FreeListRegion}
 use Rattle.gpu_alloc_base.proofs.Multiples.{mod_from_multiple, multiple_from_mod}
-use Rattle.gpu_alloc_fit.specs.Fit.{Fitting}
-use Rattle.gpu_alloc_fit.specs.FitSound.{IsSoundFitting}
+use Rattle.gpu_alloc_fit.specs.Fit.{FitState}
+use Rattle.gpu_alloc_fit.specs.FitSound.{IsSoundFit}
 use Rattle.gpu_alloc_fits.specs.Choice.{AreFewLooks, BeginsClass, IsRun}
 use Rattle.gpu_alloc_fits.specs.Space.{FitSpace, IsFreeIn, LooksAtFew}
 
@@ -32,7 +32,7 @@ none_looked_at s size alignment looks = (
 )
 
 -- a free run starts with its chunk, or where a block ends
-starts_at_atom : (f : Fitting) → IsSoundFitting f → (r : FreeListRegion) → IsRun (IsFreeIn f.space) r → r.start % f.atom ≢ 0 → ⊥
+starts_at_atom : (f : FitState) → IsSoundFit f → (r : FreeListRegion) → IsRun (IsFreeIn f.space) r → r.start % f.atom ≢ 0 → ⊥
 starts_at_atom f s r run other =
     let some : 0 < r.start = elim (cases_eq r.start 0) [ inl is ↦ absurd (other (mod_from_multiple f.atom r.start (0, omega (arith, is)))) | inr not ↦ omega (arith, not) ] in
     let first = run.free r.start (omega arith) run.nonempty in
@@ -54,11 +54,11 @@ starts_at_atom f s r run other =
     ]) (omega arith) (omega arith) in
     omega (arith, longer.0, some)
 
-pub runs_start_at_atoms : (f : Fitting) → IsSoundFitting f → (r : FreeListRegion) → IsRun (IsFreeIn f.space) r → IsMultipleOf f.atom r.start
+pub runs_start_at_atoms : (f : FitState) → IsSoundFit f → (r : FreeListRegion) → IsRun (IsFreeIn f.space) r → IsMultipleOf f.atom r.start
 runs_start_at_atoms f s r run = multiple_from_mod f.atom r.start (elim (cases_eq (r.start % f.atom) 0) [ inl is ↦ is | inr other ↦ absurd (starts_at_atom f s r run other) ])
 
 -- So one run suffices where the size begins its class and the atom is the alignment.
-pub one_looked_at : (f : Fitting) (size mask old new : ℕ) → IsSoundFitting f → LooksAtFew f.space size (max (mask + 1) f.atom) old new → mask + 1 ≤ f.atom → BeginsClass size → new ≤ old + 1
+pub one_looked_at : (f : FitState) (size mask old new : ℕ) → IsSoundFit f → LooksAtFew f.space size (max (mask + 1) f.atom) old new → mask + 1 ≤ f.atom → BeginsClass size → new ≤ old + 1
 one_looked_at f size mask old new s looks low begins =
     let atom : max (mask + 1) f.atom ≡ f.atom = omega (arith, low) in
     let few = subst (λ n. AreFewLooks (IsFreeIn f.space) size n looks.0) atom looks.1.1 in

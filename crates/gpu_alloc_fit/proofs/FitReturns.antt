@@ -15,13 +15,13 @@ use Rattle.gpu_alloc_base.proofs.InHand.{no_chunks, none_in}
 use Rattle.gpu_alloc_base.proofs.Maps.{gone, kept_key, kept_other}
 use Rattle.gpu_alloc_base.proofs.Slots.{slot_removed}
 use Rattle.gpu_alloc_base.proofs.Sums.{len_less, sum_by-remove}
-use Rattle.gpu_alloc_fit.specs.Fit.{Agrees, Fitting, Goes, sees_chunks}
-use Rattle.gpu_alloc_fit.specs.FitSound.{IsSoundFitting, fitting_in}
+use Rattle.gpu_alloc_fit.specs.Fit.{Agrees, FitState, ReleasesChunk, sees_chunks}
+use Rattle.gpu_alloc_fit.specs.FitSound.{IsSoundFit, fitting_in}
 use Rattle.gpu_alloc_fits.specs.Space.{FitSpace, IsLiveSlot, IsSoundFitSpace, IsWhollyFree, without_chunk, without_slot}
 
 -- What is sound stays so.
 
-pub sound_without_slot : (f : Fitting) (slot : Slot) → IsSoundFitting f → IsSoundFitSpace (without_slot f.space slot) → IsSoundFitting (record f { space = without_slot f.space slot })
+pub sound_without_slot : (f : FitState) (slot : Slot) → IsSoundFit f → IsSoundFitSpace (without_slot f.space slot) → IsSoundFit (record f { space = without_slot f.space slot })
 sound_without_slot f slot s now = record {
   space = now;
   chunks = s.chunks;
@@ -31,8 +31,8 @@ sound_without_slot f slot s now = record {
   atom = s.atom;
 }
 
-pub sound_without_chunk : (f : Fitting) (s : FitSpace) (key : ℕ) → IsSoundFitting f → s.chunks ≡ f.space.chunks → ((q : Slot) → IsLiveSlot s q → IsLiveSlot f.space q) → IsSoundFitSpace (without_chunk s key)
-    → IsSoundFitting (record f { space = without_chunk s key })
+pub sound_without_chunk : (f : FitState) (s : FitSpace) (key : ℕ) → IsSoundFit f → s.chunks ≡ f.space.chunks → ((q : Slot) → IsLiveSlot s q → IsLiveSlot f.space q) → IsSoundFitSpace (without_chunk s key)
+    → IsSoundFit (record f { space = without_chunk s key })
 sound_without_chunk f s key sound same less now = record {
   space = now;
   chunks = λ k c is. sound.chunks k c (ap (λ m. map.get m k) (sym same) ∙ (kept_key s.chunks key k c is).1);
@@ -42,9 +42,9 @@ sound_without_chunk f s key sound same less now = record {
   atom = sound.atom;
 }
 
--- A chunk goes.
+-- A chunk is removed.
 
-module _ (f : Fitting) (key : ℕ) (held : Chunk) (sound : IsSoundFitSpace f.space) (is : map.get f.space.chunks key ≡ Some held) where
+module _ (f : FitState) (key : ℕ) (held : Chunk) (sound : IsSoundFitSpace f.space) (is : map.get f.space.chunks key ≡ Some held) where
   abbrev HasChunk : (ℕ → Option Object) → Chunk → Type 0
   HasChunk objects c = HeldWith objects c.object (IsThere f.memory_type (sees_chunks f) c)
 
@@ -75,7 +75,7 @@ module _ (f : Fitting) (key : ℕ) (held : Chunk) (sound : IsSoundFitSpace f.spa
 
 -- The books without it.
 
-module _ (a : Account Fitting) (key : ℕ) (es : List Event) (new : Account Fitting) (goes : Goes a key es new) where
+module _ (a : Account FitState) (key : ℕ) (es : List Event) (new : Account FitState) (goes : ReleasesChunk a key es new) where
   pub goes_total : chunks_and_remaining new.allocator.space.chunks new.remaining ≡ chunks_and_remaining a.allocator.space.chunks a.remaining
   goes_total = rw (goes.2.1) (omega (arith, len_less a.allocator.space.chunks key goes.0 goes.1))
 
@@ -88,9 +88,9 @@ module _ (a : Account Fitting) (key : ℕ) (es : List Event) (new : Account Fitt
   pub goes_used : new.heap.used ≤ a.heap.used
   goes_used = rw (goes.2.1) (omega arith)
 
--- what the store tells of it, as contracts of the allocator have it
+-- what the store says of it, as contracts of the allocator have it
 pub goes_so : (s now : FitSpace) (n m t p a key : ℕ) (heap less : Heap) (remaining : ℕ) (held : Chunk) → map.get s.chunks key ≡ Some held → now ≡ without_chunk s key → less ≡ record heap { used = heap.used - held.size }
-    → Goes (account (fitting_in s n m t p a) heap remaining) key (Deallocated held.object ∷ []) (account (fitting_in now n m t p a) less (remaining + 1))
+    → ReleasesChunk (account (fitting_in s n m t p a) heap remaining) key (Deallocated held.object ∷ []) (account (fitting_in now n m t p a) less (remaining + 1))
 goes_so s now n m t p a key heap less remaining held is gone_is less_is =
     (held, is, (refl, ap (λ x. account (fitting_in x n m t p a) less (remaining + 1)) gone_is ∙ ap (λ h. account (fitting_in (without_chunk s key) n m t p a) h (remaining + 1)) less_is))
 

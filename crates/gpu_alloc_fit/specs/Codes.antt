@@ -1,11 +1,11 @@
 -- How contracts see these values.
 use Rattle.std.specs.Prelude.{ℕ, refl}
 use Rattle.std.specs.Coded.{Coded, code_by, coded×, coded_ℕ}
-use Rattle.gpu_alloc_fit.specs.Fit.{Fitting}
+use Rattle.gpu_alloc_fit.specs.Fit.{FitState}
 use Rattle.gpu_alloc_fits.specs.Codes.{fit_space_code}
 use Rattle.gpu_alloc_fits.specs.Space.{FitSpace}
 
-abbrev pub fitting_code : Coded Fitting
+abbrev pub fitting_code : Coded FitState
 fitting_code =
     code_by (FitSpace × ((ℕ × ℕ) × (ℕ × (ℕ × ℕ))))
     (coded× fit_space_code (coded× (coded× coded_ℕ coded_ℕ) (coded× coded_ℕ (coded× coded_ℕ coded_ℕ))))

@@ -18,7 +18,7 @@ ghost use Rattle.gpu_alloc_base.specs.declared.free_list_block.Slot.{Slot as Liv
 ghost use Rattle.gpu_alloc_fit.specs.Fit.{Adds, Agrees, CallAllocates, CallAnswers, Cleans, Frees, HoldsNothing};
 ghost use Rattle.gpu_alloc_fit.specs.Fit.{IsGranted, KeepsSettings, Leaves, LeavesNoRest, ObjectsAfter, ObjectsCleaned};
 ghost use Rattle.gpu_alloc_fit.specs.Fit.{ObjectsFreed, Removes, case_of, chunk_size, fit_case, opened};
-ghost use Rattle.gpu_alloc_fit.specs.FitSound.{FitsAChunk, IsSoundFitting};
+ghost use Rattle.gpu_alloc_fit.specs.FitSound.{FitsAChunk, IsSoundFit};
 ghost use Rattle.gpu_alloc_fits.specs.Choice.{BeginsClass};
 ghost use Rattle.gpu_alloc_fits.specs.Listed.{AddsSlots, ListsChunks};
 ghost use Rattle.gpu_alloc_fits.specs.Space.{HasPlace, IsFitRunOf, IsLiveFitSpan, IsLiveSlot, IsNoLiveFitSpan, LooksAtFew, neighbours};
@@ -54,21 +54,21 @@ pub struct FitAllocator<M: MemoryObject, A: Allocator = Global> {
 }
 
 impl<M: MemoryObject, A: Allocator> Model for FitAllocator<M, A> {
-    ghost use Rattle.gpu_alloc_fit.specs.Fit.{Fitting};
+    ghost use Rattle.gpu_alloc_fit.specs.Fit.{FitState};
     ghost use Rattle.gpu_alloc_fit.specs.Codes.{fitting_code};
 
-    ghost Value = { Fitting };
+    ghost Value = { FitState };
 
     ghost coded = { fitting_code };
 
     ghost use Rattle.std.specs.Prelude.{◌+◌};
     ghost use Rattle.gpu_alloc_types.specs.Flags.{property_bits};
-    ghost use Rattle.gpu_alloc_fit.specs.FitSound.{IsSoundFitting, fitting_in};
+    ghost use Rattle.gpu_alloc_fit.specs.FitSound.{IsSoundFit, fitting_in};
 
     ghost view = { λ a. fitting_in (a.fits).space a.chunk_size a.final_chunk_size a.memory_type
         (property_bits a.props) (a.atom_mask + 1) };
 
-    ghost invariant = { λ a. IsSoundFitting (fitting_in (a.fits).space a.chunk_size a.final_chunk_size a.memory_type
+    ghost invariant = { λ a. IsSoundFit (fitting_in (a.fits).space a.chunk_size a.final_chunk_size a.memory_type
         (property_bits a.props) (a.atom_mask + 1)) };
 }
 
@@ -99,7 +99,7 @@ impl<M: MemoryObject, A: Allocator + Copy> FitAllocator<M, A> {
         ensures opened { result ≡ opened starting_chunk_size final_chunk_size memory_type (property_bits props)
             (atom_mask + 1) }
         ensures empty { HoldsNothing memory_type (property_bits props) result }
-        ensures sound { IsSoundFitting result }
+        ensures sound { IsSoundFit result }
     {
         let fits = Fits::new(alloc);
         fits.keeps_sound();
@@ -131,11 +131,11 @@ impl<M: MemoryObject, A: Allocator> FitAllocator<M, A> {
     /// the atom. It lies in a free run with room. Only where no run has room, it is the front of a new chunk that the
     /// device is asked for with these flags.
     ///
-    /// A new chunk has the allocator's next size: at first the starting one, and after each chunk twice that chunk, cut
-    /// at the final size. Where that is below the rounded size, it is its least product with a power of two that
-    /// suffices, cut at the final size too. (This is the original crate's rule for a free list's chunks.) A chunk is
-    /// mapped whole where it is host-visible. `heap` is the ledger of the memory type's heap, to which a chunk is
-    /// added. `allocations_remains` is how many more objects may be held, which a chunk lowers.
+    /// A new chunk has the allocator's next size: at first the starting one, and after each chunk twice that chunk,
+    /// capped at the final size. Where that is below the rounded size, it is doubled until it suffices, again capped at
+    /// the final size. (This is the original crate's rule for a free list's chunks.) A chunk is mapped whole where it
+    /// is host-visible. `heap` is the ledger of the memory type's heap, to which a new chunk is added.
+    /// `allocations_remains` is how many more objects may be held, which a new chunk lowers by one.
     ///
     /// The size must be at least 1, and rounded at most the final size. `align_mask + 1` must be a power of two of at
     /// most 2^63. The address flag may be set only where the device has the feature. The device must be the one that
@@ -158,16 +158,16 @@ impl<M: MemoryObject, A: Allocator> FitAllocator<M, A> {
     /// Each block that a caller had in hand is still live (`leaves`). The new one is live too, and shares no byte with
     /// any of them (`added`). The same requests as before are valid next (`settings`).
     ///
-    /// Which run: lengths are sorted into classes, one for each whole number of 256 bytes below 64, and from there on
-    /// eight for each power of two. A class is *sure* where each of its runs has room, wherever it starts. The run's class
-    /// is no higher than the lowest sure class that has runs. A run with room in a lower class is passed over only for one
-    /// of a sure class, and only where the first four runs lack room, from the class of the size on. A wholly free chunk
-    /// comes last in its class. In the run the block has the last place.
+    /// Which run: lengths are sorted into classes, one for each whole number of 256-byte units below 64, and from there
+    /// on eight for each power of two. A class is *sure* where each of its runs has room, wherever it starts. The run's
+    /// class is no higher than the lowest sure class that has runs. A run with room in a lower class is passed over
+    /// only for one of a sure class, and only where the first four runs lack room, from the class of the size on. A
+    /// wholly free chunk comes last in its class. In the run the block has the last place.
     ///
     /// `looks` counts the free runs that are looked at: at most five where a sure class has runs, and otherwise at most
     /// one more than those without room from the size's class on, below the first sure one (`looks`). It is at most one
-    /// where `align_mask + 1` is at most the atom and the rounded size is the least of its class (`one`), and at least one
-    /// where a run has room (`some`).
+    /// where `align_mask + 1` is at most the atom and the rounded size is the least of its class (`one`), and at least
+    /// one where a run has room (`some`).
     pub fn alloc<D: ObjectDevice<M>, L: Ledger>(
         &mut self,
         device: &mut D,
@@ -202,7 +202,7 @@ impl<M: MemoryObject, A: Allocator> FitAllocator<M, A> {
         ensures settings { KeepsSettings self.old self.new }
         ensures refused { OnErr result
             ((self.new ≡ self.old) × ((heap.new ≡ heap.old) × (allocations_remains.new ≡ allocations_remains.old))) }
-        ensures sound { IsSoundFitting self.new }
+        ensures sound { IsSoundFit self.new }
         ensures counted { IsCounted (self.new).space.chunks heap.new allocations_remains.new }
         ensures total { chunks_and_remaining (self.new).space.chunks allocations_remains.new ≡ chunks_and_remaining
             (self.old).space.chunks allocations_remains.old }
@@ -228,9 +228,10 @@ impl<M: MemoryObject, A: Allocator> FitAllocator<M, A> {
         )
     }
 
-    /// The error that `alloc` gives such a request before it takes any memory or asks anything, or `None` where it goes
-    /// further. Where a chunk is needed, it is `TooManyObjects` if no more objects may be held, and otherwise
-    /// `OutOfDeviceMemory` if `heap` has no room for the chunk (`Heap::fits`). It allocates nothing and changes nothing.
+    /// The error that `alloc` gives such a request before it takes any memory or calls the device, or `None` where
+    /// there is no such error. Where a chunk is needed, it is `TooManyObjects` if no more objects may be held, and
+    /// otherwise `OutOfDeviceMemory` if `heap` has no room for the chunk (`Heap::fits`). It allocates nothing and
+    /// changes nothing.
     ///
     /// As for `alloc`, the size must be at least 1 and rounded at most the final size, and `align_mask + 1` a power of
     /// two of at most 2^63. `looks` counts the free runs that are looked at, as few as for `alloc` (`looks`, `one`).
@@ -268,8 +269,8 @@ impl<M: MemoryObject, A: Allocator> FitAllocator<M, A> {
     ///
     /// Each other block that a caller has in hand is still live, and may be returned next (`removed`). The settings
     /// stay (`settings`), and the ledger does not grow (`ledger`). `looks` counts the free runs and blocks that are
-    /// looked at: the block's neighbours in its chunk, at most two (`looks`). With the block's own key no other is looked
-    /// at; with any other key it is searched for, which [`searches`](FitAllocator::searches) counts.
+    /// looked at: the block's neighbours in its chunk, at most two (`looks`). With the block's own key no other is
+    /// looked at; with any other key it is searched for, which [`searches`](FitAllocator::searches) counts.
     pub fn dealloc<D: ObjectDevice<M>, L: Ledger>(
         &mut self,
         device: &mut D,
@@ -291,7 +292,7 @@ impl<M: MemoryObject, A: Allocator> FitAllocator<M, A> {
         ensures removed { Removes self.old block self.new }
         ensures ledger { heap.new.used ≤ heap.old.used }
         ensures settings { KeepsSettings self.old self.new }
-        ensures sound { IsSoundFitting self.new }
+        ensures sound { IsSoundFit self.new }
         ensures counted { IsCounted (self.new).space.chunks heap.new allocations_remains.new }
         ensures total { chunks_and_remaining (self.new).space.chunks allocations_remains.new ≡ chunks_and_remaining
             (self.old).space.chunks allocations_remains.old }
@@ -311,8 +312,8 @@ impl<M: MemoryObject, A: Allocator> FitAllocator<M, A> {
     }
 
     /// Returns the live block of this span of an object, as [`dealloc`](FitAllocator::dealloc) does. `memory` is a
-    /// handle of the object, `offset` where the block starts in it and `size` how long it is, both in bytes. With its own
-    /// `key` the block is found without a search; any other key works too.
+    /// handle of the object, `offset` where the block starts in it and `size` how long it is, both in bytes. With its
+    /// own `key` the block is found without a search; any other key works too.
     ///
     /// There must be such a block. The other conditions and what is counted are as for `dealloc`. It allocates nothing
     /// and cannot fail.
@@ -344,7 +345,7 @@ impl<M: MemoryObject, A: Allocator> FitAllocator<M, A> {
             → Removes self.old slot self.new }
         ensures ledger { heap.new.used ≤ heap.old.used }
         ensures settings { KeepsSettings self.old self.new }
-        ensures sound { IsSoundFitting self.new }
+        ensures sound { IsSoundFit self.new }
         ensures counted { IsCounted (self.new).space.chunks heap.new allocations_remains.new }
         ensures total { chunks_and_remaining (self.new).space.chunks allocations_remains.new ≡ chunks_and_remaining
             (self.old).space.chunks allocations_remains.old }
@@ -357,7 +358,7 @@ impl<M: MemoryObject, A: Allocator> FitAllocator<M, A> {
             return;
         };
         device.deallocate_memory(&memory);
-        booking::let_go(heap, allocations_remains, size);
+        booking::release(heap, allocations_remains, size);
     }
 
     /// Releases the wholly free chunk, if there is one: `heap` is lowered by its size, and one more object may be held.
@@ -389,7 +390,7 @@ impl<M: MemoryObject, A: Allocator> FitAllocator<M, A> {
         ensures rest { LeavesNoRest self.old self.new }
         ensures ledger { heap.new.used ≤ heap.old.used }
         ensures settings { KeepsSettings self.old self.new }
-        ensures sound { IsSoundFitting self.new }
+        ensures sound { IsSoundFit self.new }
         ensures counted { IsCounted (self.new).space.chunks heap.new allocations_remains.new }
         ensures total { chunks_and_remaining (self.new).space.chunks allocations_remains.new ≡ chunks_and_remaining
             (self.old).space.chunks allocations_remains.old }
@@ -400,7 +401,7 @@ impl<M: MemoryObject, A: Allocator> FitAllocator<M, A> {
             return;
         };
         device.deallocate_memory(&memory);
-        booking::let_go(heap, allocations_remains, bytes);
+        booking::release(heap, allocations_remains, bytes);
     }
 
     /// The live block of this span of an object and the key under which it stands, or `None` where there is none.
@@ -436,7 +437,7 @@ impl<M: MemoryObject, A: Allocator> FitAllocator<M, A> {
     }
 
     /// How many times all live blocks and free runs were searched, modulo 2^64: once for each block that was returned
-    /// with another key than its own. Tests look at it, and no contract.
+    /// with another key than its own. Tests read it; no contract mentions it.
     pub fn searches(&self) -> u64 {
         self.fits.searches()
     }
@@ -448,7 +449,7 @@ impl<M: MemoryObject, A: Allocator> FitAllocator<M, A> {
         self.fits.is_empty()
     }
 
-    /// Ends an allocator that holds no chunk, as [`is_empty`](FitAllocator::is_empty) tells.
+    /// Ends an allocator that holds no chunk (see [`is_empty`](FitAllocator::is_empty)).
     pub fn close(self)
         requires { map.len ((self.space).chunks) ≡ 0 }
     {
@@ -507,8 +508,8 @@ impl<M: MemoryObject, A: Allocator> FitAllocator<M, A> {
             self.new heap.new allocations_remains.new) }
         ensures objects { ObjectsAfter self.old result self.new (D.objects device.old) (D.objects device.new) }
         ensures properties { D.properties device.new ≡ D.properties device.old }
-        ensures was { IsSoundFitting self.old }
-        ensures sound { IsSoundFitting self.new }
+        ensures was { IsSoundFit self.old }
+        ensures sound { IsSoundFit self.new }
         ensures looks { LooksAtFew (self.old).space size (align_mask + 1) looks.old looks.new }
         ensures some { HasPlace (self.old).space size (align_mask + 1) → looks.old < looks.new }
     {
@@ -592,7 +593,7 @@ impl<M: MemoryObject, A: Allocator> FitAllocator<M, A> {
             self.new heap.new allocations_remains.new) }
         ensures objects { ObjectsAfter self.old result self.new (D.objects device.old) (D.objects device.new) }
         ensures properties { D.properties device.new ≡ D.properties device.old }
-        ensures sound { IsSoundFitting self.new }
+        ensures sound { IsSoundFit self.new }
     {
         if self.fits.reserve().is_err() {
             return Err(AllocationError::OutOfHostMemory);

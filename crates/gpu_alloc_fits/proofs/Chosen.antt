@@ -133,7 +133,7 @@ module _ {M : Type 0} (object : M → ℕ) (rows : Slab (Row M)) (nodes : Slab N
       let some = kept.tiled.nonempty j a.tile a.at in
       kept.tiled.apart j k a.tile b.tile a.at b.at (ap (λ (r : FreeListRegion). r.chunk) e) (omega (arith, start, end, some)) (omega (arith, start, end, some))
 
-  -- the runs of so many keys
+  -- the runs of that many keys
   abbrev runs_of : (keys : List ℕ) (count : ℕ) → length keys ≡ count → (P : FreeListRegion → Type 0) → IsOnce keys → ((k : ℕ) → IsIn keys k → (c : ℕ) × ((filed_in nodes k ≡ Some c) × P (region_at k))) → HasDistinctRuns Free count P
   runs_of keys count many P once each = record {
     run = λ i. region_at (slice_index_or keys i 0);
@@ -302,7 +302,7 @@ module _ {M : Type 0} (object : M → ℕ) (rows : Slab (Row M)) (nodes : Slab N
           let here = (tile_at k p.of p.is).class_is in
           (p.of, (p.is, record { own = omega (arith, p.from, here); up_to = omega (arith, p.up_to, here); none = λ room. s.not k is (room_in k p.of p.is room) })))
 
-      -- So many are passed, and the first tile of the first sure class is taken.
+      -- That many are passed, and the first tile of the first sure class is taken.
       pub found_first : passed ≡ 4 → (c : ℕ) → sure ≤ c → ((b : ℕ) → sure ≤ b → b < c → first_in classes b ≡ NONE) → first_in classes c ≢ NONE → (a : Tile) → tile_in nodes (first_in classes c) ≡ Some a → IsChosenTile space (tile_in nodes) size (mask + 1) (first_in classes c, a)
       found_first all c above least filled a at_a =
           let first = first_in classes c in

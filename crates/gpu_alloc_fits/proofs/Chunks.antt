@@ -108,7 +108,7 @@ module _ (old new : ℕ → ℕ) (chunk size : ℕ) (s0 s1 : Slab Node) (x : ℕ
   pub begun_else : (k : ℕ) (c : Tile) → tile_in s0 k ≡ Some c → c.chunk ≢ chunk
   begun_else k c is = elsewhere k c is
 
--- A wholly free chunk goes, with its tile.
+-- A wholly free chunk is removed, with its tile.
 module _ (old new : ℕ → ℕ) (s0 s1 : Slab Node) (x chunk : ℕ) (kept : AreNodesKept old s0) (whole : IsWholeTile old (tile_in s0) x chunk) (resizes : Resizes old new chunk 0) (goes : Updates s0 s1 x None) where
   pub end_key : ContainsKey s0 x
   end_key = has_tile s0 x whole.tile whole.at

@@ -1,4 +1,4 @@
--- The end of a free tile is taken, and what a block leaves behind it is free again.
+-- The end of a free tile is taken, and what a block leaves after it is free again.
 use Rattle.std.proofs.Common.{◌≡◌, ◌≢◌, inl, inr, ℕ, ◌-◌, ◌<◌, Bool, true, false, Option, Some, None, IsSome, option_map, refl, sym, ◌∙◌, ap, subst, arith}
 use Rattle.std.proofs.lemmas.Bool.{cases_eq}
 use Rattle.slab.specs.Slab.{Slab, ContainsKey, Updates, get}
@@ -90,7 +90,7 @@ module _ (size : ℕ → ℕ) (s0 z s1 : Slab Node) (x : ℕ) (run : Tile) (kept
       let is_z = k0.tiles k ∙ is in
       sets.others k (λ same. other (ap (λ (t : Tile). t.chunk) (one_tile (tile_in z) k x a run is_z at_t same))) ∙ is_z
 
-  -- it goes out of its list
+  -- it is taken out of its list
   pub taken_filed : (classes new : Classes) (class : ℕ) → class ≡ class_of_bytes (run.end - run.start) → AreFreeFiled s0 classes → Refiles s0 classes z new x (Some class) None → KeepsLists z s1 → AreFreeFiled s1 new
   taken_filed classes new class is filed refiles lists =
       same_filing (filed_but (filed_in s0) x None) (filed_in s1) s1 new
@@ -103,7 +103,7 @@ module _ (size : ℕ → ℕ) (s0 z s1 : Slab Node) (x : ℕ) (run : Tile) (kept
       lists.down k
       ∙ lasts (filed_in s0) filed (free_class (tile_in s0) x run at_run free ∙ ap (λ c. Some c) (sym is)) k (λ same. other (ap (λ (t : Tile). t.chunk) (one_tile (tile_in s0) k x a run is_k at_run same))) none
 
--- The steps of a cut: the end comes under y, the front is put under x, and the tile behind has the key of the end.
+-- The steps of a cut: the end comes under y, the front is put under x, and the tile after it has the key of the end.
 module _ (size : ℕ → ℕ) (s0 s1 s2 : Slab Node) (x y cut : ℕ) (n o : Node) (m : Tile) (kept : AreNodesKept size s0) (at : get s0 x ≡ Some n) (at_m : tile_in s0 x ≡ Some m) (vacant : get s0 y ≡ None)
     (comes : Updates s0 s1 y (Some o)) (writes : Updates s1 s2 x (option_map (with_end cut y) (get s1 x))) where
   fresh : tile_in s0 y ≡ None

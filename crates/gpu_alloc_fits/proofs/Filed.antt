@@ -168,7 +168,7 @@ module _ (n0 n1 : Slab Node) (classes new : Classes) (key class first last : ℕ
       ap (down_in n1) (sym last_is) ∙ down_last (indexed.there last class (((indexed.lists class).1.exact last).0 in_list)) (λ e. not_in filed (first_in classes) (up_in n0) (down_in n0) indexed.lists key class off (subst (IsIn (indexed.lists class).0) e in_list)))
       (λ k ne other. down_other k ne (λ e. other (e ∙ last_is))))
 
--- A tile goes out of its list.
+-- A tile is taken out of its list.
 
 module _ (n0 n1 : Slab Node) (classes : Classes) (key class first below : ℕ) (n : Node) (at : get n0 key ≡ Some n) (is : first ≡ first_in classes class) (below_is : below ≡ cond (n.down == NONE) first n.down) (there : ContainsKey n0 key)
     (keeps_0 : KeepsNodes n0 n1) (up : SetsUp n0 n1 below n.up) (filed : ℕ → Option ℕ) (indexed : IsIndexed filed n0 classes) (on : filed key ≡ Some class) where
@@ -242,7 +242,7 @@ refiled_free n0 n1 classes new key class was a keeps at free is filed refiles =
     (λ k. filed_differs (filed_in n0) (filed_in n1) key (Some class) (free_class (tile_in n1) key a (keeps.tiles key ∙ at) free ∙ ap (λ c. Some c) (sym is)) (λ j ne. ap class_at (keeps.tiles j)) k ∙ sym (but_twice (filed_in n0) key was (Some class) k))
     (refiles (filed_but (filed_in n0) key was) filed (but_same (filed_in n0) key key was refl))
 
--- A free tile goes out of its list.
+-- A free tile is taken out of its list.
 
 pub free_but : (nodes : Slab Node) (classes : Classes) (key class : ℕ) (a : Tile) → tile_in nodes key ≡ Some a → a.free ≡ true → class ≡ class_of_bytes (a.end - a.start) → AreFreeFiled nodes classes → AreFreeFiledBut nodes classes key (Some class)
 free_but nodes classes key class a at free is =
@@ -280,7 +280,7 @@ free_comes n0 n1 classes x n vacant comes keyed filed =
     let off : filed_in n0 x ≡ None = ap (λ o. class_at (tile_of o)) vacant in
     but_as (filed_in n0) n1 classes x None off (λ k ne. ap (λ o. class_at (tile_of o)) (comes.others k ne)) (unfiled_comes (filed_in n0) n0 n1 classes x (Some n) comes off filed keyed)
 
--- and one goes
+-- and one is removed
 pub free_goes : (n0 n1 : Slab Node) (classes : Classes) (x : ℕ) → Updates n0 n1 x None → AreFreeFiledBut n0 classes x None → AreFreeFiled n1 classes
 free_goes n0 n1 classes x goes filed =
     same_filing (filed_but (filed_in n0) x None) (filed_in n1) n1 classes

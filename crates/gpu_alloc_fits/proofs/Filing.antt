@@ -1,4 +1,4 @@
--- Keys in the lists of classes: one comes into a list, and one goes out.
+-- Keys in the lists of classes: one comes into a list, and one is taken out.
 use Rattle.std.proofs.Common.{◌≡◌, ◌≢◌, ◌↔◌, ◌⊎◌, ◌==◌, inl, inr, ℕ, cond, List, [], ◌∷◌, ◌++◌, Option, Some, None, refl, sym, ◌∙◌, ap, subst}
 use Rattle.std.proofs.lemmas.Bool.{cases_eq}
 use Rattle.std.proofs.lemmas.Bool.Decides.{Decides-eqb}
@@ -146,7 +146,7 @@ module _ (below up : ℕ → ℕ) where
             (up_other k other ∙ chain.1.0, chain_end k rest chain.1.1 (only k (inl refl)) (λ j is. only j (inr is)) other (λ is. keyed (inr is)) (λ is. off (inr is))),
           )
 
-    -- A key goes.
+    -- A key is removed.
     module _ (key : ℕ) (over : below' (up key) ≡ below key) (below_other : (k : ℕ) → k ≢ up key → below' k ≡ below k) (up_other : (k : ℕ) → k ≢ NONE → k ≢ key → k ≢ below key → up' k ≡ up k) where
       -- the first one
       chain_rest : (above k : ℕ) (rest : List ℕ) → key ≡ k → up k ≡ above → IsChain below up k rest → IsOnce rest → (IsIn rest NONE → ⊥) → (IsIn rest key → ⊥) → (IsIn rest above → ⊥) → (IsIn rest (below key) → up' (below key) ≡ up key) → IsChain below' up' above rest
@@ -427,7 +427,8 @@ module _ (filed : ℕ → Option ℕ) (first up down : ℕ → ℕ) (lists : Are
         filed_end =
             filed_list (Some class) (λ k ne other not. (up_beside k ne other not, down_other k ne (λ e. not (subst (IsIn keys) (sym e) last_is.0)))) off_class (keys ++ (key ∷ [])) end_here
 
-    -- A key goes out of the list of its class. What is below it, or the first one where none is, gets what is above it.
+    -- A key is taken out of the list of its class. What is below it, or the first one where none is, gets what is above
+    -- it.
     module _ (on : filed key ≡ Some class) (b : ℕ) (b_is : b ≡ cond (down key == NONE) f (down key)) (written : IsIn keys b → up' b ≡ up key) (up_other : (k : ℕ) → k ≢ b → up' k ≡ up k) where
       is_key : IsIn keys key
       is_key = (l.exact key).1 on

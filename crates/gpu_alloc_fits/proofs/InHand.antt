@@ -32,7 +32,7 @@ first_leaves s new whole slot is = grant_leaves slot_total slot_exact bytes_of s
 pub same_leaves : (s new : FitSpace) → new ≡ s → Leaves s new
 same_leaves s new is = leaves_same bytes_of s.live new.live (ap (λ (x : FitSpace). x.live) is)
 
--- a block goes, and no other, with its chunk or without
+-- a block is removed, and no other, with its chunk or without
 pub block_removes : (s new : FitSpace) (slot : Slot) → IsLiveSlot s slot → new ≡ without_slot s slot → Removes s slot new
 block_removes s new slot live is = return_removes slot_total slot_exact bytes_of s.live slot new.live (ap (λ (x : FitSpace). x.live) is) live
 

@@ -108,7 +108,7 @@ module _ (size : ℕ → ℕ) (s : Slab Node) (x : ℕ) (n : Node) (beside : Are
       let most = subst (λ i. c.end ≤ size i) of (beside.tiled.inside k c is_c) in
       omega (arith, beside.tiled.nonempty k c is_c, both.meet, ap (λ (t : Tile). t.end) e, all, most)
 
-  -- the key of the tile before it, and of the one behind it
+  -- the key of the tile before it, and of the one after it
   pub front_there : n.tile.start ≢ 0 → (a : Tile) × (tile_in s n.before ≡ Some a) × AreNeighbours a n.tile
   front_there some =
       let h = key_before size (tile_in s) beside.tiled x n.tile here_t (before_in s) (after_in s) beside.linked (omega (arith, some)) in
@@ -173,7 +173,7 @@ pub record IsJoined (size : ℕ → ℕ) (old new : Slab Node) (x chunk : ℕ) :
 pub put_key : (s0 z s1 : Slab Node) (x y : ℕ) (n : Node) → get s0 x ≡ Some n → y ≢ x → KeepsNodes s0 z → Updates z s1 y None → ContainsKey s1 x
 put_key s0 z s1 x y n at ne k0 gone = has_tile s1 x n.tile (other_tile z s1 y None gone x (λ e. ne (sym e)) ∙ k0.tiles x ∙ tile_of_node s0 x n at)
 
--- The steps of a join: the tile behind goes, the one before it grows, and what is behind both has its key.
+-- The steps of a join: the later tile is removed, the one before it grows, and what comes after both has its key.
 module _ (size : ℕ → ℕ) (s0 z s1 s2 : Slab Node) (x y : ℕ) (n o : Node) (tiled : IsTiled size (tile_in s0)) (linked : AreLinked (tile_in s0) (before_in s0) (after_in s0)) (at : get s0 x ≡ Some n) (n_free : n.tile.free ≡ true) (there : get s0 y ≡ Some o)
     (free : o.tile.free ≡ true) (ne : y ≢ x) (k0 : KeepsNodes s0 z) (gone : Updates z s1 y None)
     (writes : Updates s1 s2 x (option_map (with_end o.tile.end o.after) (get s1 x))) where
@@ -233,7 +233,7 @@ module _ (size : ℕ → ℕ) (s0 z s1 s2 : Slab Node) (x y : ℕ) (n o : Node) 
     pub right_grown : tile_in s3 x ≡ Some right_tile
     right_grown = right_absorbed.grown
 
-    -- the one that goes was in no list
+    -- the one that is removed was in no list
     joined_lists : (filed : ℕ → Option ℕ) (classes : Classes) → filed y ≡ None → KeepsLists s1 s2 → KeepsLists s2 s3 → IsIndexed filed z classes → IsIndexed filed s3 classes
     joined_lists filed classes off lists_2 lists_3 indexed = kept_lists filed s2 s3 classes lists_3 (kept_lists filed s1 s2 classes lists_2 (unfiled_goes filed z s1 classes y None gone off indexed refl))
 
@@ -252,7 +252,7 @@ module _ (size : ℕ → ℕ) (s0 z s1 s2 : Slab Node) (x y : ℕ) (n o : Node) 
         let apart : k ≢ y = (λ e. other (ap (λ (t : Tile). t.chunk) (one_tile (tile_in s0) k y a o.tile is at_y e) ∙ sym near.chunk)) in
         lists_3.down k ∙ lists_2.down k ∙ ap down_of (gone.others k apart) ∙ first k apart none
 
-    -- The one that goes was freed just now.
+    -- The one that is removed was freed just now.
     pub left_filed : (classes : Classes) (class : ℕ) → class ≡ class_of_bytes (n.tile.end - n.tile.start) → KeepsLists s1 s2 → KeepsLists s2 s3 → IsIndexed (filed_but (filed_in s0) y None) z classes → AreFreeFiledBut s3 classes x (Some class)
     left_filed classes class is lists_2 lists_3 indexed =
         joined_filed (filed_but (filed_in s0) y None) classes (Some class)
@@ -344,7 +344,7 @@ module _ (size : ℕ → ℕ) (s0 z s1 s2 : Slab Node) (x y : ℕ) (n o : Node) 
           )
         ]
 
-    -- The one before was free first, and the one that goes touched it.
+    -- The one before was free first, and the one that is removed touched it.
     module _ (calm : IsCalmBut y (tile_in s0)) where
       pub left_joined : IsJoined size s0 s3 x n.tile.chunk
       left_joined = right_joined (λ j k c d ne_j ne_k is_c is_d both. elim (came_joint (tile_in s0) (tile_in s3) x y right_tile right_absorbed j c is_c) [
@@ -358,7 +358,7 @@ module _ (size : ℕ → ℕ) (s0 z s1 s2 : Slab Node) (x y : ℕ) (n o : Node) 
       pub left_is_first : IsFirst x (tile_in s3)
       left_is_first k c t is_c is_t both = let was = first_was k c t is_c is_t both in calm k x c n.tile was.0 (λ e. ne (sym e)) was.1 at_x was.2
 
-    -- The one that goes was free first.
+    -- The one that is removed was free first.
     module _ (calm : IsCalmBut x (tile_in s0)) where
       pub back_joined : IsJoined size s0 s3 x n.tile.chunk
       back_joined = right_joined (joint_calm size (tile_in s0) (tile_in s3) x y x y n.tile o.tile right_tile tiled at_x at_y (inl (refl, refl)) right_joint right_absorbed calm)

@@ -107,7 +107,7 @@ class_capped bytes capped is = elim (cases_lt bytes (2 ^ 64)) [
   | inr long ↦ last_of_all capped (omega (arith, is, long)) ∙ sym (last_of_all bytes (omega (arith, long)))
 ]
 
--- The class of so many grains.
+-- The class of that many grains.
 
 pub low_class : (grains : ℕ) → grains < 64 → last_class 463 grains ≡ grains
 low_class grains low = last_is 463 grains grains (omega (arith, low)) (omega (arith, least_low grains low)) (λ c more. elim (cases_lt c 64) [
@@ -115,7 +115,7 @@ low_class grains low = last_is 463 grains grains (omega (arith, low)) (omega (ar
   | inr high ↦ omega (arith, least_from_64 c high, low)
 ])
 
--- how many low bits of so many grains a class leaves open: all but the first four
+-- how many low bits of that many grains a class leaves open: all but the first four
 abbrev pub open_bits : ℕ → ℕ
 open_bits grains = 60 - leading_zeros w64 grains
 

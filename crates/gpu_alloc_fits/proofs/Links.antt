@@ -9,7 +9,7 @@ use Rattle.gpu_alloc_fits.proofs.Tiles.{Absorbs, IsJoint, IsSamePlace, came, cam
 -- The neighbours of a tile.
 
 module _ (size : ℕ → ℕ) (T : ℕ → Option Tile) (tiled : IsTiled size T) (x : ℕ) (m : Tile) (at : T x ≡ Some m) where
-  -- behind the chunk's start one ends where it starts
+  -- after the chunk's start one ends where it starts
   pub before_there : 0 < m.start → (j : ℕ) × (a : Tile) × (T j ≡ Some a) × AreNeighbours a m
   before_there some =
       let long = tiled.nonempty x m at in
@@ -46,7 +46,7 @@ module _ (size : ℕ → ℕ) (T : ℕ → Option Tile) (tiled : IsTiled size T)
       let e = one_tile T k x b m at_k at same in
       omega (arith, tiled.nonempty x m at, near.meet, ap (λ (t : Tile). t.start) e)
 
-  -- one with a neighbour behind it ends before its chunk's end
+  -- one with a neighbour after it ends before its chunk's end
   pub ends_before : (k : ℕ) (b : Tile) → T k ≡ Some b → AreNeighbours m b → m.end < size m.chunk
   ends_before k b at_k near =
       let inside : b.end ≤ size m.chunk = subst (λ n. b.end ≤ size n) (sym near.chunk) (tiled.inside k b at_k) in

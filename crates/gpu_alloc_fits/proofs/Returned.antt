@@ -29,7 +29,7 @@ pub record IsReturned {M : Type 0} (object : M → ℕ) (rows : Slab (Row M)) (n
   pub kept : IsSpare (without_slot old b) b.chunk → ⊥
   pub space : fit_space_in (chunks_of_rows object rows) nodes ≡ without_slot old b
 
--- and of one with which its chunk goes
+-- and of one with which its chunk is removed
 pub record IsReturnedWith {M : Type 0} (object : M → ℕ) (rows : Slab (Row M)) (nodes : Slab Node) (spare : Option ℕ) (old : FitSpace) (b : Slot) (chunk : Chunk) : Type 0 where
   pub stored : IsStoredInTiles object rows nodes spare
   pub goes : IsSpare (without_slot old b) b.chunk
@@ -96,7 +96,7 @@ module _ {M : Type 0} (object : M → ℕ) (rows : Slab (Row M)) (n0 n1 n2 : Sla
         let s = stays_as object rows n0 n2 spare stored p.key y tile joint live back free elsewhere kept old b same (block b span) (first_stays object rows n0 n2 spare stored p.key y tile joint live back free elsewhere kept start end_is none) in
         record { stored = first_stored object rows n0 n2 spare stored p.key y tile joint live back free elsewhere kept start end_is none; kept = s.0; space = s.1 }
 
-    -- it is another one, and goes
+    -- it is another one, and is removed
     module _ (row : Row M) (row_at : get rows joint.chunk ≡ Some row) (z : ℕ) (some : spare ≡ Some z) (rows' : Slab (Row M)) (n3 : Slab Node) (goes : Updates rows rows' joint.chunk None) (lives : KeepsLive (tile_in n2) (tile_in n3)) (left : KeepsElsewhere joint.chunk (tile_in n2) (tile_in n3))
         (kept_2 : AreNodesKept (chunk_size_in rows') n3) where
       left_spare : IsSpareTile (fit_space_in (chunks_of_rows object rows') n3) (chunk_size_in rows') (tile_in n3) spare

@@ -18,7 +18,7 @@ use Rattle.gpu_alloc_base.proofs.SlabViews.{found_by_key, get_by_key}
 use Rattle.gpu_alloc_base.proofs.Slots.{slot_inserted, slot_removed}
 use Rattle.gpu_alloc_fits.specs.Choice.{IsChosenRun}
 use Rattle.gpu_alloc_fits.specs.Filed.{down_of}
-use Rattle.gpu_alloc_fits.specs.Fits.{TakesFitting}
+use Rattle.gpu_alloc_fits.specs.Fits.{TakesFit}
 use Rattle.gpu_alloc_fits.specs.Inside.{IsAtKey, IsBlockPlace, IsBlockTile, IsLiveTile, IsSpareTile, IsStore, IsStoredInTiles, IsTheWhole, IsWholeTile, IsWithout, chunk_of_row, chunk_size_in, chunks_of_rows, fit_space_in, live_slot, live_slots_in, made_of, row_size, slot_of}
 use Rattle.gpu_alloc_fits.specs.Links.{AreNodesKept, after_of, before_of}
 use Rattle.gpu_alloc_fits.specs.Space.{HasPlace, IsFitting, IsFreeIn, IsLiveSlot, IsLiveFitSpan, IsSoundFitSpace, IsSpare, IsWhollyFree, LiesInChunk, FitSpace, chunk_bytes, with_slot, without_slot, without_chunk}
@@ -450,7 +450,7 @@ placed_is object rows nodes spare stored old same name given offset size named p
     (subst (λ s. IsLiveFitSpan s name offset size b) (sym same) (subst (λ n. IsLiveFitSpan old n offset size b) (sym named) span))
 
 -- no host memory for a block that has a place
-pub refused : {E : Type 0} (s new : FitSpace) (size alignment : ℕ) (answer : Result (Option Slot) E) → IsErr answer → HasPlace s size alignment → new ≡ s → TakesFitting s size alignment answer new
+pub refused : {E : Type 0} (s new : FitSpace) (size alignment : ℕ) (answer : Result (Option Slot) E) → IsErr answer → HasPlace s size alignment → new ≡ s → TakesFit s size alignment answer new
 refused s new size alignment (Ok x) is place same = absurd (cc)
 refused s new size alignment (Err e) is place same = (place, same)
 

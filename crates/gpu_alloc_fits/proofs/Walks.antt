@@ -28,7 +28,7 @@ pub record IsPassed (filed : ℕ → Option ℕ) (own sure class key : ℕ) : Ty
   pub up_to : of ≤ class
   pub unsure : of < sure
 
--- so many keys are passed, none of which is wanted, and this one of the class is next
+-- that many keys are passed, none of which is wanted, and this one of the class is next
 pub record IsSearch (nodes : Slab Node) (classes : Classes) (own sure : ℕ) (Wanted : ℕ → Type 0) (class key passed : ℕ) : Type 0 where
   pub from : own ≤ class
   pub seen : List ℕ

@@ -22,13 +22,13 @@ BeginsClass size = size ≡ least_grains (class_of_bytes size) * 256
 abbrev pub few : ℕ
 few = 4
 
--- a run of the class of the size or a higher one, in none above this one, lacks room
+-- a run lacks room, and its class is at least that of the size and at most this one
 pub record LacksRoom (size alignment class : ℕ) (r : FreeListRegion) : Type 0 where
   pub own : class_of_bytes size ≤ class_of_run r
   pub up_to : class_of_run r ≤ class
   pub none : HasRoom size alignment r.start r.end → ⊥
 
--- by its class a run may have room, and it lacks it
+-- a run may have room by its class, but lacks it
 pub record IsMiss (size alignment : ℕ) (r : FreeListRegion) : Type 0 where
   pub own : class_of_bytes size ≤ class_of_run r
   pub below : class_of_run r < sure_class size alignment
@@ -39,7 +39,7 @@ module _ (F : ℕ → ℕ → Type 0) where
   abbrev pub IsRun : FreeListRegion → Type 0
   IsRun r = IsFreeRun F r.chunk r.start r.end
 
-  -- so many distinct free runs, of each of which this holds
+  -- there are `count` distinct free runs with this property
   pub record HasDistinctRuns (count : ℕ) (P : FreeListRegion → Type 0) : Type 0 where
     pub run : ℕ → FreeListRegion
     pub free : (i : ℕ) → i < count → IsRun (run i)
@@ -54,9 +54,9 @@ module _ (F : ℕ → ℕ → Type 0) where
     pub first : (r : FreeListRegion) → IsRun r → class_of_bytes size ≤ class_of_run r → class_of_run r < last
         → (i : ℕ) × ((i < few) × (runs.run i ≡ r))
 
-  -- No more runs are looked at than those that lack room though they may have it by their class, and one; where some
-  -- class is sure and has runs, than a few and one; where the size is the least of its class and free runs start at
-  -- multiples of the alignment, than one.
+  -- At most one more run is looked at than those that lack room though they may have it by their class. Where some
+  -- class is sure and has runs, at most `few` and one are looked at. Where the size is the least of its class and free
+  -- runs start at multiples of the alignment, at most one is.
   pub record AreFewLooks (size alignment looks : ℕ) : Type 0 where
     pub count : ℕ
     pub misses : HasDistinctRuns count (IsMiss size alignment)
@@ -71,9 +71,9 @@ module _ (F : ℕ → ℕ → Type 0) where
       pub starts : r.start ≡ 0
       pub ends : r.end ≡ whole r.chunk
 
-    -- The run has room. Its class is no higher than the lowest sure one that has runs. A run with room in a lower class is
-    -- passed over only for a sure one, and where the first few lack room. A wholly free chunk is chosen only where no other run of its class
-    -- has room.
+    -- The run has room. Its class is no higher than the lowest sure one that has runs. A run with room in a lower class
+    -- is passed over only for one of a sure class, and where the first few lack room. A wholly free chunk is chosen
+    -- only where no other run of its class has room.
     pub record IsChosenRun (size alignment : ℕ) (r : FreeListRegion) : Type 0 where
       pub run : IsRun r
       pub room : HasRoom size alignment r.start r.end

@@ -5,8 +5,8 @@ use Rattle.gpu_alloc_fits.specs.declared.classes.Classes.{Classes}
 use Rattle.gpu_alloc_fits.specs.declared.classes.TheConstants.{CLASSES, WORDS}
 use Rattle.gpu_alloc_fits.specs.declared.tile.TheConstants.{NONE}
 
--- with how many grains of 256 bytes a class begins: each with one more up to 64, and above in eight steps from one power
--- of two to the next
+-- how many grains of 256 bytes a class begins with: each with one more up to 64, and above in eight steps from one
+-- power of two to the next
 abbrev pub least_grains : ℕ → ℕ
 least_grains class = cond (nat_lt class 64) class ((8 + class % 8) * 2 ^ (class / 8 - 5))
 
@@ -70,7 +70,7 @@ first_in classes class = slice_index_or classes.first class NONE
 abbrev pub IsMarked : Classes → ℕ → Type 0
 IsMarked classes class = bit_at (slice_index_or classes.filled (class / 64) 0) (class % 64) ≡ 1
 
--- the bits of exactly those classes are set that have a first key
+-- exactly the bits of the classes that have a first key are set
 pub record AreMarked (classes : Classes) : Type 0 where
   pub firsts : length classes.first ≡ CLASSES
   pub words : length classes.filled ≡ WORDS

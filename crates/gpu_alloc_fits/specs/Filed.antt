@@ -53,13 +53,13 @@ Refiles nodes classes nodes' classes' key was class =
     (filed : ℕ → Option ℕ) → IsIndexed filed nodes classes → filed key ≡ was
     → IsIndexed (filed_but filed key class) nodes' classes'
 
--- then each other tile that had none below it has none still
+-- then each other tile that had none below it still has none
 abbrev pub KeepsLasts : Slab Node → Classes → Slab Node → ℕ → Option ℕ → Type 0
 KeepsLasts nodes classes nodes' key was =
     (filed : ℕ → Option ℕ) → IsIndexed filed nodes classes → filed key ≡ was
     → (k : ℕ) → k ≢ key → down_in nodes k ≡ NONE → down_in nodes' k ≡ NONE
 
--- the tiles of other chunks that had none below them have none still
+-- the tiles of other chunks that had none below them still have none
 abbrev pub KeepsEnds : ℕ → Slab Node → Slab Node → Type 0
 KeepsEnds chunk nodes nodes' =
     (k : ℕ) (a : Tile) → tile_in nodes k ≡ Some a → a.chunk ≢ chunk → down_in nodes k ≡ NONE → down_in nodes' k ≡ NONE

@@ -16,13 +16,13 @@ pub record HasTileRooms (s : FitStore) : Type 0 where
   pub tiles : 3 ≤ s.tile_room
 
 -- a place is looked for: a block in one, or none there, or no host memory for a block in one
-abbrev pub TakesFitting : {E : Type 0} → FitSpace → ℕ → ℕ → Result (Option Slot) E → FitSpace → Type 0
-TakesFitting s size alignment (Ok None) new = (HasPlace s size alignment → ⊥) × (new ≡ s)
-TakesFitting s size alignment (Ok (Some slot)) new = IsFitting s size alignment slot × (new ≡ with_slot s slot)
-TakesFitting s size alignment (Err e) new = HasPlace s size alignment × (new ≡ s)
+abbrev pub TakesFit : {E : Type 0} → FitSpace → ℕ → ℕ → Result (Option Slot) E → FitSpace → Type 0
+TakesFit s size alignment (Ok None) new = (HasPlace s size alignment → ⊥) × (new ≡ s)
+TakesFit s size alignment (Ok (Some slot)) new = IsFitting s size alignment slot × (new ≡ with_slot s slot)
+TakesFit s size alignment (Err e) new = HasPlace s size alignment × (new ≡ s)
 
--- A block is returned: its chunk goes with it, with a handle of its object and its size, if it is then wholly free and
--- another one is too, and stays otherwise.
+-- A block is returned. If its chunk is then wholly free and another one is too, the chunk is removed, and handed back
+-- as a handle of its object and its size. Otherwise it stays.
 abbrev pub PutsBack : {M : Type 0} → (M → ℕ) → FitSpace → Slot → Option (M × ℕ) → FitSpace → Type 0
 PutsBack object s slot None new =
     (IsSpare (without_slot s slot) slot.chunk → ⊥) × (new ≡ without_slot s slot)

@@ -70,7 +70,7 @@ pub record IsFitting (s : FitSpace) (size alignment : ℕ) (slot : Slot) : Type 
   pub start : slot.offset ≡ tail_start size alignment run.end
   pub chosen : IsChosenRun (IsFreeIn s) (chunk_bytes s) size alignment run
 
--- a search looks at so few free runs
+-- a search looks at few free runs, as `AreFewLooks` bounds them
 abbrev pub LooksAtFew : FitSpace → ℕ → ℕ → ℕ → ℕ → Type 0
 LooksAtFew s size alignment old new =
     (looks : ℕ) × ((new ≡ old + looks) × AreFewLooks (IsFreeIn s) size alignment looks)
@@ -142,8 +142,8 @@ pub record IsSoundFitSpace (s : FitSpace) : Type 0 where
 
 -- Neighbours.
 
--- how many neighbours a block has in its chunk, which has this many bytes: one before it unless it begins the chunk, and
--- one behind it unless it ends the chunk. A neighbour is a free run or a live block
+-- how many neighbours a block has in its chunk, which has this many bytes: one before it unless it begins the chunk,
+-- and one after it unless it ends the chunk. A neighbour is a free run or a live block
 abbrev pub neighbours_in : ℕ → ℕ → ℕ → ℕ
 neighbours_in whole start end = cond (start == 0) 0 1 + cond (end == whole) 0 1
 

@@ -1,5 +1,5 @@
-//! Free tiles in lists by classes of lengths, in grains of 256 bytes: below 64 grains a class each, and eight classes to
-//! each power of two above.
+//! Free tiles in lists by classes of lengths, in grains of 256 bytes: below 64 grains a class each, and eight classes
+//! to each power of two above.
 
 ghost use Rattle.std.specs.Prelude.{◌≡◌, ◌≢◌, ◌==◌, ◌<◌, ◌≤◌, ℕ, IfSome, None, Some, cond};
 ghost use Rattle.std.specs.Int.{bit_at};

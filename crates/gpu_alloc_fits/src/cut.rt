@@ -14,8 +14,8 @@ use gpu_alloc_types::MemoryObject;
 use slab::Slab;
 use std::alloc::Allocator;
 
-/// Turns bytes of a free tile into a live tile, and returns its key. What the tile has before and after them stays free.
-/// Room for two tiles was made.
+/// Turns bytes of a free tile into a live tile, and returns its key. What the tile has before and after them stays
+/// free. Room for two tiles was made.
 #[inline(always)]
 pub(crate) fn cut_out<M: MemoryObject, A: Allocator>(
     nodes: &mut Slab<Node, A>,

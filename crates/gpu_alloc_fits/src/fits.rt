@@ -9,7 +9,7 @@ ghost use Rattle.gpu_alloc_base.specs.AlignMasks.{IsAlignMask};
 ghost use Rattle.gpu_alloc_base.specs.RangeOrder.{AreInOrder};
 ghost use Rattle.gpu_alloc_base.specs.declared.free_list_block.Slot.{Slot as LiveSlot};
 ghost use Rattle.gpu_alloc_fits.specs.Filed.{AreFreeFiled, AreFreeFiledBut, KeepsEnds};
-ghost use Rattle.gpu_alloc_fits.specs.Fits.{HasTileRooms, PutsBack, TakesFitting};
+ghost use Rattle.gpu_alloc_fits.specs.Fits.{HasTileRooms, PutsBack, TakesFit};
 ghost use Rattle.gpu_alloc_fits.specs.Inside.{IsAtKey, IsBlockPlace, IsBlockTile, IsLiveTile, IsWholeTile, IsWithout};
 ghost use Rattle.gpu_alloc_fits.specs.Inside.{chunk_size_in, chunks_of_rows, free_range, listed, live_row};
 ghost use Rattle.gpu_alloc_fits.specs.Links.{AreNodesKept};
@@ -160,19 +160,20 @@ impl<M: MemoryObject, A: Allocator> Fits<M, A> {
         found.is_some()
     }
 
-    /// Takes a block of exactly `size` bytes, at least 1, at the last multiple of `align_mask + 1` at which it fits in a
-    /// free run. `None` where no free run has room. `align_mask + 1` is a power of two of at most 2^63.
+    /// Takes a block of exactly `size` bytes, at least 1, at the last multiple of `align_mask + 1` at which it fits in
+    /// a free run. `None` where no free run has room. `align_mask + 1` is a power of two of at most 2^63.
     ///
-    /// Which run (`IsChosenRun`): lengths are sorted into classes, one for each whole number of 256 bytes below 64, and
-    /// from there on eight for each power of two. A class is *sure* where each of its runs has room, wherever it starts.
-    /// The run's class is no higher than the lowest sure class that has runs. A run with room in a lower class is passed
-    /// over only for one of a sure class, and only where the first four runs lack room: four whose classes lie between
-    /// that of the size and its own, with none of a lower class left out. A wholly free chunk comes last in its class.
+    /// Which run (`IsChosenRun`): lengths are sorted into classes, one for each whole number of 256-byte units below
+    /// 64, and from there on eight for each power of two. A class is *sure* where each of its runs has room, wherever
+    /// it starts. The run's class is no higher than the lowest sure class that has runs. A run with room in a lower
+    /// class is passed over only for one of a sure class, and only where the first four runs lack room: four whose
+    /// classes lie between that of the size and its own, with none of a lower class left out. A wholly free chunk comes
+    /// last in its class.
     ///
     /// `looks` counts the free runs that are looked at: at most five where a sure class has runs, and otherwise at most
     /// one more than those without room from the size's class on, below the first sure one (`looks`). It is at most one
-    /// where `size` is the least of its class and each free run starts at a multiple of `align_mask + 1`, and at least one
-    /// where a run has room (`some`).
+    /// where `size` is the least of its class and each free run starts at a multiple of `align_mask + 1`, and at least
+    /// one where a run has room (`some`).
     ///
     /// The only error is want of host memory, for tiles or for a second handle of the chunk's object, and then nothing
     /// but room changes. Each block that a caller had in hand is still live (`leaves`). The new one is live too, and
@@ -186,7 +187,7 @@ impl<M: MemoryObject, A: Allocator> Fits<M, A> {
     ) -> Result<Option<FitBlock<M>>, AllocError>
         requires nonempty { 0 < size }
         requires alignment { IsAlignMask align_mask }
-        ensures takes { TakesFitting (self.old).space size (align_mask + 1) result (self.new).space }
+        ensures takes { TakesFit (self.old).space size (align_mask + 1) result (self.new).space }
         ensures added { IfOk result (λ block. IfSome block (Adds (self.old).space (self.new).space)) }
         ensures leaves { Leaves (self.old).space (self.new).space }
         ensures looks { LooksAtFew (self.old).space size (align_mask + 1) looks.old looks.new }
@@ -437,7 +438,7 @@ impl<M: MemoryObject, A: Allocator> Fits<M, A> {
     }
 
     /// How many times all tiles were searched, modulo 2^64: once for each block that was returned with another key than
-    /// its own. Tests look at it, and no contract.
+    /// its own. Tests read it; no contract mentions it.
     pub fn searches(&self) -> u64 {
         self.searches
     }
@@ -464,7 +465,7 @@ impl<M: MemoryObject, A: Allocator> Fits<M, A> {
         self.chunks.is_empty()
     }
 
-    /// Ends a store without chunks, as [`is_empty`](Fits::is_empty) tells.
+    /// Ends a store without chunks (see [`is_empty`](Fits::is_empty)).
     pub fn close(self)
         requires { map.len ((self.space).chunks) ≡ 0 }
     {

@@ -101,7 +101,7 @@ fn join_before<M: MemoryObject, A: Allocator, L: Ledger>(
     }
 }
 
-/// Joins a free tile with the free one behind it, if there is one, under its own key. The joint is answered.
+/// Joins a free tile with the free one after it, if there is one, under its own key. Returns the joint.
 #[inline(always)]
 fn join_after<M: MemoryObject, A: Allocator, L: Ledger>(
     nodes: &mut Slab<Node, A>,

@@ -42,8 +42,8 @@ fn has_room(tile: Tile, size: u64, align_mask: u64) -> bool
     tile.free && size <= tile.end && tile.start <= last_start(tile.end, size, align_mask)
 }
 
-/// The free tile from which a block of this size at a multiple of `align_mask + 1`, in bytes, is taken, with its key, or
-/// `None` exactly where no held chunk has a place for it. `looks` counts the free tiles that are looked at.
+/// The free tile from which a block of this size at a multiple of `align_mask + 1`, in bytes, is taken, with its key,
+/// or `None` exactly where no held chunk has a place for it. `looks` counts the free tiles that are looked at.
 ///
 /// They are looked at class by class, from the class of the size on, until one has room. From the first sure class on
 /// each has. Once `LOOKS` tiles lack it, the first tile of the sure classes is taken, if they have one.

@@ -39,7 +39,7 @@ in_items s q = (
 )
 
 module _ (s : ListSpace) (r : FreeListRegion) (run : IsFreeRun (IsFreeIn s) r.chunk r.start r.end) where
-  -- where the run starts behind its chunk's start, and no live block ends there, the byte before it is free
+  -- where the run starts after its chunk's start, and no live block ends there, the byte before it is free
   free_before : 0 < r.start → ((q : Slot) → IsLiveSlot s q → Ends q r → ⊥) → IsFreeIn s r.chunk (r.start - 1)
   free_before behind none =
       let first = run.free r.start (omega arith) run.nonempty in
@@ -90,7 +90,7 @@ some_chunk held n has =
     some : map.len held ≢ 0
     some none = let absent = ap (λ (m : HeldChunks). map.get m n) (map.empty_of_len held none) ∙ map.get-empty nat_cmp n in let there : IsSome (map.get held n) = has in absurd (cc)
 
--- runs that rise, each behind one of so many blocks or at the start of one of so many chunks
+-- runs that rise, each after one of that many blocks or at the start of one of that many chunks
 few : (runs : List FreeListRegion) (live : set.FinSet slot_cmp) (held : HeldChunks) → Rises IsBefore runs
     → ((r : FreeListRegion) → Contains runs r → (r.start < r.end) × (((q : Slot) × IsTrue (set.contains live q) × Ends q r) ⊎ ((r.start ≡ 0) × IsSome (map.get held r.chunk))))
     → length runs ≤ set.len live + map.len held

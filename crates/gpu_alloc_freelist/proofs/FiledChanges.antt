@@ -48,7 +48,7 @@ module _ {M : Type 0} where
     pub held_pushed : (object : M → ℕ) → held_in object new ≡ map.insert (held_in object old) x.number (chunk_of object x)
     held_pushed object = map_inserted nat_cmp_total nat_cmp-IsAntisymmetric number_in (chunk_of object) old new key x (filed_once new (numbers ++ entry x.number key ∷ []) filed_pushed) h
 
-  -- A row goes, and the entry that leads to it.
+  -- A row is removed, and the entry that leads to it.
 
   module _ (old new : Slab (NumberedChunk M)) (numbers : List NumberedKey) (i : ℕ) (n : NumberedKey) (x : NumberedChunk M) (filed : AreFiled old numbers) (within : i < length numbers) (is : n ≡ get_or numbers i n)
       (h : IsRemoved old new n.key x) where

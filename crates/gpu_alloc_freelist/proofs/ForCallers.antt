@@ -17,9 +17,9 @@ use Rattle.gpu_alloc_types.specs.Properties.{Properties}
 use Rattle.gpu_alloc_base.specs.Chunks.{IsThere, Chunk, object_in}
 use Rattle.gpu_alloc_freelist.specs.FreeList.{MayGo, IsFirstToGo, IsWhollyFree, without_chunk}
 use Rattle.gpu_alloc_base.specs.Accounts.{Account, account, IsCounted, chunks_and_remaining}
-use Rattle.gpu_alloc_freelist.specs.FreeListAllocator.{AreGone, AreRisingNumbers, LetsGo, LetsWholeChunksGo, Agrees, size_in, object_of, size_of_chunk, without_numbers, without_objects_of, sees_chunks}
-use Rattle.gpu_alloc_freelist.specs.FreeListSound.{IsSoundListing}
-use Rattle.gpu_alloc_freelist.specs.FreeListState.{Listing, ListSpace}
+use Rattle.gpu_alloc_freelist.specs.FreeListAllocator.{AreReleased, AreRisingNumbers, Releases, LetsWholeChunksGo, Agrees, size_in, object_of, size_of_chunk, without_numbers, without_objects_of, sees_chunks}
+use Rattle.gpu_alloc_freelist.specs.FreeListSound.{IsSoundFreeList}
+use Rattle.gpu_alloc_freelist.specs.FreeListState.{FreeListState, ListSpace}
 use Rattle.gpu_alloc_base.specs.declared.heap.Heap.{Heap}
 use Rattle.gpu_alloc_base.proofs.Lists.{contains_head, contains_later, contains_none}
 use Rattle.gpu_alloc_base.proofs.Maps.{found_value, gone, kept_key, kept_other}
@@ -28,7 +28,7 @@ use Rattle.gpu_alloc_freelist.proofs.GoneChunks.{may_go_before, may_go_then}
 pub use Rattle.gpu_alloc_freelist.proofs.GoneChunks.{sound_without_chunk, sound_without_slot}
 
 -- a chunk less
-abbrev pub account_without_chunk : Account Listing → ℕ → Chunk → Account Listing
+abbrev pub account_without_chunk : Account FreeListState → ℕ → Chunk → Account FreeListState
 account_without_chunk a n chunk = record {
   allocator = record a.allocator { space = without_chunk a.allocator.space n };
   heap = record a.heap { used = a.heap.used - chunk.size };
@@ -51,21 +51,21 @@ held_before chunks [] n c is = is
 held_before chunks (k ∷ ks) n c is = (kept_key chunks k n c (held_before (map.remove chunks k) ks n c is)).1
 
 -- The way of the loop: some chunks went, those that may go yet come after them, and all that holds between calls holds.
-pub record IsOnItsWay (keep_last : Bool) (from : Account Listing) (objects : ℕ → Option Object) (p : Properties) (gone : List ℕ) (es : List Event) (a : Account Listing) (now : ℕ → Option Object) : Type 0 where
-  pub lets : LetsGo from gone es a
+pub record IsOnItsWay (keep_last : Bool) (from : Account FreeListState) (objects : ℕ → Option Object) (p : Properties) (gone : List ℕ) (es : List Event) (a : Account FreeListState) (now : ℕ → Option Object) : Type 0 where
+  pub lets : Releases from gone es a
   pub objects_are : now ≡ without_objects_of from.allocator.space objects gone
   pub rising : (i j d : ℕ) → i < j → j < length gone → get_or gone i d < get_or gone j d
   pub went : (number : ℕ) → Contains gone number → MayGo from.allocator.space keep_last number
   pub left : (number : ℕ) → MayGo from.allocator.space keep_last number → Contains gone number ⊎ MayGo a.allocator.space keep_last number
   pub goes : (number : ℕ) → MayGo a.allocator.space keep_last number → MayGo from.allocator.space keep_last number
   pub later : (earlier number : ℕ) → Contains gone earlier → MayGo a.allocator.space keep_last number → earlier < number
-  pub sound : IsSoundListing a.allocator
+  pub sound : IsSoundFreeList a.allocator
   pub agrees : Agrees a.allocator p now
   pub counted : IsCounted a.allocator.space.chunks a.heap a.remaining
   pub total : chunks_and_remaining a.allocator.space.chunks a.remaining ≡ chunks_and_remaining from.allocator.space.chunks from.remaining
 
 -- nothing went yet
-pub begins : {keep_last : Bool} {a : Account Listing} {objects : ℕ → Option Object} {p : Properties} → IsSoundListing a.allocator → Agrees a.allocator p objects → IsCounted a.allocator.space.chunks a.heap a.remaining → IsOnItsWay keep_last a objects p [] [] a objects
+pub begins : {keep_last : Bool} {a : Account FreeListState} {objects : ℕ → Option Object} {p : Properties} → IsSoundFreeList a.allocator → Agrees a.allocator p objects → IsCounted a.allocator.space.chunks a.heap a.remaining → IsOnItsWay keep_last a objects p [] [] a objects
 begins {keep_last} {a} {objects} {p} sound agrees counted = record {
   lets = (refl, λ i. record { allocator = a.allocator; heap = record a.heap { used = same_used i }; remaining = same_remaining i });
   objects_are = refl;
@@ -87,7 +87,7 @@ begins {keep_last} {a} {objects} {p} sound agrees counted = record {
     same_remaining = omega arith
 
 -- none may go any more
-pub ends : {keep_last : Bool} {from a : Account Listing} {objects now : ℕ → Option Object} {p : Properties} {gone : List ℕ} {es : List Event} → IsOnItsWay keep_last from objects p gone es a now
+pub ends : {keep_last : Bool} {from a : Account FreeListState} {objects now : ℕ → Option Object} {p : Properties} {gone : List ℕ} {es : List Event} → IsOnItsWay keep_last from objects p gone es a now
     → ((number : ℕ) → MayGo a.allocator.space keep_last number → ⊥) → LetsWholeChunksGo keep_last from gone es a objects now
 ends {keep_last} {from} {a} {objects} {now} {p} {gone} {es} w none = (
   record {
@@ -97,15 +97,15 @@ ends {keep_last} {from} {a} {objects} {now} {p} {gone} {es} w none = (
   (w.lets, w.objects_are),
 )
 
--- One more goes.
+-- One more is removed.
 
-module _ {keep_last : Bool} {from a : Account Listing} {objects now : ℕ → Option Object} {p : Properties} {gone_so_far : List ℕ} {es : List Event} (w : IsOnItsWay keep_last from objects p gone_so_far es a now)
+module _ {keep_last : Bool} {from a : Account FreeListState} {objects now : ℕ → Option Object} {p : Properties} {gone_so_far : List ℕ} {es : List Event} (w : IsOnItsWay keep_last from objects p gone_so_far es a now)
     (n : ℕ) (chunk : Chunk) (is : map.get a.allocator.space.chunks n ≡ Some chunk) (first : IsFirstToGo a.allocator.space keep_last n) where
   some : 0 < chunk.size
   some = (w.sound.space.sizes n chunk is).0
 
   was_held : map.get from.allocator.space.chunks n ≡ Some chunk
-  was_held = held_before from.allocator.space.chunks gone_so_far n chunk (ap (λ (x : Account Listing). map.get x.allocator.space.chunks n) (sym w.lets.1) ∙ is)
+  was_held = held_before from.allocator.space.chunks gone_so_far n chunk (ap (λ (x : Account FreeListState). map.get x.allocator.space.chunks n) (sym w.lets.1) ∙ is)
 
   object_is : object_of from.allocator.space n ≡ chunk.object
   object_is = ap object_in was_held
@@ -123,10 +123,10 @@ module _ {keep_last : Bool} {from a : Account Listing} {objects now : ℕ → Op
   pub fewer : map.len (map.remove a.allocator.space.chunks n) < map.len a.allocator.space.chunks
   fewer = omega (arith, len_less a.allocator.space.chunks n chunk is)
 
-  abbrev next : Account Listing
+  abbrev next : Account FreeListState
   next = account_without_chunk a n chunk
 
-  next_sound : IsSoundListing next.allocator
+  next_sound : IsSoundFreeList next.allocator
   next_sound = sound_without_chunk a.allocator n w.sound first.goes.0
 
   -- it holds the chunk
@@ -149,7 +149,7 @@ module _ {keep_last : Bool} {from a : Account Listing} {objects now : ℕ → Op
           let another : c.object ≢ chunk.object = λ same. other (w.sound.one_object k n c chunk at is same) in
           (h.0, put-other now chunk.object None c.object another ∙ h.1, h.2)
 
-  next_lets : LetsGo from (gone_so_far ++ n ∷ []) (es ++ Deallocated chunk.object ∷ []) next
+  next_lets : Releases from (gone_so_far ++ n ∷ []) (es ++ Deallocated chunk.object ∷ []) next
   next_lets = (
     ap (λ xs. xs ++ Deallocated chunk.object ∷ []) w.lets.0
         ∙ ap (λ o. list.map (λ number. Deallocated (object_of from.allocator.space number)) gone_so_far ++ Deallocated o ∷ []) (sym object_is)
@@ -206,17 +206,17 @@ module _ {keep_last : Bool} {from a : Account Listing} {objects now : ℕ → Op
 
 -- For callers: what is so of the account that is left, by the names of the chunks that went. It is so where none goes, and where one goes first and it is so of the others.
 
-module _ (Goes : Account Listing → List ℕ → Account Listing → Type 0) (none_goes : (a : Account Listing) → Goes a [] a)
-    (one_goes : (a new : Account Listing) (n : ℕ) (chunk : Chunk) (names : List ℕ) → IsSoundListing a.allocator → map.get a.allocator.space.chunks n ≡ Some chunk → IsWhollyFree a.allocator.space n → Goes (account_without_chunk a n chunk) names new
-    → Goes a (chunk.object ∷ names) new) where
-  each_goes : (chunk_of : ℕ → Chunk) (gone : List ℕ) (a new : Account Listing) → IsSoundListing a.allocator → AreRisingNumbers gone
+module _ (ReleasesChunk : Account FreeListState → List ℕ → Account FreeListState → Type 0) (none_goes : (a : Account FreeListState) → ReleasesChunk a [] a)
+    (one_goes : (a new : Account FreeListState) (n : ℕ) (chunk : Chunk) (names : List ℕ) → IsSoundFreeList a.allocator → map.get a.allocator.space.chunks n ≡ Some chunk → IsWhollyFree a.allocator.space n → ReleasesChunk (account_without_chunk a n chunk) names new
+    → ReleasesChunk a (chunk.object ∷ names) new) where
+  each_goes : (chunk_of : ℕ → Chunk) (gone : List ℕ) (a new : Account FreeListState) → IsSoundFreeList a.allocator → AreRisingNumbers gone
       → ((n : ℕ) → Contains gone n → (map.get a.allocator.space.chunks n ≡ Some (chunk_of n)) × IsWhollyFree a.allocator.space n)
       → new ≡ record {
         allocator = record a.allocator { space = record a.allocator.space { chunks = without_numbers a.allocator.space.chunks gone } };
         heap = record a.heap { used = a.heap.used - sum_by (λ n. (chunk_of n).size) gone };
         remaining = a.remaining + length gone;
-      } → Goes a (list.map (λ n. (chunk_of n).object) gone) new
-  each_goes chunk_of [] a new sound rising free is = subst (Goes a []) (sym (is ∙ (λ i. account a.allocator (record a.heap { used = used i }) (remaining i)))) (none_goes a)
+      } → ReleasesChunk a (list.map (λ n. (chunk_of n).object) gone) new
+  each_goes chunk_of [] a new sound rising free is = subst (ReleasesChunk a []) (sym (is ∙ (λ i. account a.allocator (record a.heap { used = used i }) (remaining i)))) (none_goes a)
     where
       used : a.heap.used - 0 ≡ a.heap.used
       used = omega arith
@@ -244,7 +244,7 @@ module _ (Goes : Account Listing → List ℕ → Account Listing → Type 0) (n
       remaining : a.remaining + length (n ∷ others) ≡ a.remaining + 1 + length others
       remaining = omega arith
 
-  pub all_go : (a new : Account Listing) (keep_last : Bool) (gone : List ℕ) (es : List Event) → IsSoundListing a.allocator → AreGone a.allocator.space keep_last gone → LetsGo a gone es new → Goes a (list.map (object_of a.allocator.space) gone) new
+  pub all_go : (a new : Account FreeListState) (keep_last : Bool) (gone : List ℕ) (es : List Event) → IsSoundFreeList a.allocator → AreReleased a.allocator.space keep_last gone → Releases a gone es new → ReleasesChunk a (list.map (object_of a.allocator.space) gone) new
   all_go a new keep_last gone es sound are lets =
       each_goes (λ n. record { object = object_of a.allocator.space n; size = size_of_chunk a.allocator.space n }) gone a new sound are.rising
       (λ n has.

@@ -15,8 +15,8 @@ use Rattle.gpu_alloc_base.specs.Case.{Answers, RefusesFirst}
 use Rattle.gpu_alloc_base.specs.NewObject.{HasOneMore}
 use Rattle.gpu_alloc_freelist.specs.FreeListAllocator.{Agrees, ObjectsAfter, IsGranted, case_of, chunk_size, list_case, next_size, question, sees_chunks, listing_with_slot, rounded, alignment as alignment_of}
 use Rattle.gpu_alloc_base.proofs.Books.{KeepsBooks, refused_keeps, made_new, answers_agree as chunks_agree}
-use Rattle.gpu_alloc_freelist.specs.FreeListSound.{IsSoundListing, IsSoundListSpace, LiesInChunk}
-use Rattle.gpu_alloc_freelist.specs.FreeListState.{ListSpace, Listing, IsLiveSlot, IsFreeIn}
+use Rattle.gpu_alloc_freelist.specs.FreeListSound.{IsSoundFreeList, IsSoundListSpace, LiesInChunk}
+use Rattle.gpu_alloc_freelist.specs.FreeListState.{ListSpace, FreeListState, IsLiveSlot, IsFreeIn}
 use Rattle.gpu_alloc_base.specs.FreeRuns.{AreFree, IsFreeRun, tail_start}
 use Rattle.gpu_alloc_base.specs.FreeSpace.{IsIn, IsMultipleOf, IsPowerOfTwo}
 use Rattle.gpu_alloc_base.specs.NewChunk.{chunk_question}
@@ -43,7 +43,7 @@ WasFree s slot = AreFree (IsFreeIn s) slot.chunk slot.offset (slot.offset + slot
 abbrev pub IsOfAtoms : ℕ → Slot → Type 0
 IsOfAtoms atom slot = IsMultipleOf atom slot.offset × IsMultipleOf atom slot.size
 
-pub sound_with_slot : (l : Listing) (slot : Slot) → IsSoundListing l → LiesInChunk l.space slot → WasFree l.space slot → IsOfAtoms l.atom slot → IsSoundListing (listing_with_slot l slot)
+pub sound_with_slot : (l : FreeListState) (slot : Slot) → IsSoundFreeList l → LiesInChunk l.space slot → WasFree l.space slot → IsOfAtoms l.atom slot → IsSoundFreeList (listing_with_slot l slot)
 sound_with_slot l slot s lies free atoms = record {
   space = space_with_slot l.space slot s.space lies free;
   one_object = s.one_object;
@@ -57,14 +57,14 @@ sound_with_slot l slot s lies free atoms = record {
 -- A chunk more.
 
 -- the allocator with one chunk more
-abbrev pub listing_with_chunk : Listing → ℕ → ℕ → Listing
+abbrev pub listing_with_chunk : FreeListState → ℕ → ℕ → FreeListState
 listing_with_chunk l object whole = record l { space = with_numbered_chunk l.space object whole; next_chunk = next_size l whole }
 
 -- no held chunk is of this object
-abbrev pub IsOther : Listing → ℕ → Type 0
+abbrev pub IsOther : FreeListState → ℕ → Type 0
 IsOther l object = (k : ℕ) (c : Chunk) → map.get l.space.chunks k ≡ Some c → c.object ≡ object → ⊥
 
-pub sound_with_chunk : (l : Listing) (object whole : ℕ) → IsSoundListing l → IsOther l object → 0 < whole → whole ≤ l.final_chunk → IsMultipleOf l.atom whole → IsSoundListing (listing_with_chunk l object whole)
+pub sound_with_chunk : (l : FreeListState) (object whole : ℕ) → IsSoundFreeList l → IsOther l object → 0 < whole → whole ≤ l.final_chunk → IsMultipleOf l.atom whole → IsSoundFreeList (listing_with_chunk l object whole)
 sound_with_chunk l object whole s other some fits atoms =
     let m = l.space.chunks in
     let number : ℕ = l.space.latest + 1 in
@@ -91,18 +91,18 @@ sound_with_chunk l object whole s other some fits atoms =
 -- Tails.
 
 -- what may be asked of an allocator: a size and an alignment
-pub record IsAskable (l : Listing) (size alignment : ℕ) : Type 0 where
+pub record IsAskable (l : FreeListState) (size alignment : ℕ) : Type 0 where
   pub nonempty : 0 < size
   pub fits : size ≤ l.final_chunk
   pub power : IsPowerOfTwo alignment
   pub aligned : l.atom ≤ alignment
 
 -- a tail starts at whole atoms
-tail_atoms : (l : Listing) (size alignment end : ℕ) → IsSoundListing l → IsAskable l size alignment → IsMultipleOf l.atom (tail_start size alignment end)
+tail_atoms : (l : FreeListState) (size alignment end : ℕ) → IsSoundFreeList l → IsAskable l size alignment → IsMultipleOf l.atom (tail_start size alignment end)
 tail_atoms l size alignment end s asked = multiple_of_lower l.atom alignment (tail_start size alignment end) (s.atom.0, s.atom.1.1) asked.power asked.aligned (multiple_down (end - size) alignment)
 
 -- a free run ends at whole atoms: where its chunk does, or where a live block starts
-pub run_ends : (l : Listing) (chunk start end : ℕ) → IsSoundListing l → IsFreeRun (IsFreeIn l.space) chunk start end → IsMultipleOf l.atom end
+pub run_ends : (l : FreeListState) (chunk start end : ℕ) → IsSoundFreeList l → IsFreeRun (IsFreeIn l.space) chunk start end → IsMultipleOf l.atom end
 run_ends l chunk start end s run =
     let last = run.free (end - 1) (omega (arith, run.nonempty)) (omega (arith, run.nonempty)) in
     let never : (end % l.atom ≡ 0 → ⊥) → ⊥ = λ odd.
@@ -151,12 +151,12 @@ tail_lies s size alignment slot some tail =
       inside = omega (arith, some, enough, last.inside, ap (λ (c : Chunk). c.size) same);
     }
 
-pub tail_of_atoms : (l : Listing) (size alignment : ℕ) (slot : Slot) → IsSoundListing l → IsAskable l size alignment → IsTail l.space size alignment slot → IsOfAtoms l.atom slot
+pub tail_of_atoms : (l : FreeListState) (size alignment : ℕ) (slot : Slot) → IsSoundFreeList l → IsAskable l size alignment → IsTail l.space size alignment slot → IsOfAtoms l.atom slot
 tail_of_atoms l size alignment slot s asked tail =
     let start = subst (IsMultipleOf l.atom) (sym tail.start) (tail_atoms l size alignment tail.run.end s asked) in
     (start, multiple_rest l.atom slot.offset slot.size start (subst (IsMultipleOf l.atom) (sym tail.end) (run_ends l tail.run.chunk tail.run.start tail.run.end s tail.last.run)))
 
-pub sound_with_tail : (l : Listing) (size alignment : ℕ) (slot : Slot) → IsSoundListing l → IsAskable l size alignment → IsTail l.space size alignment slot → IsSoundListing (listing_with_slot l slot)
+pub sound_with_tail : (l : FreeListState) (size alignment : ℕ) (slot : Slot) → IsSoundFreeList l → IsAskable l size alignment → IsTail l.space size alignment slot → IsSoundFreeList (listing_with_slot l slot)
 sound_with_tail l size alignment slot s asked tail =
     sound_with_slot l slot s (tail_lies l.space size alignment slot asked.nonempty tail) (tail_free l.space size alignment slot tail) (tail_of_atoms l size alignment slot s asked tail)
 
@@ -186,7 +186,7 @@ module _ (s : ListSpace) (object whole size alignment : ℕ) where
     inside = omega (arith, tail_below size alignment whole);
   }
 
-pub first_of_atoms : (l : Listing) (object whole size alignment : ℕ) → IsSoundListing l → IsAskable l size alignment → IsMultipleOf l.atom whole → IsOfAtoms l.atom (first_tail l.space object whole size alignment)
+pub first_of_atoms : (l : FreeListState) (object whole size alignment : ℕ) → IsSoundFreeList l → IsAskable l size alignment → IsMultipleOf l.atom whole → IsOfAtoms l.atom (first_tail l.space object whole size alignment)
 first_of_atoms l object whole size alignment s asked atoms =
     let start = tail_atoms l size alignment whole s asked in
     let end : tail_start size alignment whole + (whole - tail_start size alignment whole) ≡ whole = tail_ends size alignment whole in
@@ -195,17 +195,17 @@ first_of_atoms l object whole size alignment s asked atoms =
 -- The object of a new chunk.
 
 -- it is no held chunk's
-pub other_objects : (l : Listing) (p : Properties) (objects : ℕ → Option Object) (object : ℕ) → Agrees l p objects → objects object ≡ None → IsOther l object
+pub other_objects : (l : FreeListState) (p : Properties) (objects : ℕ → Option Object) (object : ℕ) → Agrees l p objects → objects object ≡ None → IsOther l object
 other_objects l p objects object agrees none k c is same =
     let there = if_some (λ chunk. HeldWith objects chunk.object (IsThere l.memory_type (sees_chunks l) chunk)) (map.get l.space.chunks k) c is (agrees.holds k) in
     let here : objects object ≡ Some there.0 = subst (λ n. objects n ≡ Some there.0) same there.1 in
     cc
 
 -- the allocator with a block in a new chunk
-abbrev pub listing_in_new_chunk : Listing → ℕ → ℕ → ℕ → Listing
+abbrev pub listing_in_new_chunk : FreeListState → ℕ → ℕ → ℕ → FreeListState
 listing_in_new_chunk l object size alignment = listing_with_slot (listing_with_chunk l object (chunk_size l size)) (first_tail l.space object (chunk_size l size) size alignment)
 
-pub sound_in_new_chunk : (l : Listing) (object size alignment : ℕ) → IsSoundListing l → IsOther l object → IsAskable l size alignment → IsSoundListing (listing_in_new_chunk l object size alignment)
+pub sound_in_new_chunk : (l : FreeListState) (object size alignment : ℕ) → IsSoundFreeList l → IsOther l object → IsAskable l size alignment → IsSoundFreeList (listing_in_new_chunk l object size alignment)
 sound_in_new_chunk l object size alignment s other asked =
     let whole : ℕ = chunk_size l size in
     let enough = chunk_size_enough l size s asked.nonempty asked.fits in
@@ -219,7 +219,7 @@ sound_in_new_chunk l object size alignment s other asked =
 -- A request as the books see it.
 
 -- one that is in order keeps them
-module _ (a : Account Listing) (size alignment flags : ℕ) (s : IsSoundListing a.allocator) where
+module _ (a : Account FreeListState) (size alignment flags : ℕ) (s : IsSoundFreeList a.allocator) where
   pub keeps_books : KeepsBooks (λ l. l.space.chunks) (λ slot. slot.chunk) (list_case a size alignment flags)
   keeps_books = record {
     count = refl;
@@ -238,12 +238,12 @@ module _ (a : Account Listing) (size alignment flags : ℕ) (s : IsSoundListing 
   }
 
 -- the object of a block in a new chunk
-made_in : (l after : Listing) (slot : Slot) (f g : ℕ → Option Object) → ObjectsAfter l (Ok slot) after f g → map.get l.space.chunks slot.chunk ≡ None
+made_in : (l after : FreeListState) (slot : Slot) (f g : ℕ → Option Object) → ObjectsAfter l (Ok slot) after f g → map.get l.space.chunks slot.chunk ≡ None
     → HasOneMore (IsNew l.memory_type (sees_chunks l)) (map.get after.space.chunks slot.chunk) slot.object f g
 made_in l after slot f g objects none = made_new (λ (q : Slot). q.chunk) (λ (q : Slot). q.object) l.memory_type l.props l.space.chunks after.space.chunks slot f g objects none
 
 -- the device held none of its name
-was_new : (a new : Account Listing) (size alignment flags : ℕ) (slot : Slot) (f g : ℕ → Option Object) → IsSoundListing a.allocator → slot ≡ first_tail a.allocator.space slot.object (chunk_size a.allocator size) size alignment
+was_new : (a new : Account FreeListState) (size alignment flags : ℕ) (slot : Slot) (f g : ℕ → Option Object) → IsSoundFreeList a.allocator → slot ≡ first_tail a.allocator.space slot.object (chunk_size a.allocator size) size alignment
     → ObjectsAfter a.allocator (Ok slot) new.allocator f g → f slot.object ≡ None
 was_new a new size alignment flags slot f g s is objects =
     let entered = (keeps_books a size alignment flags s).in_new slot is in
@@ -253,8 +253,8 @@ was_new a new size alignment flags slot f g s is objects =
 -- What is sound stays so.
 
 -- after every answer
-pub answers_sound : (a new : Account Listing) (size alignment flags : ℕ) (es : List Event) (answer : Result Slot AllocationError) (p : Properties) (f g : ℕ → Option Object) → IsSoundListing a.allocator → Agrees a.allocator p f
-    → IsAskable a.allocator size alignment → Answers (list_case a size alignment flags) es answer new → ObjectsAfter a.allocator answer new.allocator f g → IsSoundListing new.allocator
+pub answers_sound : (a new : Account FreeListState) (size alignment flags : ℕ) (es : List Event) (answer : Result Slot AllocationError) (p : Properties) (f g : ℕ → Option Object) → IsSoundFreeList a.allocator → Agrees a.allocator p f
+    → IsAskable a.allocator size alignment → Answers (list_case a size alignment flags) es answer new → ObjectsAfter a.allocator answer new.allocator f g → IsSoundFreeList new.allocator
 answers_sound a new size alignment flags es (Ok slot) p f g s agrees asked (inl gives) objects =
     rw (gives.state) (sound_with_tail a.allocator size alignment slot s asked gives.place)
 answers_sound a new size alignment flags es (Ok slot) p f g s agrees asked (inr gives) objects =
@@ -265,14 +265,14 @@ answers_sound a new size alignment flags es (Err e) p f g s agrees asked refused
 -- Agreement with the device.
 
 -- the memory type stays
-kept_type : (a new : Account Listing) (size alignment flags : ℕ) (es : List Event) (answer : Result Slot AllocationError) → Answers (list_case a size alignment flags) es answer new
+kept_type : (a new : Account FreeListState) (size alignment flags : ℕ) (es : List Event) (answer : Result Slot AllocationError) → Answers (list_case a size alignment flags) es answer new
     → (new.allocator.memory_type ≡ a.allocator.memory_type) × (new.allocator.props ≡ a.allocator.props)
 kept_type a new size alignment flags es (Ok slot) (inl gives) = rw (gives.state) (refl, refl)
 kept_type a new size alignment flags es (Ok slot) (inr gives) = rw (gives.state) (refl, refl)
 kept_type a new size alignment flags es (Err e) refused = rw (refused_keeps (list_case a size alignment flags) es e new refused) (refl, refl)
 
 -- after every answer
-pub answers_agree : (a new : Account Listing) (size alignment flags : ℕ) (es : List Event) (answer : Result Slot AllocationError) (p now : Properties) (f g : ℕ → Option Object) → IsSoundListing a.allocator → Agrees a.allocator p f → now ≡ p
+pub answers_agree : (a new : Account FreeListState) (size alignment flags : ℕ) (es : List Event) (answer : Result Slot AllocationError) (p now : Properties) (f g : ℕ → Option Object) → IsSoundFreeList a.allocator → Agrees a.allocator p f → now ≡ p
     → Answers (list_case a size alignment flags) es answer new → ObjectsAfter a.allocator answer new.allocator f g → Agrees new.allocator now g
 answers_agree a new size alignment flags es answer p now f g s agrees same answers objects =
     let kept = kept_type a new size alignment flags es answer answers in
@@ -281,24 +281,24 @@ answers_agree a new size alignment flags es answer p now f g s agrees same answe
 -- What is known of the block.
 
 -- a size and an alignment are those of a request, rounded
-pub record IsRoundedTo (l : Listing) (w : Wanted) (size alignment : ℕ) : Type 0 where
+pub record IsRoundedTo (l : FreeListState) (w : Wanted) (size alignment : ℕ) : Type 0 where
   pub enough : w.size ≤ size
   pub power : IsPowerOfTwo (w.align_mask + 1)
   pub aligned : w.align_mask + 1 ≤ alignment
   pub asked : IsAskable l size alignment
 
 -- where a tail starts
-starts_aligned : (l : Listing) (w : Wanted) (size alignment end at : ℕ) → IsRoundedTo l w size alignment → at ≡ tail_start size alignment end → at % (w.align_mask + 1) ≡ 0
+starts_aligned : (l : FreeListState) (w : Wanted) (size alignment end at : ℕ) → IsRoundedTo l w size alignment → at ≡ tail_start size alignment end → at % (w.align_mask + 1) ≡ 0
 starts_aligned l w size alignment end at r is =
     mod_from_multiple (w.align_mask + 1) at
     (subst (IsMultipleOf (w.align_mask + 1)) (sym is) (multiple_of_lower (w.align_mask + 1) alignment (tail_start size alignment end) r.power r.asked.power r.aligned (multiple_down (end - size) alignment)))
 
 -- what follows of a live block, once all is sound
-granted_now : (old : Listing) (w : Wanted) (now new : Listing) (slot : Slot) → new ≡ now → IsSoundListing new → IsLiveSlot now.space slot → now.atom ≡ old.atom → w.size ≤ slot.size → slot.offset % (w.align_mask + 1) ≡ 0
+granted_now : (old : FreeListState) (w : Wanted) (now new : FreeListState) (slot : Slot) → new ≡ now → IsSoundFreeList new → IsLiveSlot now.space slot → now.atom ≡ old.atom → w.size ≤ slot.size → slot.offset % (w.align_mask + 1) ≡ 0
     → ((other : Slot) → IsLiveSlot old.space other → other.object ≡ slot.object → (at : ℕ) → IsIn other.offset other.size at → IsIn slot.offset slot.size at → ⊥)
     → IsGranted old w new slot
 granted_now old w now new slot is sound live atom enough aligned was_free =
-    let s : IsSoundListing now = subst IsSoundListing is sound in
+    let s : IsSoundFreeList now = subst IsSoundFreeList is sound in
     let there = s.space.inside slot live in
     let atoms = subst (λ n. IsOfAtoms n slot) atom (s.slots slot live) in
     rw is (record {
@@ -310,12 +310,12 @@ granted_now old w now new slot is sound live atom enough aligned was_free =
       was_free = was_free;
     })
 
-pub answers_granted : (a new : Account Listing) (w : Wanted) (size alignment flags : ℕ) (es : List Event) (answer : Result Slot AllocationError) (p : Properties) (f g : ℕ → Option Object) → IsSoundListing a.allocator → Agrees a.allocator p f
+pub answers_granted : (a new : Account FreeListState) (w : Wanted) (size alignment flags : ℕ) (es : List Event) (answer : Result Slot AllocationError) (p : Properties) (f g : ℕ → Option Object) → IsSoundFreeList a.allocator → Agrees a.allocator p f
     → IsRoundedTo a.allocator w size alignment → Answers (list_case a size alignment flags) es answer new → ObjectsAfter a.allocator answer new.allocator f g → IfOk answer (IsGranted a.allocator w new.allocator)
 answers_granted a new w size alignment flags es (Ok slot) p f g s agrees r (inl gives) objects =
     let t = gives.place in
     let sound = answers_sound a new size alignment flags es (Ok slot) p f g s agrees r.asked (inl gives) objects in
-    granted_now a.allocator w (listing_with_slot a.allocator slot) new.allocator slot (ap (λ (x : Account Listing). x.allocator) gives.state) sound (now_live a.allocator.space slot) refl
+    granted_now a.allocator w (listing_with_slot a.allocator slot) new.allocator slot (ap (λ (x : Account FreeListState). x.allocator) gives.state) sound (now_live a.allocator.space slot) refl
     (omega (arith, r.enough, tail_enough a.allocator.space size alignment slot t)) (starts_aligned a.allocator w size alignment t.run.end slot.offset r t.start)
     (λ other live same at in_other in_slot.
     let there = s.space.inside other live in
@@ -328,7 +328,7 @@ answers_granted a new w size alignment flags es (Ok slot) p f g s agrees r (inr 
     let sound = answers_sound a new size alignment flags es (Ok slot) p f g s agrees r.asked (inr gives) objects in
     let first = first_tail a.allocator.space slot.object whole size alignment in
     let fits = chunk_size_enough a.allocator size s r.asked.nonempty r.asked.fits in
-    granted_now a.allocator w (listing_in_new_chunk a.allocator slot.object size alignment) new.allocator slot (ap (λ (x : Account Listing). x.allocator) gives.state) sound
+    granted_now a.allocator w (listing_in_new_chunk a.allocator slot.object size alignment) new.allocator slot (ap (λ (x : Account FreeListState). x.allocator) gives.state) sound
     (subst (IsLiveSlot (with_slot (with_numbered_chunk a.allocator.space slot.object whole) first)) (sym is) (now_live (with_numbered_chunk a.allocator.space slot.object whole) first)) refl
     (omega (arith, r.enough, first_enough a.allocator.space slot.object whole size alignment fits, ap (λ (q : Slot). q.size) is)) (starts_aligned a.allocator w size alignment whole slot.offset r (ap (λ (q : Slot). q.offset) is))
     (λ other live same at in_other in_slot.
@@ -338,11 +338,11 @@ answers_granted a new w size alignment flags es (Err e) p f g s agrees r answers
 
 -- What is looked for.
 
-pub askable : (l : Listing) (size mask : ℕ) → FitsAListChunk l size mask → IsAskable l size (mask + 1)
+pub askable : (l : FreeListState) (size mask : ℕ) → FitsAListChunk l size mask → IsAskable l size (mask + 1)
 askable l size mask r = record { nonempty = r.nonempty; fits = r.fits; power = power_of_bit (mask + 1) r.alignment.power; aligned = r.aligned }
 
 -- what a request is rounded to
-pub rounds : (l : Listing) (w : Wanted) (size alignment : ℕ) → size ≡ rounded l w → alignment ≡ alignment_of l w → IsSoundListing l → 0 < w.size → rounded l w ≤ l.final_chunk → IsAlignMask w.align_mask → IsRoundedTo l w size alignment
+pub rounds : (l : FreeListState) (w : Wanted) (size alignment : ℕ) → size ≡ rounded l w → alignment ≡ alignment_of l w → IsSoundFreeList l → 0 < w.size → rounded l w ≤ l.final_chunk → IsAlignMask w.align_mask → IsRoundedTo l w size alignment
 rounds l w size alignment size_is alignment_is s some fits mask =
     let atom : IsPowerOfTwo l.atom = (s.atom.0, s.atom.1.1) in
     let enough = up_enough w.size l.atom some (omega (arith, s.atom.1.1, pow_pos s.atom.0)) in
@@ -359,19 +359,19 @@ rounds l w size alignment size_is alignment_is s some fits mask =
       };
     }
 
--- What is told of the size and the alignment that are looked for is told of what is wanted.
-pub told_first : (a : Account Listing) (w : Wanted) (size alignment : ℕ) → size ≡ rounded a.allocator w → alignment ≡ alignment_of a.allocator w → (first : Option AllocationError)
+-- What is said of the size and the alignment that are looked for is said of what is wanted.
+pub told_first : (a : Account FreeListState) (w : Wanted) (size alignment : ℕ) → size ≡ rounded a.allocator w → alignment ≡ alignment_of a.allocator w → (first : Option AllocationError)
     → RefusesFirst (list_case a size alignment w.flags) first → RefusesFirst (case_of a w) first
 told_first a w size alignment size_is alignment_is first is = subst (λ n. RefusesFirst (list_case a n (alignment_of a.allocator w) w.flags) first) size_is (subst (λ n. RefusesFirst (list_case a size n w.flags) first) alignment_is is)
 
 -- A new chunk, step by step.
 
 -- what the device is asked for it
-pub question_is : (l : Listing) (size whole flags : ℕ) (visible : Bool) → whole ≡ chunk_size l size → visible ≡ sees_chunks l → chunk_question whole l.memory_type flags visible ≡ question l size flags
+pub question_is : (l : FreeListState) (size whole flags : ℕ) (visible : Bool) → whole ≡ chunk_size l size → visible ≡ sees_chunks l → chunk_question whole l.memory_type flags visible ≡ question l size flags
 question_is l size whole flags visible whole_is sees = λ i. record { size = whole_is i; memory_type = l.memory_type; flags = flags; mapped = sees i }
 
 -- the allocator with a block in it
-pub grown_is : (l : Listing) (s now : ListSpace) (slot : Slot) (object whole next size alignment : ℕ) → s ≡ l.space → slot ≡ first_tail s object whole size alignment → now ≡ with_slot (with_numbered_chunk s object whole) slot
+pub grown_is : (l : FreeListState) (s now : ListSpace) (slot : Slot) (object whole next size alignment : ℕ) → s ≡ l.space → slot ≡ first_tail s object whole size alignment → now ≡ with_slot (with_numbered_chunk s object whole) slot
     → whole ≡ chunk_size l size → next ≡ next_size l whole → record l { space = now; next_chunk = next } ≡ listing_in_new_chunk l object size alignment
 grown_is l s now slot object whole next size alignment s_is slot_is now_is whole_is next_is =
     let space : now ≡ with_slot (with_numbered_chunk l.space object (chunk_size l size)) (first_tail l.space object (chunk_size l size) size alignment) =

@@ -7,7 +7,7 @@ use Rattle.gpu_alloc_base.specs.Chunks.{Chunk}
 use Rattle.gpu_alloc_freelist.specs.FreeList.{no_list_space}
 use Rattle.gpu_alloc_freelist.specs.FreeListAllocator.{opened}
 use Rattle.gpu_alloc_freelist.specs.FreeListInside.{IsListed}
-use Rattle.gpu_alloc_freelist.specs.FreeListSound.{IsSoundListSpace, IsSoundListing}
+use Rattle.gpu_alloc_freelist.specs.FreeListSound.{IsSoundFreeList, IsSoundListSpace}
 use Rattle.gpu_alloc_freelist.specs.FreeListState.{IsLiveSlot}
 use Rattle.gpu_alloc_base.specs.declared.free_list_block.Slot.{Slot}
 use Rattle.gpu_alloc_base.proofs.Lists.{contains_none}
@@ -45,7 +45,7 @@ listed_none = record {
 }
 
 -- sizes of whole atoms, the largest of which is no less than the first
-pub sound_opened : (starting final t p atom : ℕ) → IsMultipleOf atom starting → 0 < starting → IsMultipleOf atom final → starting ≤ final → final ≤ 2 ^ 62 → IsPowerUpTo 62 atom → IsSoundListing (opened starting final t p atom)
+pub sound_opened : (starting final t p atom : ℕ) → IsMultipleOf atom starting → 0 < starting → IsMultipleOf atom final → starting ≤ final → final ≤ 2 ^ 62 → IsPowerUpTo 62 atom → IsSoundFreeList (opened starting final t p atom)
 sound_opened starting final t p atom whole some whole_final le bound power = record {
   space = sound_space;
   one_object = λ k n c d is_c is_d same. absurd (none_held k c is_c);

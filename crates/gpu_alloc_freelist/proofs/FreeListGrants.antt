@@ -423,7 +423,7 @@ module _ (s : ListSpace) (object whole size alignment : ℕ) (slot : Slot) (of :
 
 module _ (chunks more : HeldChunks) (latest now object whole : ℕ) (live new : set.FinSet slot_cmp) (slot : Slot) (chunks_are : more ≡ map.insert chunks (latest + 1) (record { object = object; size = whole })) (now_is : now ≡ latest + 1)
     (live_are : new ≡ set.insert live slot) where
-  -- the stores tell the space with the chunk and the block
+  -- the stores describe the space with the chunk and the block
   pub with_chunk_in : list_space_in more new now ≡ with_slot (with_numbered_chunk (list_space_in chunks live latest) object whole) slot
   with_chunk_in = λ k. record { chunks = chunks_are k; live = live_are k; latest = now_is k }
 

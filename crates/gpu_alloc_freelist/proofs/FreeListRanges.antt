@@ -9,8 +9,8 @@ use Rattle.gpu_alloc_base.specs.FreeRuns.{AreRising, IsBefore, IsFreeRun}
 use Rattle.gpu_alloc_base.specs.RangeOrder.{same_start}
 use Rattle.gpu_alloc_base.specs.declared.region.FreeListRegion.{FreeListRegion}
 use Rattle.gpu_alloc_freelist.specs.FreeListAllocator.{object_of, IsRunOf}
-use Rattle.gpu_alloc_freelist.specs.FreeListSound.{IsSoundListing}
-use Rattle.gpu_alloc_freelist.specs.FreeListState.{ListSpace, Listing, IsFreeIn}
+use Rattle.gpu_alloc_freelist.specs.FreeListSound.{IsSoundFreeList}
+use Rattle.gpu_alloc_freelist.specs.FreeListState.{ListSpace, FreeListState, IsFreeIn}
 use Rattle.gpu_alloc_base.proofs.ListedRanges.{told_object, listed, start_apart}
 use Rattle.gpu_alloc_base.proofs.RangeOrder.{starts_apart}
 
@@ -44,7 +44,7 @@ module _ (s : ListSpace) (regions : List FreeListRegion) (runs : (r : FreeListRe
   pub all_runs : (r : FreeRange) → Contains (map (range_of s) regions) r ↔ IsRunOf s r
   all_runs = listed (range_of s) regions (IsRunOf s) is_run run_is
 
-module _ (l : Listing) (sound : IsSoundListing l) (regions : List FreeListRegion) (runs : (r : FreeListRegion) → Contains regions r ↔ IsFreeRun (IsFreeIn l.space) r.chunk r.start r.end) (rising : AreRising regions) where
+module _ (l : FreeListState) (sound : IsSoundFreeList l) (regions : List FreeListRegion) (runs : (r : FreeListRegion) → Contains regions r ↔ IsFreeRun (IsFreeIn l.space) r.chunk r.start r.end) (rising : AreRising regions) where
   -- one that lies before another is of another chunk, or starts before it
   two_runs : (r t : FreeListRegion) → Contains regions r → Contains regions t → IsBefore r t → same_start (range_of l.space r) (range_of l.space t) ≡ false
   two_runs r t has_r has_t before = starts_apart (range_of l.space r) (range_of l.space t) (λ object start.

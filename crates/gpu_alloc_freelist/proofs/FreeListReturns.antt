@@ -136,7 +136,7 @@ module _ (F : ℕ → ℕ → Type 0) (regions : List FreeListRegion) (runs : Ar
         ];
   }
 
--- A chunk goes.
+-- A chunk is removed.
 
 module _ (s : ListSpace) (sound : IsSoundListSpace s) (regions : List FreeListRegion) (runs : AreRuns regions (IsFreeIn s)) where
   -- a region lies in a held chunk

@@ -4,8 +4,8 @@ use Rattle.std.specs.FinMap as map
 use Rattle.std.proofs.lemmas.Bool.{cases_lt, cases_eq}
 use Rattle.gpu_alloc_base.specs.Chunks.{Chunk}
 use Rattle.gpu_alloc_freelist.specs.FreeList.{IsWhollyFree, HasLastRun, MayGo, without_chunk, without_slot}
-use Rattle.gpu_alloc_freelist.specs.FreeListSound.{IsSoundListing}
-use Rattle.gpu_alloc_freelist.specs.FreeListState.{ListSpace, Listing, IsFreeIn}
+use Rattle.gpu_alloc_freelist.specs.FreeListSound.{IsSoundFreeList}
+use Rattle.gpu_alloc_freelist.specs.FreeListState.{ListSpace, FreeListState, IsFreeIn}
 use Rattle.gpu_alloc_base.specs.FreeRuns.{IsBefore, AreFree, IsFreeRun, IsLastRun}
 use Rattle.gpu_alloc_base.specs.declared.free_list_block.Slot.{Slot}
 use Rattle.gpu_alloc_base.specs.declared.region.FreeListRegion.{FreeListRegion}
@@ -120,7 +120,7 @@ module _ (s : ListSpace) (keep_last : Bool) (n : ℕ) where
 -- The allocator stays sound.
 
 -- with a block less
-pub sound_without_slot : (l : Listing) (slot : Slot) → IsSoundListing l → IsSoundListing (record l { space = without_slot l.space slot })
+pub sound_without_slot : (l : FreeListState) (slot : Slot) → IsSoundFreeList l → IsSoundFreeList (record l { space = without_slot l.space slot })
 sound_without_slot l slot sound = record {
   space = space_without_slot l.space slot sound.space;
   one_object = sound.one_object;
@@ -132,7 +132,7 @@ sound_without_slot l slot sound = record {
 }
 
 -- with a chunk less in which nothing is live
-pub sound_without_chunk : (l : Listing) (n : ℕ) → IsSoundListing l → IsWhollyFree l.space n → IsSoundListing (record l { space = without_chunk l.space n })
+pub sound_without_chunk : (l : FreeListState) (n : ℕ) → IsSoundFreeList l → IsWhollyFree l.space n → IsSoundFreeList (record l { space = without_chunk l.space n })
 sound_without_chunk l n sound free = record {
   space = space_without_chunk l.space n sound.space free.unused;
   one_object = λ k m c d k_is m_is. sound.one_object k m c d (kept_key l.space.chunks n k c k_is).1 (kept_key l.space.chunks n m d m_is).1;

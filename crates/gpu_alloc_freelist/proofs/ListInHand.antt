@@ -37,7 +37,7 @@ slot_leaves s new slot is = grant_leaves slot_total slot_exact chunk_bytes_of s.
 pub same_leaves : (s new : ListSpace) → new ≡ s → LeavesBlocks s new
 same_leaves s new is = leaves_same chunk_bytes_of s.live new.live (ap (λ (x : ListSpace). x.live) is)
 
--- A block goes, and no other.
+-- A block is removed, and no other.
 
 pub slot_removes : (s new : ListSpace) (slot : Slot) → IsLiveSlot s slot → new ≡ without_slot s slot → RemovesBlock s slot new
 slot_removes s new slot live is = return_removes slot_total slot_exact chunk_bytes_of s.live slot new.live (ap (λ (x : ListSpace). x.live) is) live

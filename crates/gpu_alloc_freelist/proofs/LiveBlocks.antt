@@ -1,4 +1,4 @@
--- Live blocks in a slab, each under a key: where one stands, and how many are left as one comes or goes.
+-- Live blocks in a slab, each under a key: where one stands, and how many are left as one is added or removed.
 use Rattle.std.proofs.Common.{◌≡◌, ◌≢◌, ◌==◌, ◌&&◌, ℕ, Bool, false, Some, IsTrue, ◌∙◌, ap}
 use Rattle.std.proofs.lemmas.Bool.Decides.{Decides-and, Decides-eqb}
 use Rattle.std.specs.Bool.{Decides}

@@ -1,4 +1,4 @@
--- Rows with rising numbers, as a finite map by number, as one comes or goes.
+-- Rows with rising numbers, as a finite map by number, as one is added or removed.
 use Rattle.std.proofs.Common.{◌≡◌, ◌≢◌, inl, inr, ℕ, ◌+◌, ◌<◌, List, [], ◌∷◌, ◌++◌, length, get_or, Some, None, sym, ◌∙◌, ap, subst, arith}
 use Rattle.std.proofs.lemmas.Bool.{cases_lt}
 use Rattle.std.proofs.lemmas.List.{get_or_default}
@@ -63,11 +63,11 @@ module _ {T X : Type 0} (number : T → ℕ) (value : T → X) where
   pub pushed : (rows : List T) (x : T) → AreNumbered number rows → ((row : T) → Contains rows row → number row < number x) → by_number number value (rows ++ x ∷ []) ≡ map.insert (by_number number value rows) (number x) (value x)
   pushed rows x rise greater = named_more nat_cmp_total nat_cmp-IsAntisymmetric number value rows (rows ++ x ∷ []) x (once (rows ++ x ∷ []) (numbered_push rows x rise greater)) (rows_more rows x)
 
-  -- a row goes
+  -- a row is removed
   pub numbered_remove : (rows : List T) (i : ℕ) → AreNumbered number rows → i < length rows → AreNumbered number (remove rows i)
   numbered_remove rows i rise lt = all_pairs_remove (λ a b. number a < number b) rows i lt rise
 
-  -- the row that goes has another number than each that stays
+  -- the row that is removed has another number than each that stays
   other_number : (rows : List T) (i : ℕ) (d row : T) → AreNumbered number rows → i < length rows → Contains (remove rows i) row → number row ≢ number (get_or rows i d)
   other_number rows i d row rise lt (k, within, is) same =
       let size : length (remove rows i) + 1 ≡ length rows = length-remove rows i lt in

@@ -1,4 +1,4 @@
--- The list of the free runs, as one loses its tail or goes whole, and as a block is joined with its neighbours.
+-- The list of the free runs, as one loses its tail or is removed whole, and as a block is joined with its neighbours.
 use Rattle.std.proofs.Common.{◌≡◌, ◌≢◌, ◌⊎◌, inl, inr, ℕ, suc, ◌+◌, ◌-◌, ◌<◌, ◌≤◌, List, ◌∷◌, ◌++◌, length, take, drop, set, get_or, refl, sym, ◌∙◌, ap, subst, arith}
 use Rattle.std.specs.List.{Contains, remove}
 use Rattle.std.proofs.lemmas.Bool.{cases_lt, cases_eq, cases_order}
@@ -109,7 +109,7 @@ apart_after : (r s : FreeListRegion) → IsBefore s r → Touches r s → ⊥
 apart_after r s (inl chunk) t = omega (arith, chunk, t.chunk)
 apart_after r s (inr same) t = omega (arith, same.1, t.low)
 
--- A run loses its tail, or goes whole.
+-- A run loses its tail, or is removed whole.
 
 module _ (F : ℕ → ℕ → Type 0) (regions : List FreeListRegion) (i : ℕ) (d : FreeListRegion) (runs : AreRuns regions F) (within : i < length regions) where
   abbrev r : FreeListRegion

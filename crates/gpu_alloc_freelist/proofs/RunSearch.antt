@@ -55,7 +55,7 @@ few_more n old now next window le is halved some =
     let m = mul-le-mul_left (2 ^ (now - old)) one in
     rw e (omega (arith, m, halved))
 
--- What a comparison tells.
+-- What a comparison says.
 
 less_starts : (r : FreeListRegion) (slot : Slot) (order : Ordering) → order ≡ region_cmp r slot → (ordering_index order == 0) ≡ true → StartsBefore r (region_of slot)
 less_starts r slot order is less = search rules

@@ -1,5 +1,5 @@
--- The runs of a list, as one loses its tail or goes, and as a range comes back: whatever the free bytes are, they stay
--- exactly those.
+-- The runs of a list, as one loses its tail or is removed, and as a range comes back: whatever the free bytes are, they
+-- stay exactly those.
 use Rattle.std.proofs.Common.{◌≡◌, inl, inr, ℕ, ◌+◌, ◌<◌, ◌≤◌, List, length, get_or, refl, sym, ◌∙◌, ap, subst, arith}
 use Rattle.std.specs.List.{All, Contains, remove}
 use Rattle.std.proofs.lemmas.Bool.{cases_lt, cases_order}
@@ -14,7 +14,7 @@ use Rattle.gpu_alloc_freelist.proofs.RunLists.{run_goes, tail_goes, whole_goes, 
 -- Of any free bytes.
 
 module _ (F : ℕ → ℕ → Type 0) where
-  -- a run loses its tail, or goes whole
+  -- a run loses its tail, or is removed whole
   pub cut_beside : (old new : List FreeListRegion) (i start : ℕ) (d : FreeListRegion) → AreRuns old F → i < length old
       → (get_or old i d).start ≤ start → start < (get_or old i d).end → Cuts old i start new → AreRunsBeside new F (record (get_or old i d) { start = start })
   cut_beside old new i start d runs within from to cuts = elim (cuts d) [
@@ -109,7 +109,7 @@ module _ (regions : List FreeListRegion) (sorted : AreSorted regions) where
     in_region chunk at (inl covered) out = covered
     in_region chunk at (inr inside) out = absurd (out inside.0 inside.1 inside.2)
 
-  -- they stay sorted as one loses its tail or goes
+  -- they stay sorted as one loses its tail or is removed
   pub cut_sorted : (new : List FreeListRegion) (i start : ℕ) (d : FreeListRegion) → i < length regions
       → (get_or regions i d).start ≤ start → start < (get_or regions i d).end → Cuts regions i start new → AreSorted new
   cut_sorted new i start d within from to cuts =

@@ -1,4 +1,4 @@
--- The chunks and the live blocks of a free list, as one comes or goes.
+-- The chunks and the live blocks of a free list, as one is added or removed.
 use Rattle.std.proofs.Common.{◌≡◌, ◌≢◌, ◌⊎◌, inl, inr, ℕ, ◌+◌, ◌^◌, ◌<◌, Some, None, refl, sym, ◌∙◌, ap, subst, arith}
 use Rattle.std.specs.FinMap as map
 use Rattle.gpu_alloc_base.specs.Chunks.{Chunk}
@@ -84,7 +84,7 @@ space_with_chunk s object size sound some fits =
       apart = sound.apart;
     }
 
--- A block goes.
+-- A block is removed.
 
 -- the space stays sound
 pub space_without_slot : (s : ListSpace) (slot : Slot) → IsSoundListSpace s → IsSoundListSpace (without_slot s slot)
@@ -97,7 +97,7 @@ space_without_slot s slot sound = record {
   apart = λ x y is_x is_y. sound.apart x y ((slot_removed s.live slot x).0 is_x).1 ((slot_removed s.live slot y).0 is_y).1;
 }
 
--- A chunk goes.
+-- A chunk is removed.
 
 module _ (s : ListSpace) (n : ℕ) where
   -- a byte of another chunk is free as before

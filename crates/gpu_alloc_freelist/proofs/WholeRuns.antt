@@ -41,7 +41,7 @@ not_whole held r not = split (is_whole held r) refl
     split true is = absurd (not ((whole_test held r).0 is))
     split false is = is
 
--- what a call that tells it adds
+-- what a call that reports it adds
 pub one_is : (held : HeldChunks) (r : FreeListRegion) (b : Bool) → IsTrue b ↔ IsWholeChunk held r → one (is_whole held) r ≡ bool_byte b
 one_is held r true tells = ap (λ b. cond b 1 0) ((whole_test held r).1 (tells.0 refl))
 one_is held r false tells = ap (λ b. cond b 1 0) (not_whole held r (λ w. let yes = tells.1 w in absurd (cc)))
@@ -50,7 +50,7 @@ one_is held r false tells = ap (λ b. cond b 1 0) (not_whole held r (λ w. let y
 ends_early : (held : HeldChunks) (r : FreeListRegion) (c : Chunk) → map.get held r.chunk ≡ Some c → r.end < c.size → is_whole held r ≡ false
 ends_early held r c is early = not_whole held r (λ w. let e = w.is in let same : w.chunk ≡ c = cc in omega (arith, early, w.end, ap (λ (x : Chunk). x.size) same))
 
--- one that starts behind its chunk's start
+-- one that starts after its chunk's start
 starts_late : (held : HeldChunks) (r : FreeListRegion) → 0 < r.start → is_whole held r ≡ false
 starts_late held r late = not_whole held r (λ w. omega (arith, late, w.start))
 
@@ -75,7 +75,7 @@ module _ (held : HeldChunks) where
       let none : one (is_whole held) r ≡ 0 = ap (λ b. cond b 1 0) (ends_early held r c is early) in
       omega (arith, count_both (is_whole held) regions (r ∷ []), count_next (is_whole held) r [], none)
 
-  -- a run loses its tail or goes
+  -- a run loses its tail or is removed
   pub wholes_cut : (old new : List FreeListRegion) (i start : ℕ) (d : FreeListRegion) (c : Chunk) → i < length old → map.get held (get_or old i d).chunk ≡ Some c → start < c.size → Cuts old i start new
       → wholes held new + one (is_whole held) (get_or old i d) ≡ wholes held old
   wholes_cut old new i start d c within is early cuts = elim (cuts d) [
@@ -120,7 +120,7 @@ module _ (held : HeldChunks) where
       let is : one (is_whole held) (get_or old i d) ≡ 1 = ap (λ b. cond b 1 0) ((whole_test held (get_or old i d)).1 whole) in
       omega (arith, count_removed (is_whole held) old i d within, is)
 
-  -- What the count tells.
+  -- What the count says.
 
   -- one that may be taken is counted
   pub taken_counts : (regions : List FreeListRegion) (keep_last : Bool) (d : FreeListRegion) (i : ℕ) → MayBeTaken held regions keep_last d i → 0 < wholes held regions

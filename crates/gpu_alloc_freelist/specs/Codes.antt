@@ -9,7 +9,7 @@ use Rattle.gpu_alloc_base.specs.Accounts.{HeldChunks}
 use Rattle.gpu_alloc_base.specs.Chunks.{Chunk}
 use Rattle.gpu_alloc_base.specs.declared.region.FreeListRegion.{FreeListRegion}
 use Rattle.gpu_alloc_freelist.specs.Chunks.{NumberedChunks}
-use Rattle.gpu_alloc_freelist.specs.FreeListState.{ListSpace, ListStore, Listing}
+use Rattle.gpu_alloc_freelist.specs.FreeListState.{FreeListState, ListSpace, ListStore}
 use Rattle.gpu_alloc_freelist.specs.Live.{LiveBlocks}
 use Rattle.gpu_alloc_freelist.specs.Runs.{Runs}
 use Rattle.gpu_alloc_base.specs.Slots.{slot_cmp}
@@ -26,7 +26,7 @@ list_store_code =
     code_by (ListSpace × ℕ) (coded× list_space_code coded_ℕ) (λ s. (s.space, s.room)) (λ c. record { space = c.0; room = c.1 })
     (λ _. refl)
 
-abbrev pub listing_code : Coded Listing
+abbrev pub listing_code : Coded FreeListState
 listing_code =
     code_by (ListSpace × ((ℕ × ℕ) × (ℕ × (ℕ × ℕ))))
     (coded× list_space_code (coded× (coded× coded_ℕ coded_ℕ) (coded× coded_ℕ (coded× coded_ℕ coded_ℕ))))

@@ -22,7 +22,7 @@ use Rattle.gpu_alloc_base.specs.InHand as in_hand
 use Rattle.gpu_alloc_base.specs.InHand.{Bytes}
 use Rattle.gpu_alloc_freelist.specs.FreeList.{HasPlace, IsTail, HasNumber, MayGo, with_slot, without_slot}
 use Rattle.gpu_alloc_freelist.specs.FreeList.{with_numbered_chunk, first_tail, no_list_space}
-use Rattle.gpu_alloc_freelist.specs.FreeListState.{ListSpace, Listing, IsLiveSlot, IsFreeIn}
+use Rattle.gpu_alloc_freelist.specs.FreeListState.{ListSpace, FreeListState, IsLiveSlot, IsFreeIn}
 use Rattle.gpu_alloc_base.specs.FreeRuns.{IsFreeRun}
 use Rattle.gpu_alloc_base.specs.NewChunk.{ChunkQuestion}
 use Rattle.gpu_alloc_base.specs.Sizes.{up, grown_chunk, doubled_chunk}
@@ -31,34 +31,34 @@ use Rattle.gpu_alloc_base.specs.declared.error.AllocationError.{AllocationError}
 use Rattle.gpu_alloc_base.specs.declared.heap.Heap.{Heap}
 
 -- the size of a block for a request, in whole atoms
-abbrev pub rounded : Listing → Wanted → ℕ
+abbrev pub rounded : FreeListState → Wanted → ℕ
 rounded l w = up w.size l.atom
 
 -- the alignment of a block: the greater of the request's and the atom
-abbrev pub alignment : Listing → Wanted → ℕ
+abbrev pub alignment : FreeListState → Wanted → ℕ
 alignment l w = max (w.align_mask + 1) l.atom
 
 -- the size of a chunk for a block of this size, and the next one's once it was made
-abbrev pub chunk_size : Listing → ℕ → ℕ
+abbrev pub chunk_size : FreeListState → ℕ → ℕ
 chunk_size l size = grown_chunk l.next_chunk l.final_chunk size
 
-abbrev pub next_size : Listing → ℕ → ℕ
+abbrev pub next_size : FreeListState → ℕ → ℕ
 next_size l size = doubled_chunk l.final_chunk size
 
 -- whether the chunks are host-visible
-abbrev pub sees_chunks : Listing → Bool
+abbrev pub sees_chunks : FreeListState → Bool
 sees_chunks l = has_bit l.props host_visible
 
-abbrev pub question : Listing → ℕ → ℕ → ChunkQuestion
+abbrev pub question : FreeListState → ℕ → ℕ → ChunkQuestion
 question l size flags =
     record { size = chunk_size l size; memory_type = l.memory_type; flags = flags; mapped = sees_chunks l }
 
 -- one more block is live
-abbrev pub listing_with_slot : Listing → Slot → Listing
+abbrev pub listing_with_slot : FreeListState → Slot → FreeListState
 listing_with_slot l slot = record l { space = with_slot l.space slot }
 
 -- one more chunk is held, with a block at its tail
-abbrev pub in_new_chunk : Account Listing → ℕ → ℕ → ℕ → Account Listing
+abbrev pub in_new_chunk : Account FreeListState → ℕ → ℕ → ℕ → Account FreeListState
 in_new_chunk a object size alignment =
     let l = a.allocator in
     let whole = chunk_size l size in
@@ -73,7 +73,7 @@ in_new_chunk a object size alignment =
     }
 
 -- A request for a block of the rounded size. A chunk of the largest size always fits.
-abbrev pub list_case : Account Listing → ℕ → ℕ → ℕ → Case Slot (Account Listing)
+abbrev pub list_case : Account FreeListState → ℕ → ℕ → ℕ → Case Slot (Account FreeListState)
 list_case a size alignment flags = record {
   before = a;
   Fits = Unit {0};
@@ -92,20 +92,20 @@ list_case a size alignment flags = record {
 }
 
 -- a request for what is wanted
-abbrev pub case_of : Account Listing → Wanted → Case Slot (Account Listing)
+abbrev pub case_of : Account FreeListState → Wanted → Case Slot (Account FreeListState)
 case_of a w = list_case a (rounded a.allocator w) (alignment a.allocator w) w.flags
 
-abbrev pub Allocates : Account Listing → Wanted → List Event → Result Slot AllocationError → Account Listing → Type 0
+abbrev pub Allocates : Account FreeListState → Wanted → List Event → Result Slot AllocationError → Account FreeListState → Type 0
 Allocates a w es answer new = Answers (case_of a w) es answer new
 
 -- What a call answers, from the allocator, the heap and the number of objects that may still be held, before and after
 -- it. The first takes the request, the second a block of the rounded size.
-abbrev pub CallAllocates : Listing → Heap → ℕ → Wanted → Result Slot AllocationError → Listing → Heap → ℕ → List Event
+abbrev pub CallAllocates : FreeListState → Heap → ℕ → Wanted → Result Slot AllocationError → FreeListState → Heap → ℕ → List Event
     → Type 0
 CallAllocates l heap remaining w answer new new_heap new_remaining es =
     Allocates (account l heap remaining) w es answer (account new new_heap new_remaining)
 
-abbrev pub CallAnswers : Listing → Heap → ℕ → ℕ → ℕ → AllocationFlags → Result Slot AllocationError → Listing → Heap → ℕ
+abbrev pub CallAnswers : FreeListState → Heap → ℕ → ℕ → ℕ → AllocationFlags → Result Slot AllocationError → FreeListState → Heap → ℕ
     → List Event → Type 0
 CallAnswers l heap remaining size alignment flags answer new new_heap new_remaining es =
     Answers (list_case (account l heap remaining) size alignment (allocation_bits flags)) es answer
@@ -117,7 +117,7 @@ abbrev pub AreRisingNumbers : List ℕ → Type 0
 AreRisingNumbers numbers = (i j d : ℕ) → i < j → j < length numbers → get_or numbers i d < get_or numbers j d
 
 -- These chunks are released, in rising number: all that may be.
-pub record AreGone (s : ListSpace) (keep_last : Bool) (gone : List ℕ) : Type 0 where
+pub record AreReleased (s : ListSpace) (keep_last : Bool) (gone : List ℕ) : Type 0 where
   pub rising : AreRisingNumbers gone
   pub all : (number : ℕ) → Contains gone number ↔ MayGo s keep_last number
 
@@ -137,8 +137,8 @@ without_numbers chunks [] = chunks
 without_numbers chunks (number ∷ numbers) = without_numbers (map.remove chunks number) numbers
 
 -- their objects are released in this order
-abbrev pub LetsGo : Account Listing → List ℕ → List Event → Account Listing → Type 0
-LetsGo a gone es new =
+abbrev pub Releases : Account FreeListState → List ℕ → List Event → Account FreeListState → Type 0
+Releases a gone es new =
     (es ≡ list.map (λ number. Deallocated (object_of a.allocator.space number)) gone)
     × (new ≡ record {
       allocator = record a.allocator
@@ -153,21 +153,21 @@ without_objects_of s objects [] = objects
 without_objects_of s objects (number ∷ numbers) = without_objects_of s (put objects (object_of s number) None) numbers
 
 -- the block is no longer live
-abbrev pub account_without : Account Listing → Slot → Account Listing
+abbrev pub account_without : Account FreeListState → Slot → Account FreeListState
 account_without a slot = record a { allocator = record a.allocator { space = without_slot a.allocator.space slot } }
 
 -- A block is returned, and then every wholly free chunk is released except that of the last run.
-abbrev pub Frees : Account Listing → Slot → List Event → Account Listing → Type 0
+abbrev pub Frees : Account FreeListState → Slot → List Event → Account FreeListState → Type 0
 Frees a slot es new =
     (gone : List ℕ)
-    × (AreGone (without_slot a.allocator.space slot) true gone × LetsGo (account_without a slot) gone es new)
+    × (AreReleased (without_slot a.allocator.space slot) true gone × Releases (account_without a slot) gone es new)
 
 -- every wholly free chunk is released
-abbrev pub Cleans : Account Listing → List Event → Account Listing → Type 0
-Cleans a es new = (gone : List ℕ) × (AreGone a.allocator.space false gone × LetsGo a gone es new)
+abbrev pub Cleans : Account FreeListState → List Event → Account FreeListState → Type 0
+Cleans a es new = (gone : List ℕ) × (AreReleased a.allocator.space false gone × Releases a gone es new)
 
 -- nothing is held
-abbrev pub opened : ℕ → ℕ → ℕ → ℕ → ℕ → Listing
+abbrev pub opened : ℕ → ℕ → ℕ → ℕ → ℕ → FreeListState
 opened starting final memory_type props atom = record {
   space = no_list_space;
   next_chunk = starting;
@@ -178,7 +178,7 @@ opened starting final memory_type props atom = record {
 }
 
 -- What a caller may know of a granted block without following its steps.
-pub record IsGranted (old : Listing) (w : Wanted) (new : Listing) (slot : Slot) : Type 0 where
+pub record IsGranted (old : FreeListState) (w : Wanted) (new : FreeListState) (slot : Slot) : Type 0 where
   pub enough : w.size ≤ slot.size
   pub aligned : slot.offset % (w.align_mask + 1) ≡ 0
   pub whole_atoms : (slot.offset % old.atom ≡ 0) × (slot.size % old.atom ≡ 0)
@@ -191,36 +191,36 @@ pub record IsGranted (old : Listing) (w : Wanted) (new : Listing) (slot : Slot) 
 -- Device and allocator.
 
 -- the device has the memory type with its properties, and holds each chunk
-abbrev pub Agrees : Listing → Properties → (ℕ → Option Object) → Type 0
+abbrev pub Agrees : FreeListState → Properties → (ℕ → Option Object) → Type 0
 Agrees l p objects = accounts.Agrees l.memory_type l.props l.space.chunks p objects
 
 -- how a request changes the device's objects
-abbrev pub ObjectsAfter : Listing → Result Slot AllocationError → Listing → (ℕ → Option Object) → (ℕ → Option Object)
+abbrev pub ObjectsAfter : FreeListState → Result Slot AllocationError → FreeListState → (ℕ → Option Object) → (ℕ → Option Object)
     → Type 0
 ObjectsAfter l answer after old new =
     accounts.ObjectsAfter (λ slot. slot.chunk) (λ slot. slot.object) l.memory_type l.props l.space.chunks answer
     after.space.chunks old new
 
 -- how a return changes them: by the chunks that are released with it
-abbrev pub ObjectsFreed : Listing → Slot → (ℕ → Option Object) → (ℕ → Option Object) → Type 0
+abbrev pub ObjectsFreed : FreeListState → Slot → (ℕ → Option Object) → (ℕ → Option Object) → Type 0
 ObjectsFreed l slot old new =
-    (gone : List ℕ) × (AreGone (without_slot l.space slot) true gone × (new ≡ without_objects_of l.space old gone))
+    (gone : List ℕ) × (AreReleased (without_slot l.space slot) true gone × (new ≡ without_objects_of l.space old gone))
 
 -- and by those that are released without a return
-abbrev pub ObjectsCleaned : Listing → (ℕ → Option Object) → (ℕ → Option Object) → Type 0
-ObjectsCleaned l old new = (gone : List ℕ) × (AreGone l.space false gone × (new ≡ without_objects_of l.space old gone))
+abbrev pub ObjectsCleaned : FreeListState → (ℕ → Option Object) → (ℕ → Option Object) → Type 0
+ObjectsCleaned l old new = (gone : List ℕ) × (AreReleased l.space false gone × (new ≡ without_objects_of l.space old gone))
 
 -- The chunks are released one by one, each the first that may be, until none may be.
-abbrev pub LetsWholeChunksGo : Bool → Account Listing → List ℕ → List Event → Account Listing → (ℕ → Option Object)
+abbrev pub LetsWholeChunksGo : Bool → Account FreeListState → List ℕ → List Event → Account FreeListState → (ℕ → Option Object)
     → (ℕ → Option Object) → Type 0
 LetsWholeChunksGo keep_last a gone es new old_objects new_objects =
-    AreGone a.allocator.space keep_last gone
-    × (LetsGo a gone es new × (new_objects ≡ without_objects_of a.allocator.space old_objects gone))
+    AreReleased a.allocator.space keep_last gone
+    × (Releases a gone es new × (new_objects ≡ without_objects_of a.allocator.space old_objects gone))
 
--- a call releases them so, with the matching calls of the device
-abbrev pub CallLetsGo : {D : Type 0} → (D → Event → D → Type 0) → (D → ℕ → Option Object) → D → D → Bool
-    → Account Listing → Account Listing → Type 0
-CallLetsGo step objects old_device new_device keep_last a new =
+-- a call releases them in this way, with the matching calls of the device
+abbrev pub CallReleases : {D : Type 0} → (D → Event → D → Type 0) → (D → ℕ → Option Object) → D → D → Bool
+    → Account FreeListState → Account FreeListState → Type 0
+CallReleases step objects old_device new_device keep_last a new =
     (gone : List ℕ) × Asked step old_device new_device
     (λ es. LetsWholeChunksGo keep_last a gone es new (objects old_device) (objects new_device))
 
@@ -241,31 +241,31 @@ abbrev pub bytes_of : Slot → Bytes
 bytes_of slot = record { object = slot.object; offset = slot.offset; size = slot.size }
 
 -- what was given to `new` and decides which requests are valid, which no call changes
-pub record KeepsSettings (l new : Listing) : Type 0 where
+pub record KeepsSettings (l new : FreeListState) : Type 0 where
   pub final_chunk : new.final_chunk ≡ l.final_chunk
   pub memory_type : new.memory_type ≡ l.memory_type
   pub props : new.props ≡ l.props
   pub atom : new.atom ≡ l.atom
 
 -- a call that takes no block keeps each block that was in hand
-abbrev pub Leaves : Listing → Listing → Type 0
+abbrev pub Leaves : FreeListState → FreeListState → Type 0
 Leaves l new = in_hand.Leaves bytes_of l.space.live new.space.live
 
 -- a grant adds its block
-abbrev pub Adds : Listing → Listing → Slot → Type 0
+abbrev pub Adds : FreeListState → FreeListState → Slot → Type 0
 Adds l new slot = in_hand.Adds bytes_of l.space.live new.space.live slot
 
 -- a return removes its block, and no other
-abbrev pub Removes : Listing → Slot → Listing → Type 0
+abbrev pub Removes : FreeListState → Slot → FreeListState → Type 0
 Removes l slot new = in_hand.Removes bytes_of l.space.live slot new.space.live
 
 -- nothing is held: so it agrees with every device that offers this memory type
-abbrev pub HoldsNothing : ℕ → ℕ → Listing → Type 0
+abbrev pub HoldsNothing : ℕ → ℕ → FreeListState → Type 0
 HoldsNothing memory_type props l =
     (l.memory_type ≡ memory_type) × (l.props ≡ props)
     × in_hand.HoldsNothing memory_type props l.space.live l.space.chunks
 
 -- what a cleanup leaves: the live blocks, and no chunk where there are none
-abbrev pub LeavesNoRest : Listing → Listing → Type 0
+abbrev pub LeavesNoRest : FreeListState → FreeListState → Type 0
 LeavesNoRest l new =
     (new.space.live ≡ l.space.live) × in_hand.LeavesNoRest l.space.live new.space.chunks

@@ -2,7 +2,7 @@
 use Rattle.std.specs.Prelude.{◌≡◌, ℕ, ◌+◌, ◌/◌, ◌<◌, ◌≤◌, Bool, true, List, length, min, get_or}
 use Rattle.std.specs.FinSet as set
 use Rattle.gpu_alloc_base.specs.Accounts.{HeldChunks}
-use Rattle.gpu_alloc_freelist.specs.FreeListState.{ListSpace, ListStore, Listing, IsFreeIn}
+use Rattle.gpu_alloc_freelist.specs.FreeListState.{ListSpace, ListStore, FreeListState, IsFreeIn}
 use Rattle.gpu_alloc_freelist.specs.Chunks.{IsWholeChunk}
 use Rattle.gpu_alloc_base.specs.Slots.{slot_cmp}
 use Rattle.gpu_alloc_freelist.specs.FreeListSound.{IsSoundListSpace}
@@ -14,8 +14,8 @@ use Rattle.gpu_alloc_base.specs.declared.region.FreeListRegion.{FreeListRegion}
 abbrev pub list_space_in : HeldChunks → set.FinSet slot_cmp → ℕ → ListSpace
 list_space_in chunks live latest = record { chunks = chunks; live = live; latest = latest }
 
--- How many more chunks with a block each there is room for, by what three stores can still take: each brings a chunk, a
--- block and up to two runs.
+-- How many more chunks with a block each there is room for, given what three stores can still take: each brings a
+-- chunk, a block and up to two runs.
 abbrev pub room_for : ℕ → ℕ → ℕ → ℕ
 room_for chunks live runs = min chunks (min live (runs / 2))
 
@@ -30,7 +30,7 @@ pub record IsListed (s : ListSpace) (regions : List FreeListRegion) (live spare 
   pub room : live ≤ spare
   pub whole : wholes s.chunks regions ≡ counted
 
-abbrev pub listing_in : ListSpace → ℕ → ℕ → ℕ → ℕ → ℕ → Listing
+abbrev pub listing_in : ListSpace → ℕ → ℕ → ℕ → ℕ → ℕ → FreeListState
 listing_in space next_chunk final_chunk memory_type props atom = record {
   space = space;
   next_chunk = next_chunk;
@@ -41,7 +41,7 @@ listing_in space next_chunk final_chunk memory_type props atom = record {
 }
 
 -- the largest chunk has room for the request: some bytes, no more than its own, at an alignment no less than the atom
-pub record FitsAListChunk (l : Listing) (size align_mask : ℕ) : Type 0 where
+pub record FitsAListChunk (l : FreeListState) (size align_mask : ℕ) : Type 0 where
   pub nonempty : 0 < size
   pub fits : size ≤ l.final_chunk
   pub alignment : IsAlignMask align_mask

@@ -3,7 +3,7 @@ use Rattle.std.specs.Prelude.{◌≡◌, ℕ, ◌+◌, ◌<◌, ◌≤◌, ◌^�
 use Rattle.std.specs.FinMap as map
 use Rattle.gpu_alloc_base.specs.FreeSpace.{IsIn, IsMultipleOf, IsPowerUpTo}
 use Rattle.gpu_alloc_base.specs.Chunks.{Chunk}
-use Rattle.gpu_alloc_freelist.specs.FreeListState.{ListSpace, Listing, IsLiveSlot}
+use Rattle.gpu_alloc_freelist.specs.FreeListState.{ListSpace, FreeListState, IsLiveSlot}
 use Rattle.gpu_alloc_base.specs.declared.free_list_block.Slot.{Slot}
 
 -- a live block is not empty, and lies in its chunk
@@ -23,7 +23,7 @@ pub record IsSoundListSpace (s : ListSpace) : Type 0 where
       → IsIn y.offset y.size at → x ≡ y
 
 -- chunks have objects of their own and are no larger than the largest, and chunks and blocks have whole atoms
-pub record IsSoundListing (l : Listing) : Type 0 where
+pub record IsSoundFreeList (l : FreeListState) : Type 0 where
   pub space : IsSoundListSpace l.space
   pub one_object : (k n : ℕ) (c d : Chunk) → map.get l.space.chunks k ≡ Some c → map.get l.space.chunks n ≡ Some d
       → c.object ≡ d.object → k ≡ n

@@ -21,7 +21,7 @@ pub record ListStore : Type 0 where
 
 -- A free-list allocator: its space, the next chunk's least size, the largest chunk, the memory type with its property
 -- bits, and the atom, of which chunk and block sizes are multiples.
-pub record Listing : Type 0 where
+pub record FreeListState : Type 0 where
   pub space : ListSpace
   pub next_chunk : ℕ
   pub final_chunk : ℕ

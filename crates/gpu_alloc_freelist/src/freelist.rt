@@ -11,7 +11,7 @@ ghost use Rattle.gpu_alloc_types.specs.declared.types.FreeRange.{FreeRange as Ra
 ghost use Rattle.gpu_alloc_base.specs.Wanted.{requested, wanted};
 ghost use Rattle.gpu_alloc_freelist.specs.FreeList.{without_slot};
 ghost use Rattle.gpu_alloc_freelist.specs.FreeListAllocator.{account_without, Agrees, CallAllocates, CallAnswers, case_of};
-ghost use Rattle.gpu_alloc_freelist.specs.FreeListAllocator.{CallLetsGo, chunk_size, Cleans, Frees};
+ghost use Rattle.gpu_alloc_freelist.specs.FreeListAllocator.{CallReleases, chunk_size, Cleans, Frees};
 ghost use Rattle.gpu_alloc_freelist.specs.FreeListAllocator.{IsGranted, IsRunOf, list_case};
 ghost use Rattle.gpu_alloc_freelist.specs.FreeListAllocator.{ObjectsAfter, ObjectsCleaned, ObjectsFreed, opened};
 ghost use Rattle.gpu_alloc_freelist.specs.FreeListAllocator.{Adds, HoldsNothing, KeepsSettings, Leaves, LeavesNoRest};
@@ -21,8 +21,8 @@ ghost use Rattle.gpu_alloc_base.specs.Case.{Asks, RefusesFirst, RefusesQuestion}
 ghost use Rattle.gpu_alloc_freelist.specs.Chunks.{ListsChunks};
 ghost use Rattle.gpu_alloc_freelist.specs.FreeListInside.{FitsAListChunk};
 ghost use Rattle.gpu_alloc_freelist.specs.Live.{ListsSlots};
-ghost use Rattle.gpu_alloc_freelist.specs.FreeListSound.{IsSoundListing, IsSoundListSpace};
-ghost use Rattle.gpu_alloc_freelist.specs.FreeListState.{Listing, IsLiveSlot};
+ghost use Rattle.gpu_alloc_freelist.specs.FreeListSound.{IsSoundFreeList, IsSoundListSpace};
+ghost use Rattle.gpu_alloc_freelist.specs.FreeListState.{FreeListState, IsLiveSlot};
 ghost use Rattle.gpu_alloc_base.specs.FreeSpace.{IsMultipleOf};
 ghost use Rattle.gpu_alloc_base.specs.AlignMasks.{IsAlignMask};
 ghost use Rattle.gpu_alloc_base.specs.RangeOrder.{AreInOrder};
@@ -66,22 +66,22 @@ pub struct FreeListAllocator<M: MemoryObject, A: Allocator = Global> {
 }
 
 impl<M: MemoryObject, A: Allocator> Model for FreeListAllocator<M, A> {
-    ghost use Rattle.gpu_alloc_freelist.specs.FreeListState.{Listing};
+    ghost use Rattle.gpu_alloc_freelist.specs.FreeListState.{FreeListState};
     ghost use Rattle.gpu_alloc_freelist.specs.Codes.{listing_code};
 
-    ghost Value = { Listing };
+    ghost Value = { FreeListState };
 
     ghost coded = { listing_code };
 
     ghost use Rattle.std.specs.Prelude.{◌+◌};
     ghost use Rattle.gpu_alloc_types.specs.Flags.{property_bits};
     ghost use Rattle.gpu_alloc_freelist.specs.FreeListInside.{listing_in};
-    ghost use Rattle.gpu_alloc_freelist.specs.FreeListSound.{IsSoundListing};
+    ghost use Rattle.gpu_alloc_freelist.specs.FreeListSound.{IsSoundFreeList};
 
     ghost view = { λ a. listing_in (a.freelist).space a.chunk_size a.final_chunk_size a.memory_type
         (property_bits a.props) (a.atom_mask + 1) };
 
-    ghost invariant = { λ a. IsSoundListing (listing_in (a.freelist).space a.chunk_size a.final_chunk_size a.memory_type
+    ghost invariant = { λ a. IsSoundFreeList (listing_in (a.freelist).space a.chunk_size a.final_chunk_size a.memory_type
         (property_bits a.props) (a.atom_mask + 1)) };
 }
 
@@ -113,7 +113,7 @@ impl<M: MemoryObject, A: Allocator + Copy> FreeListAllocator<M, A> {
         ensures opened { result ≡ opened starting_chunk_size final_chunk_size memory_type (property_bits props)
             (atom_mask + 1) }
         ensures empty { HoldsNothing memory_type (property_bits props) result }
-        ensures sound { IsSoundListing result }
+        ensures sound { IsSoundFreeList result }
     {
         FreeListAllocator {
             freelist: FreeList::new(alloc),
@@ -158,10 +158,10 @@ impl<M: MemoryObject, A: Allocator> FreeListAllocator<M, A> {
     /// The size is rounded up to whole atoms, and the alignment is the greater of the request's and the atom. The block
     /// begins at the last aligned byte that leaves the rounded size, and ends with its run. Runs are ordered by chunk,
     /// the oldest first, then by start. A new chunk has the allocator's next size: at first the starting one, and after
-    /// each chunk twice that chunk, cut at the final size. Where that is below the rounded size, it is its least
-    /// product with a power of two that suffices, cut at the final size too. (All this is the original crate's rule.) A
-    /// chunk is mapped whole where it is host-visible. `heap` is the ledger of the memory type's heap, to which a chunk
-    /// is added. `allocations_remains` is how many more objects may be held, which a chunk lowers.
+    /// each chunk twice that chunk, capped at the final size. Where that is below the rounded size, it is doubled until
+    /// it suffices, again capped at the final size. (All this is the original crate's rule.) A chunk is mapped whole
+    /// where it is host-visible. `heap` is the ledger of the memory type's heap, to which a new chunk is added.
+    /// `allocations_remains` is how many more objects may be held, which a new chunk lowers by one.
     ///
     /// The size must be at least 1, and rounded at most the final size. `align_mask + 1` must be a power of two of at
     /// most 2^63. The address flag may be set only where the device has the feature. The device must be the one that
@@ -216,7 +216,7 @@ impl<M: MemoryObject, A: Allocator> FreeListAllocator<M, A> {
         ensures settings { KeepsSettings self.old self.new }
         ensures refused { OnErr result
             ((self.new ≡ self.old) × ((heap.new ≡ heap.old) × (allocations_remains.new ≡ allocations_remains.old))) }
-        ensures sound { IsSoundListing self.new }
+        ensures sound { IsSoundFreeList self.new }
         ensures counted { IsCounted (self.new).space.chunks heap.new allocations_remains.new }
         ensures total { chunks_and_remaining (self.new).space.chunks allocations_remains.new ≡ chunks_and_remaining
             (self.old).space.chunks allocations_remains.old }
@@ -226,9 +226,10 @@ impl<M: MemoryObject, A: Allocator> FreeListAllocator<M, A> {
         self.alloc_rounded(device, size, align_mask, flags, heap, allocations_remains)
     }
 
-    /// The error that `alloc` gives such a request before it takes any memory or asks anything, or `None` where it goes
-    /// further. Where a chunk is needed, it is `TooManyObjects` if no more objects may be held or no number is left,
-    /// and otherwise `OutOfDeviceMemory` if `heap` has no room for the chunk (`Heap::fits`). It allocates nothing.
+    /// The error that `alloc` gives such a request before it takes any memory or calls the device, or `None` where
+    /// there is no such error. Where a chunk is needed, it is `TooManyObjects` if no more objects may be held or no
+    /// number is left, and otherwise `OutOfDeviceMemory` if `heap` has no room for the chunk (`Heap::fits`). It
+    /// allocates nothing.
     ///
     /// As for `alloc`, the size must be at least 1 and rounded at most the final size, and `align_mask + 1` a power of
     /// two of at most 2^63.
@@ -285,7 +286,7 @@ impl<M: MemoryObject, A: Allocator> FreeListAllocator<M, A> {
             (λ es. Frees (account self.old heap.old allocations_remains.old) block es
             (account self.new heap.new allocations_remains.new)) }
         ensures objects { ObjectsFreed self.old block (D.objects device.old) (D.objects device.new) }
-        ensures gives { CallLetsGo D.step D.objects device.old device.new true
+        ensures gives { CallReleases D.step D.objects device.old device.new true
             (account_without (account self.old heap.old allocations_remains.old) block)
             (account self.new heap.new allocations_remains.new) }
         ensures agrees { Agrees self.new (D.properties device.new) (D.objects device.new) }
@@ -293,7 +294,7 @@ impl<M: MemoryObject, A: Allocator> FreeListAllocator<M, A> {
         ensures removed { Removes self.old block self.new }
         ensures ledger { heap.new.used ≤ heap.old.used }
         ensures settings { KeepsSettings self.old self.new }
-        ensures sound { IsSoundListing self.new }
+        ensures sound { IsSoundFreeList self.new }
         ensures counted { IsCounted (self.new).space.chunks heap.new allocations_remains.new }
         ensures total { chunks_and_remaining (self.new).space.chunks allocations_remains.new ≡ chunks_and_remaining
             (self.old).space.chunks allocations_remains.old }
@@ -325,7 +326,7 @@ impl<M: MemoryObject, A: Allocator> FreeListAllocator<M, A> {
             (λ es. Cleans (account self.old heap.old allocations_remains.old) es
             (account self.new heap.new allocations_remains.new)) }
         ensures objects { ObjectsCleaned self.old (D.objects device.old) (D.objects device.new) }
-        ensures gives { CallLetsGo D.step D.objects device.old device.new false
+        ensures gives { CallReleases D.step D.objects device.old device.new false
             (account self.old heap.old allocations_remains.old)
             (account self.new heap.new allocations_remains.new) }
         ensures agrees { Agrees self.new (D.properties device.new) (D.objects device.new) }
@@ -334,7 +335,7 @@ impl<M: MemoryObject, A: Allocator> FreeListAllocator<M, A> {
         ensures rest { LeavesNoRest self.old self.new }
         ensures ledger { heap.new.used ≤ heap.old.used }
         ensures settings { KeepsSettings self.old self.new }
-        ensures sound { IsSoundListing self.new }
+        ensures sound { IsSoundFreeList self.new }
         ensures counted { IsCounted (self.new).space.chunks heap.new allocations_remains.new }
         ensures total { chunks_and_remaining (self.new).space.chunks allocations_remains.new ≡ chunks_and_remaining
             (self.old).space.chunks allocations_remains.old }
@@ -423,7 +424,7 @@ impl<M: MemoryObject, A: Allocator> FreeListAllocator<M, A> {
             self.new heap.new allocations_remains.new) }
         ensures objects { ObjectsAfter self.old result self.new (D.objects device.old) (D.objects device.new) }
         ensures properties { D.properties device.new ≡ D.properties device.old }
-        ensures sound { IsSoundListing self.old }
+        ensures sound { IsSoundFreeList self.old }
     {
         match self.freelist.get_block(align_mask, size) {
             Ok(Some(block)) => return Ok(block),
@@ -554,12 +555,12 @@ impl<M: MemoryObject, A: Allocator> FreeListAllocator<M, A> {
     )
         requires agrees { Agrees self.old (D.properties device.old) (D.objects device.old) }
         requires counted { IsCounted (self.old).space.chunks heap.old allocations_remains.old }
-        ensures gives { CallLetsGo D.step D.objects device.old device.new keep_last
+        ensures gives { CallReleases D.step D.objects device.old device.new keep_last
             (account self.old heap.old allocations_remains.old)
             (account self.new heap.new allocations_remains.new) }
         ensures agrees { Agrees self.new (D.properties device.new) (D.objects device.new) }
         ensures properties { D.properties device.new ≡ D.properties device.old }
-        ensures sound { IsSoundListing self.new }
+        ensures sound { IsSoundFreeList self.new }
         ensures counted { IsCounted (self.new).space.chunks heap.new allocations_remains.new }
         ensures total { chunks_and_remaining (self.new).space.chunks allocations_remains.new ≡ chunks_and_remaining
             (self.old).space.chunks allocations_remains.old }
@@ -569,7 +570,7 @@ impl<M: MemoryObject, A: Allocator> FreeListAllocator<M, A> {
         }
         while let Some((memory, size, _)) = self.freelist.take_whole(keep_last) {
             device.deallocate_memory(&memory);
-            booking::let_go(heap, allocations_remains, size);
+            booking::release(heap, allocations_remains, size);
         }
     }
 }

@@ -31,7 +31,7 @@ use Rattle.gpu_alloc_pairs.proofs.Sound.{sound_left, sound_without, was_another}
 use Rattle.gpu_alloc_pairs.proofs.Space.{IsLeafOf, chunk_goes, returned, unused_is_kept, whole_is_unused}
 use Rattle.gpu_alloc_pairs.proofs.Trees.{one_half, undivided}
 
--- Powers and sides, which tell a half by its bytes.
+-- Powers and sides, which identify a half by its bytes.
 
 pub same_order : (k j : ℕ) → 2 ^ k ≡ 2 ^ j → k ≡ j
 same_order k j same = let a = order-le k j (omega (arith, same)) in let b = order-le j k (omega (arith, same)) in omega arith
@@ -182,7 +182,7 @@ module _ (chunks : HeldChunks) (old : List (Slab Entry)) (i : IsStored chunks ol
           sound = subst IsSoundBuddySpace (sym left_space) (sound_left s leaf i.sound still_used);
         }
 
-      -- Its chunk is free as a whole, and goes.
+      -- Its chunk is free as a whole, and is removed.
       module _ (gone : ℕ) (whole : IsWholeAgain (pair_at old) (pair_at new) left h.piece gone) where
         pub gone_is : gone ≡ leaf.chunk
         gone_is = sym whole.named ∙ whole.of_piece ∙ sym leaf_piece.chunk

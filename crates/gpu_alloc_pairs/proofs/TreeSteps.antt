@@ -1,4 +1,5 @@
--- One pair changes: a half of it is used otherwise, or it comes or goes. What stays a tree, and which halves there are.
+-- One pair changes: a half of it gets another use, or it is added or removed. What stays a tree, and which halves there
+-- are.
 use Rattle.std.proofs.Common.{◌≡◌, ℕ, ◌+◌, ◌^◌, ◌⊎◌, inl, inr, Option, Some, None, refl, sym, ◌∙◌, ap, subst, arith}
 use Rattle.std.proofs.lemmas.Bool.{cases_eq}
 use Rattle.std.specs.FinMap as finite
@@ -163,7 +164,7 @@ module _ (P Q : Pairs) (order key : ℕ) (side : Side) (e : Entry) (now : Use) (
           t.one_place n k l a.before b.before a.at b.at (sym a.chunk ∙ chunk ∙ b.chunk) (sym a.offset ∙ offset ∙ b.offset);
     }
 
-  -- Free halves, as one comes or goes.
+  -- Free halves, as one is added or removed.
 
   -- a half is this one, or another
   pub this_or_other : (p : Piece) (k : ℕ) (a : Side) → ((p.order ≡ order) × ((k ≡ key) × (a ≡ side))) ⊎ (p.order ≡ order → k ≡ key → a ≡ side → ⊥)
@@ -214,7 +215,7 @@ module _ (P Q : Pairs) (order key : ℕ) (side : Side) (e : Entry) (now : Use) (
     ];
   }
 
--- A pair comes, or goes.
+-- A pair is added or removed.
 
 module _ (P Q : Pairs) (order key : ℕ) (e : Entry) (s : AddsPair P Q order key e) where
   -- what was there is elsewhere

@@ -66,7 +66,7 @@ piece_at order e side = record { chunk = e.chunk; start = half_start (2 ^ order)
 pub half_of : (P : Pairs) (order key : ℕ) (e : Entry) (side : Side) → P order key ≡ Some e → IsHalf P (piece_at order e side) key side (use_of e side)
 half_of P order key e side at = record { entry = e; pair = at; chunk = refl; start = refl; used = refl }
 
--- a half's piece is told by its pair
+-- a half's piece is determined by its pair
 pub piece_is : (P : Pairs) (p : Piece) (key : ℕ) (side : Side) (now : Use) (h : IsHalf P p key side now) → p ≡ piece_at p.order h.entry side
 piece_is P p key side now h = same_piece p (piece_at p.order h.entry side) h.chunk h.start refl
 

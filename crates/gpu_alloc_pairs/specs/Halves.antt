@@ -49,7 +49,7 @@ halves_of_pair now order pair = half_used now order pair.0 pair.1 Left ++ half_u
 unfoldable pub halves_of_length : Use → ℕ → Slab Entry → List HalfAt
 halves_of_length now order pairs = flat_map (halves_of_pair now order) (entries pairs)
 
--- the same of lengths from this order on
+-- the same for lengths from this order on
 unfoldable pub halves_from : Use → ℕ → List (Slab Entry) → List HalfAt
 halves_from now order [] = []
 halves_from now order (pairs ∷ rest) = halves_of_length now order pairs ++ halves_from now (order + 1) rest

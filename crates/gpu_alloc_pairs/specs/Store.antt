@@ -74,7 +74,7 @@ TakesFront s size (Ok None) new = (HasPlace s size → ⊥) × (new ≡ s)
 TakesFront s size (Ok (Some leaf)) new = IsFront s size leaf × (new ≡ with_leaf s leaf)
 TakesFront s size (Err e) new = HasPlace s size × (new ≡ s)
 
--- at least none, and at most 63 lengths are looked at
+-- at most 63 lengths are looked at
 abbrev pub CountsLooks : ℕ → ℕ → Type 0
 CountsLooks old new = (old ≤ new) × (new ≤ old + 63)
 

@@ -85,7 +85,7 @@ pub struct Pair {
     /// Whether a pair divides the left half. Meaningless while that half is free.
     pub left_divided: bool,
 
-    /// The same of the right half.
+    /// The same for the right half.
     pub right_divided: bool,
 
     /// Which half is free, if one is.

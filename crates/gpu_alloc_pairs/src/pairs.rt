@@ -61,8 +61,8 @@ impl<M: MemoryObject> Chunk<M> {
 /// in chunks, and gets them back when no block in them is live. It cannot be dropped: [`close`](Pairs::close) ends it.
 ///
 /// Each chunk has at most 2^63 bytes, and is a pair of halves. Each half is free, a live block, or divided by a pair of
-/// half its length. At most one half of each pair is free, so the free halves are the longest free ranges of a power of
-/// two of bytes at a multiple of their length. The pairs of one length with a free half form a ring.
+/// half its length. At most one half of each pair is free, so the free halves are the longest free ranges with a power
+/// of two as length that start at a multiple of it. The pairs of one length with a free half form a ring.
 pub struct Pairs<M: MemoryObject, A: Allocator = Global> {
     chunks: Slab<Chunk<M>, A>,
     lengths: Lengths<A>,

@@ -29,8 +29,8 @@ pub trait MemoryObject: Drop {
 
 /// A device, seen through the memory objects that it holds.
 ///
-/// Any call that can fail may be refused, each time anew. What a call does is its step, a relation that each device
-/// defines for itself. On every device, a step does what `Row` says and nothing else.
+/// Any call that can fail may be refused each time it is made. What a call does is its step, a relation that each
+/// device defines for itself. On every device, a step does what `Row` says and nothing else.
 pub trait MemoryDevice<M: MemoryObject> {
     /// What the device offers.
     ghost properties: { Self → Properties };

@@ -72,15 +72,15 @@ module _ (last : ℕ) (gone : List ℕ) (taken places : ℕ) (objects : FinMap n
     names_fit = let more = len_put objects (last + 1) o next_free in omega (arith, fits, more);
   }
 
-  -- a name of an object that is held is none of those that were given back
+  -- the name of a held object is not among those that were given back
   held_is_other : (name q : ℕ) (there : HeldObject) → map.get objects name ≡ Some there → IsUsed last objects q → q ≢ name
   held_is_other name q there is used same = let none = subst (λ n. map.get objects n ≡ None) same used.1 in cc
 
   held_is_named : (name : ℕ) (there : HeldObject) → map.get objects name ≡ Some there → name ≤ last
   held_is_named name there is = elim (less_or_not last name) [ inl above ↦ absurd (let none = kept.named name above in cc) | inr below ↦ below ]
 
-  pub kept-let_go : (name : ℕ) (there : HeldObject) → map.get objects name ≡ Some there → AreNamesKept last (gone ++ name ∷ []) (taken + 1) places (map.remove objects name)
-  kept-let_go name there is = record {
+  pub kept-release : (name : ℕ) (there : HeldObject) → map.get objects name ≡ Some there → AreNamesKept last (gone ++ name ∷ []) (taken + 1) places (map.remove objects name)
+  kept-release name there is = record {
     used = All-push (IsUsed last (map.remove objects name)) gone name
         (All-weaker (IsUsed last objects) (IsUsed last (map.remove objects name)) (λ q old. (old.0, get_removed-other objects name q (held_is_other name q there is old) ∙ old.1)) gone kept.used)
         (held_is_named name there is, get_removed objects name);

@@ -74,8 +74,8 @@ module _ (p : Properties) where
       (shown_object p (new_held_object size t), record { of_type = refl; of_size = refl; unmapped = refl }, ap (all_shown p) is ∙ shown-insert name (new_held_object size t)),
     )
 
-    pub let_go_row : (name : ℕ) (new : FinMap nat_cmp HeldObject) → new ≡ map.remove objects name → Row p (all_shown p objects) (Deallocated name) (all_shown p new)
-    let_go_row name new is = ap (all_shown p) is ∙ shown-remove name
+    pub release_row : (name : ℕ) (new : FinMap nat_cmp HeldObject) → new ≡ map.remove objects name → Row p (all_shown p objects) (Deallocated name) (all_shown p new)
+    release_row name new is = ap (all_shown p) is ∙ shown-remove name
 
     pub mapped_row : (r : Range) (new : FinMap nat_cmp HeldObject) → HeldWith (all_shown p objects) r.object (IsMappable p r.offset r.size)
         → ChangesHeldObject (held_mapped_as (Some (r.offset, r.size))) objects r.object new → Changes (IsMappedOver r) (all_shown p objects) r.object (all_shown p new)

@@ -44,8 +44,8 @@ AreNamedUpTo last objects = (name : ℕ) → last < name → map.get objects nam
 abbrev pub IsUsed : ℕ → FinMap nat_cmp HeldObject → ℕ → Type 0
 IsUsed last objects name = (name ≤ last) × (map.get objects name ≡ None)
 
--- What always holds: no name is above the latest, and the released names are no object's, each there once. Of the
--- places for such names some are taken, and one is left for each held object.
+-- What always holds: no name is above the latest. No object has a released name, and each such name is listed once. Of
+-- the places for such names some are taken, and one is left for each held object.
 pub record AreNamesKept (last : ℕ) (gone : List ℕ) (taken places : ℕ) (objects : FinMap nat_cmp HeldObject) : Type 0 where
   pub named : AreNamedUpTo last objects
   pub used : All (IsUsed last objects) gone
@@ -68,8 +68,8 @@ IsPast s name = IsUsed s.last_name s.objects name
 abbrev pub IsSpent : HeldState → ℕ → Type 0
 IsSpent s name = IsPast s name × (Contains s.gone name → ⊥)
 
--- What always holds of the names: none is above the latest, and each that waits to be read is no object's and waits
--- once.
+-- What always holds of the names: none is above the latest, and each that waits to be read belongs to no object and is
+-- listed once.
 pub record AreNamed (s : HeldState) : Type 0 where
   pub held : AreNamedUpTo s.last_name s.objects
   pub waiting : All (IsPast s) s.gone

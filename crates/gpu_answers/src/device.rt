@@ -24,7 +24,7 @@ use std::marker::Model;
 /// Its questions are answered from a list. A call of the allocator is a run: it begins with the answers that are known
 /// so far. The first question without an answer is refused, and [`open`](AnsweredDevice::open) returns it. The caller
 /// asks the real device, and runs the call again with one more answer. Each answer names its question, so an answer to
-/// another call counts nowhere, and [`has_strayed`](AnsweredDevice::has_strayed) reports it.
+/// another call is never used, and [`has_strayed`](AnsweredDevice::has_strayed) reports it.
 ///
 /// Objects are named 1, 2, 3 and so on, and no name is used again. No bytes of an object are kept. So flushes and
 /// invalidates are not questions: both are granted at once and change nothing, as in memory whose bytes are all 0. (The
@@ -62,7 +62,7 @@ impl AnsweredDevice {
     }
 
     /// A lemma about the names of objects: does nothing at run time. Each name that was released and not taken is at
-    /// most the latest, is no held object's, and occurs once.
+    /// most the latest, belongs to no held object, and occurs once.
     pub fn keeps_names(&self)
         ensures { AreNamed self.now.held }
     {
@@ -179,7 +179,7 @@ impl ObjectDevice<ObjectName> for AnsweredDevice {
     }
 
     fn deallocate_memory(&mut self, memory: &ObjectName) {
-        self.held.let_go(memory);
+        self.held.release(memory);
     }
 
     fn map_memory(

@@ -101,7 +101,7 @@ impl HeldObjects {
     }
 
     /// Releases a held object. Its name is added after the other released ones.
-    pub(crate) fn let_go(&mut self, memory: &ObjectName)
+    pub(crate) fn release(&mut self, memory: &ObjectName)
         requires { IsSome (map.get self.old.objects memory.now) }
         ensures objects { self.new.objects ≡ map.remove self.old.objects memory.now }
         ensures last_name { self.new.last_name ≡ self.old.last_name }

@@ -96,7 +96,7 @@ impl Objects {
         ensures objects { self.new.objects ≡ self.old.objects }
     {
         self.rows.reserve(1)?;
-        // (a slab with room has fewer rows than its capacity, so one more is a number too)
+        // (a slab with room has fewer rows than its capacity, so one more does not overflow)
         let _ = self.rows.capacity();
         Ok(self.rows.len() + 1)
     }

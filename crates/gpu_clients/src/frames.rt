@@ -138,7 +138,7 @@ impl<M: MemoryObject, D: ObjectDevice<M>, A: Allocator + Copy> FramePlanner<M, D
         let _ = &self.counts;
     }
 
-    /// Frees every block, and then returns the device, which holds nothing of the planner's any more. It allocates
+    /// Frees every block, and then returns the device, which no longer holds anything of the planner's. It allocates
     /// nothing and cannot fail.
     pub fn end(self) -> D
         ensures beside { (name : ℕ) → D.objects result name ≡ beside D.objects self.hand name }

@@ -41,11 +41,12 @@ impl Model for Handle {
     ghost inverse = { λ n. record { key = n } };
 }
 
-/// Blocks of a device's memory under handles that are given once. It cannot be dropped: [`end`](ResourceManager::end)
+/// Blocks of a device's memory under handles that are never reused. It cannot be dropped: [`end`](ResourceManager::end)
 /// ends it.
 ///
-/// A handle is a slot with the slot's generation. So a look-up is one step, and a handle whose block was freed finds
-/// nothing for ever, whatever the slot holds by then. A slot whose 2^32 generations are used up is never used again.
+/// A handle is a slot with the slot's generation. So a look-up is one step, and a handle whose block was freed never
+/// finds anything again, whatever the slot holds by then. A slot whose 2^32 generations are used up is never used
+/// again.
 ///
 /// Its granularity is how many bytes a page has. None of the bytes that were requested for an optimal image
 /// ([`create_optimal`]) shares a page with a byte of another block. The granularity never changes.
@@ -204,7 +205,7 @@ impl<M: MemoryObject, D: ObjectDevice<M>, A: Allocator + Copy> ResourceManager<M
     }
 
     /// Frees the block of a handle, mapped or not, and returns whether the handle had one. It allocates nothing and
-    /// cannot fail. The handle finds nothing for ever after.
+    /// cannot fail. The handle never finds anything again.
     #[tactic(auto, using(crate::proofs::Managed::gone))]
     pub fn destroy(&mut self, handle: Handle) -> bool
         ensures found { IsTrue result ↔ IsSome (block_at self.old handle) }
@@ -273,7 +274,7 @@ impl<M: MemoryObject, D: ObjectDevice<M>, A: Allocator + Copy> ResourceManager<M
         let _ = &self.device;
     }
 
-    /// Frees every block, and then returns the device, which holds nothing of the manager's any more. It allocates
+    /// Frees every block, and then returns the device, which no longer holds anything of the manager's. It allocates
     /// nothing and cannot fail.
     pub fn end(self) -> D
         ensures beside { (name : ℕ) → D.objects result name ≡ beside D.objects self name }

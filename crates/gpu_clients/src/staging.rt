@@ -52,7 +52,7 @@ impl fmt::Display for StagingError {
 
 impl Error for StagingError {}
 
-/// Host-visible buffers on a device, under keys that are given once. Contracts see the allocator, the device and the
+/// Host-visible buffers on a device, under keys that are never reused. Contracts see the allocator, the device and the
 /// buffers. It cannot be dropped: [`end`](StagingPool::end) ends it.
 pub struct StagingPool<M: MemoryObject, D: MemoryDevice<M>, A: Allocator + Copy = Global> {
     buffers: ResourceManager<M, D, A>,
@@ -92,7 +92,7 @@ impl<M: MemoryObject, D: MemoryDevice<M>, A: Allocator + Copy> StagingPool<M, D,
     /// The buffer starts at a multiple of `align_mask + 1`, a power of two of at most 2^63, and is of one of
     /// `memory_types` (those whose bit is set). There must be at least 1 byte. Whatever the device refuses, each byte
     /// of every other buffer is unchanged, for host and device. After an error (`NotAskable`, `NoMemory`, `NoAccess`)
-    /// there are the buffers of before.
+    /// the buffers are the same as before.
     pub fn upload(
         &mut self,
         bytes: &[u8],

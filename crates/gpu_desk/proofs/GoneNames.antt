@@ -19,7 +19,7 @@ joined : (xs ys zs : List ℕ) → (xs ++ ys) ++ zs ≡ xs ++ (ys ++ zs)
 joined [] ys zs = refl
 joined (x ∷ xs) ys zs = ap (λ rest. x ∷ rest) (joined xs ys zs)
 
--- a call adds a name behind those of before, or none
+-- a call adds a name after the earlier ones, or none
 step_adds : (old : HeldState) (e : Event) (new : HeldState) → Names old e new → (more : List ℕ) × (new.gone ≡ old.gone ++ more)
 step_adds old (Allocated size t flags (Ok name)) new n = ([], n.2 ∙ sym (nil_after old.gone))
 step_adds old (Allocated size t flags (Err e)) new n = ([], n.1 ∙ sym (nil_after old.gone))
@@ -40,7 +40,7 @@ run_adds old (e ∷ es) new run =
     let rest = run_adds run.0 es new run.2 in
     (first.0 ++ rest.0, rest.1 ∙ ap (λ xs. xs ++ rest.0) first.1 ∙ joined old.held.gone first.0 rest.0)
 
--- So the names of before are the first ones, as many as they were.
+-- So the earlier names are still the first ones, all of them.
 pub names_of_before : (old : DeviceState) (es : List Event) (new : DeviceState) → Chain IsStep old es new
     → take (length old.held.gone) new.held.gone ≡ old.held.gone
 names_of_before old es new run =

@@ -26,12 +26,12 @@ use Rattle.gpu_session.specs.Sound as session
 use Rattle.gpu_session.specs.Sound.{IsSessionKept}
 use Rattle.gpu_session.specs.declared.offer.Offer.{Offer}
 use Rattle.gpu_desk.specs.Calls.{HasKey}
-use Rattle.gpu_desk.specs.declared.told.ObjectRange.{ObjectRange}
+use Rattle.gpu_desk.specs.declared.answers.ObjectRange.{ObjectRange}
 use Rattle.gpu_slots.specs.SlotMap.{IsGiven, SlotState, StaysGone, with_value}
 
 -- The device.
 
--- a run that was begun, as the clauses of `begin` tell it
+-- a run that was begun, as the clauses of `begin` describe it
 pub begun_is : (old new : DeviceState) (run : RunState) → new.run ≡ run → new.properties ≡ old.properties → new.held ≡ old.held
     → new ≡ record old { run = run }
 begun_is old new run begins offers holds =
@@ -71,7 +71,7 @@ free_key {T} s key new = by (map.get s.live key) refl
     by None is = is
     by (Some v) is = absurd (new (inr (subst IsSome (sym is) refl)))
 
--- room for more keys is of no account to a new one
+-- room for more keys does not matter to a new one
 pub has_key : (old more : SlotState Block) (room key : ℕ) (b : Block) (new : SlotState Block) → more ≡ record old { room = room } → HasKey more key b new → HasKey old key b new
 has_key old more room key b new same has =
     let h = subst (λ s. HasKey s key b new) same has in
@@ -124,7 +124,7 @@ range_is o p m n same_object same_mapping =
 
 -- Limits.
 
--- a heap's limit is of no account to what a desk keeps
+-- a heap's limit does not matter to what a desk keeps
 pub limited_is_kept : {A : Type 0} {p : Properties} {objects : ℕ → Option Object} {s : State} {blocks : map.FinMap nat_cmp Block} {o : Offer A} (heap limit : ℕ)
     → IsSessionKept p objects (record { allocator = s; blocks = blocks }) o → ((b : Block) → IsOwned s b → IsOwned (with_heap_limit s heap limit) b)
     → Agrees (with_heap_limit s heap limit) p objects → allocator.IsSound (with_heap_limit s heap limit)

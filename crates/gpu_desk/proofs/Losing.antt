@@ -147,7 +147,7 @@ read_keeps_names old new (Some name) same last some none =
 
 -- Along all calls.
 
--- what the rest of the calls loses, when a name of before was not read
+-- what the rest of the calls loses, where an earlier name was not read
 then : (first : DeskState) (call : List ℕ × DeskState) (P : Type 0) (rest : List ℕ) (name : ℕ) → LosesBut call.0 first call.1
     → (IsSome (objects call.1 name) ⊎ Waits call.1 name → P ⊎ Contains rest name)
     → IsSome (objects first name) ⊎ Waits first name → P ⊎ Contains (call.0 ++ rest) name

@@ -8,7 +8,7 @@ use Rattle.gpu_alloc_types.specs.Device.Event.{Allocated, Deallocated, Mapped, U
 use Rattle.gpu_alloc_types.specs.Flags.{has_bit, transient, usage_bits}
 use Rattle.gpu_alloc_base.specs.Case as case
 use Rattle.gpu_alloc_base.specs.Case.{Case}
-use Rattle.gpu_alloc_base.specs.NewChunk.{ChunkQuestion, LacksDeviceMemory, LacksHostMemory, IsLetGo, made, whole_new_object}
+use Rattle.gpu_alloc_base.specs.NewChunk.{ChunkQuestion, LacksDeviceMemory, LacksHostMemory, IsReleased, made, whole_new_object}
 use Rattle.gpu_alloc_base.specs.Sizes.{preferred_threshold, transient_threshold}
 use Rattle.gpu_alloc_usage.proofs.Ranking.Candidates.{candidates-within}
 use Rattle.gpu_alloc.specs.Allocation.{Allocates, AllocatesBy, AllocatesOptimal, IsAloneWhereServed, IsCandidatePassed, IsGranted, IsInPages, Plan, Refuses, TriesAll, fits_a_chunk, is_alone, is_small, plan, plan_in_pages, serves_alone, shares_by, strategy, unhinted}
@@ -81,8 +81,8 @@ module _ (P : ℕ → ℕ → Type 0) where
     host_such es (inl one) = subst (AllSuch P) (sym one) (fits, tt)
     host_such es (inr two) = subst (AllSuch P) (sym two.1.1.2) (fits, (tt, (tt, tt)))
 
-    let_go_such : (es : List Event) → IsLetGo q es → AllSuch P es
-    let_go_such es back = subst (AllSuch P) (sym back.1) (both_such (made q back.0) (Deallocated back.0 ∷ []) (made_such back.0) (tt, tt))
+    release_such : (es : List Event) → IsReleased q es → AllSuch P es
+    release_such es back = subst (AllSuch P) (sym back.1) (both_such (made q back.0) (Deallocated back.0 ∷ []) (made_such back.0) (tt, tt))
 
   module _ {B S : Type 0} (c : Case B S) (fits : P c.question.size c.question.memory_type) where
     passed_such : (es : List Event) → case.IsPassed c es → AllSuch P es
@@ -95,7 +95,7 @@ module _ (P : ℕ → ℕ → Type 0) where
     decided_such es (Err TooManyObjects) new d = none_such es d.1
     decided_such es (Err OutOfHostMemory) new (same, inl unasked) = none_such es unasked.0
     decided_such es (Err OutOfHostMemory) new (same, inr (asks, inl lacks)) = host_such c.question fits es lacks
-    decided_such es (Err OutOfHostMemory) new (same, inr (asks, inr given)) = let_go_such c.question fits es given.1
+    decided_such es (Err OutOfHostMemory) new (same, inr (asks, inr given)) = release_such c.question fits es given.1
     decided_such es (Err OutOfDeviceMemory) new d = absurd d
     decided_such es (Err NoCompatibleMemoryTypes) new d = absurd d
 
@@ -129,8 +129,8 @@ module _ (s : State) (r : Request) (t : ℕ) where
       by true e = rw e (refl, λ alone. refl)
       by false e = rw e unhinted_asks
 
--- What an allocation asks for: objects of its candidates, and of the size that a candidate was asked where it serves by an
--- object of its own.
+-- What an allocation asks for: objects of its candidates, and of the size that a candidate was asked where it serves by
+-- an object of its own.
 module _ (s : State) (p : Plan) (Q : ℕ → Type 0) where
   abbrev pub IsFor : ℕ → ℕ → Type 0
   IsFor size t = Q t × (is_own s p t ≡ true → size ≡ (p.asked t).request.size)
@@ -313,7 +313,7 @@ module _ (s : State) (granularity : ℕ) (r : Request) (w : Wish) where
     may_come (Some (Open (MapMade offset size))) is = tt
     may_come (Some (Open (Map object offset size))) is = tt
 
--- what is told of an found question is what is so of it
+-- what is said of a found question is true of it
 pub same_denial : (own : Bool) (asks : Question → Bool) (stop : Option Stop) (refusal : Denial) → IfSome (open_in stop) (λ q. own ≡ asks q)
     → denial_after (λ q. own) stop refusal ≡ denial_after asks stop refusal
 same_denial own asks None refusal is = refl
@@ -375,7 +375,7 @@ module _ (s : State) (granularity : ℕ) (r : Request) (w : Wish) where
       let one : (true && not (granularity == 1)) ≡ false = subst (λ b. (b && not (granularity == 1)) ≡ false) optimal is in
       grind (arith, nat_tests)
 
-  -- what a grant tells of its object, by what its memory type was asked
+  -- what a grant says about its object, by what its memory type was asked
   pub alone_then : (asked : Request) (hint : Option Dedicated) (answer : Result Block AllocationError)
       → ((t : ℕ) → is_own s (plan_for s granularity r w) t ≡ serves_alone s asked hint t) → IfOk answer (IsAloneWhereServed s asked hint)
       → IfOk answer (λ b. IsTrue (is_own s (plan_for s granularity r w) b.memory_type) ↔ (b.kind ≡ DedicatedObject))

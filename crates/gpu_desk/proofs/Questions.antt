@@ -15,7 +15,7 @@ use Rattle.gpu_alloc_types.specs.Flags.{usage_bits}
 use Rattle.gpu_alloc_types.specs.declared.types.MemoryType.{MemoryType}
 use Rattle.gpu_alloc_base.specs.Case as case
 use Rattle.gpu_alloc_base.specs.Case.{Case}
-use Rattle.gpu_alloc_base.specs.NewChunk.{ChunkQuestion, LacksDeviceMemory, LacksHostMemory, IsLetGo, made, whole_new_object}
+use Rattle.gpu_alloc_base.specs.NewChunk.{ChunkQuestion, LacksDeviceMemory, LacksHostMemory, IsReleased, made, whole_new_object}
 use Rattle.gpu_alloc_usage.specs.Ranking.{Before, IsRankingWithin, IsRising, candidates, implied, key_of}
 use Rattle.gpu_alloc_usage.proofs.Ranking.Candidates.{candidates_IsRankingWithin}
 use Rattle.gpu_alloc.specs.Allocation.{AllocatesBy, IsCandidatePassed, Plan, Refuses, TriesAll, candidates_of, plan, plan_in_pages, strategy}
@@ -98,8 +98,8 @@ host_lacks_asks : (q : ChunkQuestion) (es : List Event) → LacksHostMemory q es
 host_lacks_asks q es (inl one) = let asked = ap questions one in omega (arith, asked)
 host_lacks_asks q es (inr two) = let asked = ap questions two.1.1.2 in omega (arith, asked)
 
-let_go_asks : (q : ChunkQuestion) (es : List Event) → IsLetGo q es → questions es ≤ 2
-let_go_asks q es back =
+release_asks : (q : ChunkQuestion) (es : List Event) → IsReleased q es → questions es ≤ 2
+release_asks q es back =
     let asked = ap questions back.1 ∙ questions_append (made q back.0) (Deallocated back.0 ∷ []) in let most = made_asks q back.0 in omega (arith, asked, most)
 
 module _ {B S : Type 0} (c : Case B S) where
@@ -113,7 +113,7 @@ module _ {B S : Type 0} (c : Case B S) where
   decided_asks es (Err TooManyObjects) new d = none_asks 2 es d.1
   decided_asks es (Err OutOfHostMemory) new (same, inl unasked) = none_asks 2 es unasked.0
   decided_asks es (Err OutOfHostMemory) new (same, inr (asks, inl lacks)) = host_lacks_asks c.question es lacks
-  decided_asks es (Err OutOfHostMemory) new (same, inr (asks, inr given)) = let_go_asks c.question es given.1
+  decided_asks es (Err OutOfHostMemory) new (same, inr (asks, inr given)) = release_asks c.question es given.1
   decided_asks es (Err OutOfDeviceMemory) new d = absurd d
   decided_asks es (Err NoCompatibleMemoryTypes) new d = absurd d
 

@@ -17,7 +17,7 @@ pub bytes_served : (granularity : ℕ) (r : Request) (w : Wish) → goes_by_page
     → served_as granularity r w ≡ r
 bytes_served granularity r w by_bytes = ap (λ b. in_pages_where (cond b (Some granularity) None) r) by_bytes
 
--- what is as long as one request asks is so for an equal one
+-- what is as long as one request asks is as long as an equal one asks
 pub exact_then : (s : State) (r served : Request) (answer : Result Block AllocationError) → served ≡ r
     → IfOk answer (IsExactFit s r) → IfOk answer (IsExactFit s served)
 exact_then s r served answer same exact = subst (λ q. IfOk answer (IsExactFit s q)) (sym same) exact

@@ -11,7 +11,7 @@ same a b e = grind (arith, nat_tests)
 other : (a b : ℕ) → (a ≡ b → ⊥) → (a == b) ≡ false
 other a b ne = grind (arith, nat_tests)
 
--- behind a key that is none of its own
+-- the first place after that of a key other than 0
 next_place : (k : ℕ) → k ≢ 0 → behind k ≡ k % 2 ^ 32 + 1
 next_place k some = ap (λ b. cond b 0 (k % 2 ^ 32 + 1)) (other k 0 some)
 

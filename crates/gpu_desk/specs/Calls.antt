@@ -39,10 +39,10 @@ use Rattle.gpu_desk.specs.Names.{LosesBut}
 use Rattle.gpu_desk.specs.Wishes.{asks_own, is_own, plan_for, served_as}
 use Rattle.gpu_desk.specs.declared.denial.Denial.{Denial}
 use Rattle.gpu_desk.specs.declared.denial.Denial.TheVariants.{Open, Strayed, WouldAsk, Refused, MapRefused, Fault}
-use Rattle.gpu_desk.specs.declared.told.Counts.{Counts}
-use Rattle.gpu_desk.specs.declared.told.Grant.{Grant}
-use Rattle.gpu_desk.specs.declared.told.HeapCounts.{HeapCounts}
-use Rattle.gpu_desk.specs.declared.told.ObjectRange.{ObjectRange}
+use Rattle.gpu_desk.specs.declared.answers.Counts.{Counts}
+use Rattle.gpu_desk.specs.declared.answers.Grant.{Grant}
+use Rattle.gpu_desk.specs.declared.answers.HeapCounts.{HeapCounts}
+use Rattle.gpu_desk.specs.declared.answers.ObjectRange.{ObjectRange}
 use Rattle.gpu_desk.specs.declared.wish.Tag.{Tag}
 use Rattle.gpu_desk.specs.declared.wish.Wish.{Wish}
 
@@ -221,7 +221,7 @@ ImportDenied s t object_size offset size d = IsFaultOf (fault_of_import s.alloca
 abbrev pub IsUnknown : DeskState → ℕ → Denial → Type 0
 IsUnknown s key d = (d ≡ Fault UnknownName) × (map.get s.blocks.live key ≡ None)
 
--- Objects are released, and their names are to be read after those of before.
+-- Objects are released, and their names are to be read after the earlier ones.
 pub record LetsNamesGo (old new : DeskState) : Type 0 where
   pub back : LetsObjectsGo IsStep objects_of old.allocator old.device new.allocator new.device
   pub names : new.device.held.gone ≡ old.device.held.gone ++ back.gone

@@ -55,7 +55,7 @@ objects s = objects_of s.device
 
 -- Blocks share no memory, as in a session. Each key's block is a live span of a held object, and no two share a byte
 -- (nor an object where one of them has its own). Nothing else is live, and allocator and device agree. No held object
--- has a name that waits to be read, and each such name waits once. Blocks for optimal resources share no page with
+-- has a name that waits to be read, and each such name is listed once. Blocks for optimal resources share no page with
 -- linear ones.
 pub record IsSoundDesk (s : DeskState) : Type 0 where
   pub memory : session.IsSoundSession s.device.properties (objects s) (books s)

@@ -29,10 +29,11 @@ pub enum Denial {
         own: bool,
     },
 
-    /// An answer is to another question than the one that is asked in its place.
+    /// An answer belongs to a different question from the one that is asked in its place.
     Strayed,
 
-    /// No held chunk has a place, and the request may ask for nothing ([`alloc_held`](crate::Desk::alloc_held)).
+    /// No held chunk has a place for the block, and the call asks the device for nothing
+    /// ([`alloc_held`](crate::Desk::alloc_held)).
     WouldAsk,
 
     /// The allocation is refused.
@@ -45,8 +46,8 @@ pub enum Denial {
     Fault(Fault),
 }
 
-/// Why a run fails that ended in this refusal: by its open question, by an answer to another question, or by the
-/// refusal itself. `own` says whether the open question is for an object of the block's own.
+/// Why a run that ended in this refusal fails: for its open question, an answer to another question, or the refusal
+/// itself. `own` says whether the open question is for an object of the block's own.
 pub(crate) fn denial_after(device: &AnsweredDevice, own: bool, refusal: Denial) -> Denial
     ensures { result ≡ denial_after (λ question. own) (device.now).run.stop refusal }
 {

@@ -101,8 +101,8 @@ impl Desk {
         Desk::with_sharing(alloc, config, props, granularity, Sharing::Buddy)
     }
 
-    /// As [`new`](Desk::new), with a choice how requests that are not `TRANSIENT` share objects: in buddy chunks, or in
-    /// fit chunks.
+    /// As [`new`](Desk::new), with a choice of how requests that are not `TRANSIENT` share objects: in buddy chunks, or
+    /// in fit chunks.
     pub fn with_sharing(
         alloc: Global,
         config: Config,
@@ -158,7 +158,7 @@ impl Desk {
     }
 
     /// A lemma about every desk, whatever calls were made: does nothing at run time. Live blocks share no memory. No
-    /// held object has a name that waits to be read, and each such name waits once.
+    /// held object has a name that waits to be read, and each such name is listed once.
     pub fn keeps_sound(&self)
         ensures { IsSoundDesk self.now }
     {

@@ -10,7 +10,7 @@ ghost use Rattle.gpu_desk.specs.Pages.{ArePaged, ShareNoPage};
 ghost use Rattle.gpu_desk.specs.Walk.{ComesOnce, IsLiveKey, NeverComes, WalksAll};
 
 /// However calls follow one another, no name comes twice. The name of a released object is past: it waits to be read,
-/// and no object and no live block has it, then and ever after. Once it is read ([`Desk::next_gone`]) it is spent, and
+/// and no object and no live block has it, then or later. Once it is read ([`Desk::next_gone`]) it is spent, and
 /// never waits again.
 ///
 /// [`Desk::next_gone`]: crate::Desk::next_gone
@@ -30,8 +30,8 @@ pub fn no_object_is_lost()
 {}
 
 /// A whole walk by [`Desk::block_after`] meets each block that lives all along exactly once, and no block that is live
-/// at none of its calls, whatever calls are made between. So where nothing changes meanwhile, it meets exactly the live
-/// blocks.
+/// at none of its calls, whatever calls are made in between. So where nothing changes meanwhile, it meets exactly the
+/// live blocks.
 ///
 /// [`Desk::block_after`]: crate::Desk::block_after
 pub fn a_walk_meets_each_block_once()

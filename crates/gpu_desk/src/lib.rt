@@ -2,12 +2,13 @@
 //! callers that can't be called back.
 #![tactic(auto)]
 
+mod answers;
 mod denial;
 mod desk;
 pub mod laws;
-mod told;
 mod wish;
 
+pub use answers::{Counts, Grant, HeapCounts, ObjectRange};
 pub use denial::{Denial, OpenError};
 pub use desk::Desk;
 pub use gpu_alloc::{
@@ -16,5 +17,4 @@ pub use gpu_alloc::{
 };
 pub use gpu_answers::{Answer, Answered, Question};
 pub use gpu_session::Fault;
-pub use told::{Counts, Grant, HeapCounts, ObjectRange};
 pub use wish::Wish;

@@ -24,7 +24,7 @@ length-over [] old = refl
 length-over (t ∷ text) [] = refl
 length-over (t ∷ text) (x ∷ old) = ap suc (length-over text old)
 
--- one text behind another
+-- one text after another
 pub goes_on : {a b c xs ys : List ℕ} {i j k : ℕ} → GoesOn a i xs b j → GoesOn b j ys c k → GoesOn a i (xs ++ ys) c k
 goes_on {a} {b} {c} {xs} {ys} {i} {j} {k} first second = record {
   on = λ text before is. subst (λ t. IsTextWritten t before c k) (append_assoc text xs ys) (second.on (text ++ xs) before (first.on text before is));

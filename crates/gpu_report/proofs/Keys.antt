@@ -11,7 +11,7 @@ use Rattle.gpu_alloc_base.proofs.ListViews.{contains_name}
 use Rattle.gpu_slots.specs.SlotMap.{place_of}
 use Rattle.gpu_desk.specs.Desk.{DeskState, IsSoundDesk, tag_of}
 use Rattle.gpu_desk.specs.Calls.{Told}
-use Rattle.gpu_desk.specs.declared.told.Grant.{Grant}
+use Rattle.gpu_desk.specs.declared.answers.Grant.{Grant}
 use Rattle.gpu_desk.specs.Walk.{behind, IsNext, IsLast}
 use Rattle.gpu_report.specs.DeskReport.{IsKeyed, AreKeyed}
 use Rattle.gpu_report.specs.Live.{live_block_span, LacksSpan}

@@ -15,7 +15,7 @@ module _ {X Y : Type 0} (f : X → Y) where
   ]
 
 module _ {X : Type 0} (p : X → Bool) where
-  -- a list whose elements all pass is kept whole, and of one whose elements all fail nothing
+  -- a list whose elements all pass is kept whole, and nothing is kept of one whose elements all fail
   pub filter_all : (xs : List X) → All (λ x. p x ≡ true) xs → filter p xs ≡ xs
   filter_all [] all = refl
   filter_all (x ∷ xs) all = rw (All-head (λ y. p y ≡ true) x xs all) (ap (λ ys. x ∷ ys) (filter_all xs (All-tail (λ y. p y ≡ true) x xs all)))

@@ -1,4 +1,4 @@
--- What is told of one memory type and kind more.
+-- What is reported of one more memory type and kind.
 use Rattle.std.proofs.Common.{◌≡◌, inl, inr, ℕ, zero, suc, ◌+◌, ◌<◌, ◌≤◌, Bool, true, false, cond, List, [], ◌∷◌, ◌++◌, length, map, take, get_or, All, refl, sym, subst, ◌∙◌, ap, arith}
 use Rattle.std.proofs.lemmas.Bool.{cases_lt}
 use Rattle.std.proofs.lemmas.Bool.Decides.{nat_tests}
@@ -129,7 +129,7 @@ module _ (s : State) (held : List (ℕ × HeldObject)) (live : List LiveBlock) (
       let kept = from_filtered (λ (x : ℕ × HeldObject). is_of p x.1) held e.0 e.1 in
       object_told e.0 o kept.0 kept.1 e.2 (all_contained (HasPlaces live free) os o placed has))
 
--- Each held object is told, where each is of a memory type that there is.
+-- Each held object is reported, where each is of a memory type that there is.
 
 from_flat : {X Y : Type 0} (f : X → List Y) (xs : List X) (x : X) (y : Y) → Contains xs x → Contains (f x) y → Contains (flat_map f xs) y
 from_flat f [] x y has there = absurd (contains_none x has)

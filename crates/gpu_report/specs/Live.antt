@@ -34,6 +34,6 @@ pub record LacksSpan (s : State) (blocks : List LiveBlock) : Type 0 where
 abbrev pub live_sizes : List (ℕ × HeldObject) → Part → List LiveBlock → List ℕ
 live_sizes held p live = map (λ b. b.size) (filter (λ b. is_listed_as held p b.object) live)
 
--- how many bytes were asked for of each of these blocks
+-- how many bytes were requested for each of these blocks
 abbrev pub asked_sizes : List (ℕ × HeldObject) → Part → List LiveBlock → List ℕ
 asked_sizes held p live = map (λ b. b.asked) (filter (λ b. is_listed_as held p b.object) live)

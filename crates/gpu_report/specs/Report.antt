@@ -66,7 +66,7 @@ pub record IsObjectTold (s : State) (live : List LiveBlock) (o : ObjectReport) :
   pub tiled : is_chunk o.kind ≡ true → Tile 0 o.size o.places.items
 
 -- The held objects of a memory type and a kind: how many there are, the sums of the sizes of the live blocks in them,
--- of the bytes asked for of these, and of the free ranges. All are 0 where no object is held so.
+-- of the bytes requested for these, and of the free ranges. All are 0 where no object is held so.
 pub record AreSums (s : State) (held : List (ℕ × HeldObject)) (live : List LiveBlock) (k : KindReport) : Type 0 where
   pub free : List FreeRange
   pub are_free : AreFreeRanges s k.memory_type free

@@ -1,4 +1,4 @@
--- The text of a report of a living program, as JSON, with one line a row.
+-- The text of a report of a living program, as JSON, with one row per line.
 use Rattle.std.specs.Prelude.{ℕ, zero, suc, List, [], ◌∷◌, ◌++◌, codes, decimal, Option, Some, None}
 use Rattle.std.specs.List.{flat_map}
 use Rattle.gpu_alloc_types.specs.Flags.{property_bits}

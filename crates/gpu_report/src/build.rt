@@ -25,7 +25,7 @@ impl Report {
     /// A report of what an allocator holds, from its live blocks under names. Nothing changes.
     ///
     /// `blocks` must have a block for each live span: where one is missing, the error is `BlockMissing`. Blocks that
-    /// are not live are ignored, and of two with one span either may be used. Names may be any numbers, even equal
+    /// are not live are ignored, and of two with the same span either may be used. Names may be any numbers, even equal
     /// ones. The only other error is `OutOfHostMemory`.
     pub fn of<M: MemoryObject, A: Allocator + Copy>(
         alloc: Global,

@@ -9,8 +9,8 @@ use gpu_desk::Desk;
 use std::alloc::{AllocError, Global};
 
 impl Report {
-    /// A report of what a desk's allocator holds, with the live blocks under their keys, and as many bytes asked for as
-    /// their requests did. Nothing changes.
+    /// A report of what a desk's allocator holds, with the live blocks under their keys, and how many bytes their
+    /// requests asked for. Nothing changes.
     ///
     /// The only error is want of host memory.
     pub fn of_desk(alloc: Global, desk: &Desk) -> Result<Report, AllocError>

@@ -113,7 +113,7 @@ impl Part {
         Ok(sizes)
     }
 
-    /// How many bytes were asked for of each live block in the held objects that are held as this, by name.
+    /// How many bytes were requested for each live block in the held objects that are held as this, by name.
     pub(crate) fn asked_sizes(
         &self,
         alloc: Global,

@@ -47,7 +47,7 @@ pub enum ObjectKind {
     /// The blocks of a free list.
     FreeListChunk,
 
-    /// Blocks as long as asked.
+    /// Blocks as long as requested.
     FitChunk,
 }
 
@@ -69,7 +69,7 @@ pub struct KindReport {
     /// How many bytes these blocks have in all.
     pub live_bytes: u128,
 
-    /// How many bytes were asked for of these blocks.
+    /// How many bytes were requested for these blocks.
     pub asked_bytes: u128,
 
     /// How many bytes their free ranges have in all.

@@ -39,7 +39,7 @@ impl Statistics {
     /// What an allocator holds of a memory type, which must exist, from its live blocks under names. Nothing changes.
     ///
     /// `blocks` must have a block for each live span: where one is missing, the error is `BlockMissing`. Blocks that
-    /// are not live are ignored, and of two with one span either may be used. The only other error is
+    /// are not live are ignored, and of two with the same span either may be used. The only other error is
     /// `OutOfHostMemory`.
     pub fn of<M: MemoryObject, A: Allocator + Copy>(
         alloc: Global,
@@ -58,8 +58,8 @@ impl Statistics {
         }
     }
 
-    /// What a desk holds of a memory type, or `None` exactly where the type does not exist. As many bytes count as asked
-    /// for as the blocks' requests did. Nothing changes.
+    /// What a desk holds of a memory type, or `None` exactly where the type does not exist. A block's
+    /// requested size, as in its grant, counts as asked for. Nothing changes.
     ///
     /// The only error is want of host memory, and only for a type that exists.
     pub fn of_desk(

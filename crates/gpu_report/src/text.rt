@@ -1,5 +1,5 @@
-//! The text of a report of a living program, as JSON, with one line a row. It is this library's own, so that a library
-//! for C callers needs no other crate for it.
+//! The text of a report of a living program, as JSON, with one row per line. It is this library's own, so that a
+//! library for C callers needs no other crate for it.
 
 ghost use Rattle.std.specs.Prelude.{◌≡◌};
 ghost use Rattle.gpu_report.specs.DeskReport.{user_of};
@@ -18,8 +18,8 @@ use gpu_desk::Desk;
 ///
 /// The members are those of a [`Report`], in that order, and `types`, the memory types, with `heap` and `properties`.
 /// In place of a block's name there are its `key`, its `user` and its `asked`, all null for free bytes. Each row is a
-/// line. The text has no 0 byte. `report` must be that of the desk as it is: for a key that has no live block the `user`
-/// is 0.
+/// line. The text has no 0 byte. `report` must be that of the desk as it is: for a key that has no live block the
+/// `user` is 0.
 pub fn write_report(desk: &Desk, report: &Report, text: &mut [u8]) -> u64
     ensures { IsTextWritten (report_text (user_of desk.now) (desk.now.allocator.properties).memory_types report.now)
         text.old text.new result }

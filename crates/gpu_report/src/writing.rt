@@ -1,4 +1,4 @@
-//! A text that is written into bytes that may be too few for it, and is counted whole.
+//! A text that is written into bytes that may be too few for it, and whose whole length is counted.
 //!
 //! `at` is the length of the text so far, and a call returns its length afterwards. What exceeds the room is only
 //! counted.

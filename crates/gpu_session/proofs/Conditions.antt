@@ -24,7 +24,7 @@ in_use o b rest there = ap (λ x. fault_of_new_name x rest) there
 pub new_name : (o : Option Block) (rest : Option Fault) → o ≡ None → fault_of_new_name o rest ≡ rest
 new_name o rest none = ap (λ x. fault_of_new_name x rest) none
 
--- where no block has the name it was none
+-- a new name without a fault had no block
 pub was_new : (o : Option Block) (rest : Option Fault) → fault_of_new_name o rest ≡ None → o ≡ None
 was_new None rest e = refl
 was_new (Some b) rest e = absurd (cc)

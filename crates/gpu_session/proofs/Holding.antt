@@ -42,7 +42,7 @@ not_like_memory NoDeviceMemory = ((λ e. cc), (λ e. cc))
 not_like_memory NoHostMemory = ((λ e. cc), (λ e. cc))
 
 module _ (f g : ℕ → Option Object) (s new : Books) (n byte : ℕ) (seen : Seen) (b : Block) (at : finite.get s.blocks n ≡ Some b) (same : new ≡ s) (before : IsSeen f s n byte seen) where
-  -- the block stays, and its byte has one of the values of before
+  -- the block stays, and its byte has one of the earlier values
   byte_stays : (HasBoth seen.values (f b.object) (b.offset + byte) → HasBoth seen.values (g b.object) (b.offset + byte)) → IsSeen g new n byte seen
   byte_stays stays = elim (known_of f s n byte seen b at before) [
     | inl none ↦ inl none
@@ -245,7 +245,7 @@ goes_on [] (r ∷ replies) each later answers name byte seen = absurd (cc)
 goes_on (c ∷ commands) [] each later answers name byte seen = absurd (cc)
 goes_on (c ∷ commands) (r ∷ replies) each later answers name byte seen = goes_on commands replies (omega (arith, each)) later answers name byte (seen_after name byte c r seen)
 
--- A read tells what was written.
+-- A read returns what was written.
 
 the_only : (v : ℕ) (x : Option ℕ) → HasOneOf (v ∷ []) x → x ≡ Some v
 the_only v None h = absurd h
@@ -345,7 +345,7 @@ run_parted Steps old new (x ∷ commands) (y ∷ replies) (suc n) command reply 
     let rest = run_parted Steps run.0 new commands replies n command reply run.2 c r in
     (rest.0, rest.1, (run.0, run.1, rest.2), rest.3)
 
--- Each read of a run tells what was written by the commands before it.
+-- Each read of a run returns what was written by the commands before it.
 pub run_tells : {D A : Type 0} (step : D → Event → D → Type 0) (properties : D → Properties) (objects : D → ℕ → Option Object) (old new : SessionState D) (commands : List (Command A)) (replies : List (Reply A))
     → Run (SoundStep step properties objects) old commands replies new → TellAlong commands replies
 run_tells step properties objects old new commands replies run n command reply c r =

@@ -48,7 +48,7 @@ pub others_stay : (blocks : finite.FinMap nat_cmp Block) (own : ℕ) (f g : ℕ 
 unfolding HasSameBytes
 others_stay blocks own f g each name b another there = (there, each name b (another_name own name another) there)
 
--- what a call tells of the bytes
+-- what a call says about the bytes
 pub untouched_bytes : (f g : ℕ → Option Object) (b : Block) → HasSameBytes b f g → IsUntouched f g b
 unfolding HasSameBytes
 untouched_bytes f g b same = same

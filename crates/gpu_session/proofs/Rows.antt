@@ -34,7 +34,7 @@ row_there (x ∷ es) e has = elim (contains_cases x e es has) [
 same_number : (x y : ℕ) → nat_eq x y ≡ true → x ≡ y
 same_number x y e = grind (arith, nat_tests)
 
--- the row has the name of a block and tells where it lies
+-- the row has the name of a block and says where it lies
 abbrev Tells : List (ℕ × Block) → NamedSpan → Type 0
 Tells es row = (b : Block) × (finite.get (finite.from_entries {R = nat_cmp} es) row.name ≡ Some b) × (span_of b ≡ span_told row)
 

@@ -1,4 +1,4 @@
-//! What a session is asked, and what it answers.
+//! The commands of a session, and its replies.
 
 use crate::{Bytes, Ledgers, Ranges};
 use gpu_alloc::{AllocationError, Dedicated, MapError, Mapping, Request};

@@ -31,7 +31,7 @@ impl<T: Copy, A: Allocator> Items<T, A> {
         Items { items }
     }
 
-    /// The vector again. It allocates nothing.
+    /// Turns the list back into a vector. It allocates nothing.
     pub fn into_vec(self) -> Vec<T, A>
         ensures { result.items ≡ self }
     {

@@ -89,8 +89,8 @@ impl<M: MemoryObject, D: MemoryDevice<M>, A: Allocator + Copy> Session<M, D, A> 
         Session::with_sharing(alloc, config, props, device, Sharing::Buddy)
     }
 
-    /// As [`new`](Session::new), with a choice how requests that are not `TRANSIENT` share objects: in buddy chunks, as
-    /// with `new`, or in fit chunks. Runs never change the choice.
+    /// As [`new`](Session::new), with a choice of how requests that are not `TRANSIENT` share objects: in buddy chunks,
+    /// as with `new`, or in fit chunks. Runs never change the choice.
     pub fn with_sharing(
         alloc: A,
         config: Config,
@@ -132,8 +132,8 @@ impl<M: MemoryObject, D: MemoryDevice<M>, A: Allocator + Copy> Session<M, D, A> 
     /// every state between two commands is sound: live blocks share no memory.
     ///
     /// Each step grants as asked, and changes nothing where an allocation is refused or a condition is missed. It
-    /// leaves each block that it does not name with all its bytes. It changes how many objects are held or may still be
-    /// only where the command sets it.
+    /// leaves each block that it does not name with all its bytes. The total of objects that are held or may still be
+    /// held changes only where the command sets it.
     ///
     /// After any number of commands, each byte of a live block that a `Write` among them has set has one of the values
     /// that those commands allow, for the host and for the device. Each `Read` that is answered with bytes gives such a

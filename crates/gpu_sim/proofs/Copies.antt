@@ -21,7 +21,7 @@ module _ {X Y : Type 0} (f : X → Y) where
   item_of_map (y ∷ xs) zero x is = ap f (sym is)
   item_of_map (y ∷ xs) (suc k) x is = item_of_map xs k x is
 
--- the last of some ranges is told
+-- the last of some ranges is reported
 pub latest_at : (told : Option Range) (rs : List Range) (k : ℕ) (r : Range) → k + 1 ≡ length rs → slice_get rs k ≡ Some r → latest told rs ≡ Some r
 latest_at told [] k r len is = absurd (cc)
 latest_at told (x ∷ []) zero r len is = is

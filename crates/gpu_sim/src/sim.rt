@@ -100,7 +100,7 @@ impl<A: Allocator + Copy> Sim<A> {
     /// two plans for one question the first counts. Question 0 never comes, so a plan for it refuses none. The count
     /// stops at `u64::MAX`: all later questions have this number, and a plan for it refuses them all.
     ///
-    /// `Cause::Failed` is only for `Question::Map`. It fails only for want of memory, and then nothing changes.
+    /// `Cause::Failed` is only for `Question::Map`. The call fails only for want of memory, and then nothing changes.
     pub fn refuse(&mut self, kind: Question, nth: u64, cause: Cause) -> Result<(), AllocError>
         requires { CanRefuse cause kind }
         ensures ok { OnOk result (self.new ≡ record self.old { plans = with_plan self.old.plans kind nth cause }) }

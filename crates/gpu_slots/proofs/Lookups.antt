@@ -22,7 +22,7 @@ same a b e = grind (arith, nat_tests)
 pub other : (a b : ℕ) → a ≢ b → (a == b) ≡ false
 other a b ne = grind (arith, nat_tests)
 
--- two numbers are one or two
+-- two numbers are equal, or they differ
 pub one_or_two : (a b : ℕ) → (a ≡ b) ⊎ (a ≢ b)
 one_or_two a b = elim (a == b) as (λ t. (a == b) ≡ t → (a ≡ b) ⊎ (a ≢ b)) [ true ↦ λ e. inl (one e) | false ↦ λ e. inr (two e) ] refl
   where
@@ -214,7 +214,7 @@ module _ {T : Type 0} where
     not_in_place : (q : ℕ) → q % 2 ^ 32 ≢ i → q ≢ g * 2 ^ 32 + i
     not_in_place q ne e = ne (ap (λ n. n % 2 ^ 32) e ∙ (parts_of g i fits).1)
 
-    -- in that place the key is told by its generation
+    -- in that place the generation identifies the key
     by_generation : (q : ℕ) → q % 2 ^ 32 ≡ i → (q == g * 2 ^ 32 + i) ≡ (g == q / 2 ^ 32)
     by_generation q e =
         ap (λ n. n == g * 2 ^ 32 + i) (key_parts q ∙ ap (λ n. q / 2 ^ 32 * 2 ^ 32 + n) e)

@@ -90,7 +90,7 @@ module _ {T : Type 0} (old new : List (Place T)) (p : Place T) (is : old ≡ new
       let put = puts_at (live_in new) (live_in old) key value none (live_put new old (length new) p.generation few_new few fits value c empty) in
       (key, record { taken = put.there; gone = none; others = λ q ne. sym (put.others q ne); count = sym put.count })
 
--- where no place is left, no value is
+-- where no place is left, no value is left
 pub none_at_all : {T : Type 0} (places : List (Place T)) → length places ≡ 0 → finite.len (live_in places) ≡ 0
 none_at_all {T} [] e = finite.len-empty nat_cmp T
 none_at_all (p ∷ ps) e = absurd (omega arith)

@@ -1,5 +1,4 @@
-//! Values under keys that are never given twice, for a library whose callers hold keys: a removed key stays invalid for
-//! ever.
+//! Values under keys that are never reused, for a library whose callers hold keys: a removed key is never valid again.
 #![tactic(auto)]
 
 mod slot_map;

@@ -37,7 +37,7 @@ impl<T> Place<T> {
     }
 }
 
-/// Values, each under a key that is given once.
+/// Values, each under a key that is never reused.
 ///
 /// A key has the number of its place in the lower 32 bits, and the place's generation in the upper 32 bits. Generations
 /// begin at 1, so 0 is never a key. When a value is removed, its place's generation rises by one. A place whose
@@ -182,7 +182,7 @@ impl<T, A: Allocator> SlotMap<T, A> {
     }
 
     /// Removes and returns the value under a key, or returns `None` and changes nothing where the key is not live. It
-    /// allocates nothing. The key stays invalid for ever, and no later value has it. There is then room for one more
+    /// allocates nothing. The key is never valid again, and no later value has it. There is then room for one more
     /// value, unless the place's generations are used up.
     pub fn remove(&mut self, key: u64) -> Option<T>
         ensures value { result ≡ map.get self.old.live key }

@@ -9,7 +9,7 @@ const NARROW: u64 = 7;
 
 const WIDE: u64 = 12;
 
-/// What stands for a character that XML has not.
+/// What stands for a character that XML does not have.
 const REPLACEMENT: char = '\u{fffd}';
 
 /// The names of blocks, by key.
@@ -40,8 +40,8 @@ impl Names {
     }
 }
 
-/// A name as XML, where `&`, `<`, `>` and quotes have a meaning of their own. A character that XML has not becomes
-/// U+FFFD.
+/// A name as XML, where `&`, `<`, `>` and quotes have a meaning of their own. A character that XML does not have
+/// becomes U+FFFD.
 #[derive(Clone, Copy)]
 pub struct Escaped<'n>(pub &'n str);
 

@@ -25,7 +25,7 @@ reads_lose old names new reads = record {
   ];
 }
 
--- one more name, as it is written behind those of before
+-- one more name, as it is written after the earlier ones
 pub reads_next : (old : DeskState) (xs : List ℕ) (count name : ℕ) (mid new : DeskState) → count < length xs → Reads old (take count xs) mid
     → mid.device.held.gone ≡ new.device.held.gone ++ name ∷ [] → OnlyReads mid new → Reads old (take (count + 1) (slice_set xs count name)) new
 reads_next old xs count name mid new below reads one only = subst (λ names. Reads old names new) (sym (take_more_set xs count name below)) (record {

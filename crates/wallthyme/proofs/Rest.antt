@@ -1,4 +1,4 @@
--- Behind what is written to a list, the list stays as it was.
+-- After what is written to a list, the rest of it stays as it was.
 use Rattle.std.proofs.Common.{◌≡◌, ◌≤◌, ◌+◌, ℕ, List, drop, length, slice_set, arith, ap, sym, ◌∙◌}
 use Rattle.std.proofs.lemmas.List.{drop-drop, drop-set-lt, drop_all}
 

@@ -15,7 +15,7 @@ behind_more : (after : ℕ) (told : List Block) (b : Block) → key_behind after
 behind_more after [] b = refl
 behind_more after (x ∷ xs) b = behind_more x.key xs b
 
--- what is told in a room with the block at its index
+-- what is written in a room with the block at its index
 module _ (s : DeskState) (after : ℕ) (room : List Block) (index : ℕ) (b : Block) (within : index < length room) where
   pub one_more_next : AreNext s after (take index room) → IsNextBlock s (key_behind after (take index room)) b
       → AreNext s after (take (index + 1) (slice_set room index b))

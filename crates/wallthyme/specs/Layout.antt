@@ -16,10 +16,10 @@ use Rattle.gpu_alloc_block.specs.declared.sharing.Sharing.TheVariants.{Buddy, Fi
 use Rattle.gpu_alloc.specs.declared.request.Dedicated.{Dedicated}
 use Rattle.gpu_alloc.specs.declared.request.Dedicated.TheVariants.{Required, Preferred}
 use Rattle.gpu_alloc.specs.declared.request.Request as desk_request
-use Rattle.gpu_desk.specs.declared.told.Counts as desk_counts
-use Rattle.gpu_desk.specs.declared.told.Grant.{Grant}
-use Rattle.gpu_desk.specs.declared.told.HeapCounts as desk_heap
-use Rattle.gpu_desk.specs.declared.told.ObjectRange.{ObjectRange}
+use Rattle.gpu_desk.specs.declared.answers.Counts as desk_counts
+use Rattle.gpu_desk.specs.declared.answers.Grant.{Grant}
+use Rattle.gpu_desk.specs.declared.answers.HeapCounts as desk_heap
+use Rattle.gpu_desk.specs.declared.answers.ObjectRange.{ObjectRange}
 use Rattle.gpu_desk.specs.declared.wish.Wish.{Wish}
 use Rattle.wallthyme.specs.declared.layout.TheConstants as number
 use Rattle.wallthyme.specs.declared.layout.Block.{Block}

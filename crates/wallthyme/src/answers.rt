@@ -39,7 +39,7 @@ pub(crate) fn answers_of(
     read_answers(answers, asked)
 }
 
-/// The same of at least one answer. (It stands apart so that a call without answers does not pay for it.)
+/// As above, for one or more answers. (It stands apart so that a call without answers does not pay for it.)
 #[inline(never)]
 fn read_answers(answers: &mut Vec<Answered>, asked: &[layout::Question]) -> Result<(), Unread>
     ensures answers { OnOk result (answers.new.items ≡ map answered_of asked.now) }

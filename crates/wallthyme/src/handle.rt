@@ -64,6 +64,6 @@ impl Handle {
     }
 }
 
-/// Does nothing: its bound demands a proof that what lies behind a handle may change threads. So each call may be made
+/// Does nothing: its bound demands a proof that what a handle points to may change threads. So each call may be made
 /// on another thread than the one before it, as `c/wallthyme.h` says.
 fn may_change_threads<T: Send>(_desk: &T) {}

@@ -9,7 +9,7 @@ use gpu_desk::laws::a_walk_meets_each_block_once;
 
 /// A whole walk by `wt_blocks` starts from 0, and each call goes on with the last key of the one before. It writes each
 /// block that lives all along exactly once, and no block that is live at none of its calls, whatever calls are made
-/// between. So where nothing changes meanwhile, it writes exactly the live blocks.
+/// in between. So where nothing changes meanwhile, it writes exactly the live blocks.
 pub fn a_walk_in_pages_tells_each_block_once()
     ensures once { (pages : List Page) (last : DeskState) → WalksInPages 0 pages last → (key : ℕ)
         → All (IsLiveKey key) (states_in pages last) → ComesOnce (keys_in pages) key }

@@ -110,8 +110,8 @@ fn map_refused(refusal: MapError) -> u32
     }
 }
 
-/// The status of a fault. The desk chooses the keys and moves no bytes, so `NameInUse` and `NotMapped` never come: they
-/// count as `UnknownName`.
+/// The status of a fault. The desk chooses the keys and moves no bytes, so `NameInUse` and `NotMapped` never occur:
+/// they count as `UnknownName`.
 pub(crate) fn misused(fault: Fault) -> u32
     ensures status { result ≡ status_of_fault fault }
     ensures failed { result ≢ OK }

@@ -15,7 +15,7 @@ use Rattle.gpu_alloc_buddy.specs.Buddy.{buddy_case, question, BeginsBuddyChunk, 
 use Rattle.gpu_alloc_buddy.specs.BuddySound.{IsSoundBuddy}
 use Rattle.gpu_alloc_buddy.specs.BuddyState.{Buddy}
 use Rattle.gpu_alloc_base.specs.Chunks.{Chunk, IsNew}
-use Rattle.gpu_alloc_freelist.specs.FreeListState.{Listing}
+use Rattle.gpu_alloc_freelist.specs.FreeListState.{FreeListState}
 use Rattle.gpu_alloc.specs.Inside.{state_in, properties_in, chunk_object, span_of_leaf}
 use Rattle.gpu_alloc.specs.Own.{OwnTable}
 use Rattle.gpu_alloc_block.specs.Parts.{IsAt}
@@ -45,11 +45,11 @@ use Rattle.gpu_alloc.proofs.NewObjects.{counted_new}
 use Rattle.gpu_alloc.proofs.HeapLists.{type_heap_is}
 use Rattle.gpu_alloc.proofs.Buddies.Serving.{Serves, front_is, told_with}
 use Rattle.gpu_alloc.proofs.Buddies.Grants.{serves, buddy_of, recorded_with_leaf, state_with_leaf, recorded_with_chunk, state_with_chunk, asked_size}
-use Rattle.gpu_alloc_fit.specs.Fit.{Fitting}
+use Rattle.gpu_alloc_fit.specs.Fit.{FitState}
 
 -- A request to a buddy allocator among the fields, and the block that it gave.
 
-module _ {A : Type 0} {l : Limits A} {heaps : List Heap} {buddies : List Buddy} {lists : List Listing} {fits : List Fitting} {remaining index i : ℕ} {b : Buddy} {heap : Heap} {flags : ℕ} {leaf : Leaf} {q : Properties} {old : ℕ → Option Object}
+module _ {A : Type 0} {l : Limits A} {heaps : List Heap} {buddies : List Buddy} {lists : List FreeListState} {fits : List FitState} {remaining index i : ℕ} {b : Buddy} {heap : Heap} {flags : ℕ} {leaf : Leaf} {q : Properties} {old : ℕ → Option Object}
     (own : OwnTable) (given : Given l heaps buddies lists fits (whole own buddies lists fits) remaining index i buddies b heap flags q old) (apart : AreOneWhole own buddies lists fits) (choice : l.sharing ≡ BuddiesChosen) (new : ℕ → Option Object) (size : ℕ) (es : List Event) (after : Account Buddy)
     (answers : Answers (buddy_case (account b heap remaining) size flags) es (Ok leaf) after) (objects : ObjectsAfter b (Ok leaf) after.allocator old new) (nonempty : 0 < leaf.size) where
   abbrev t : Table

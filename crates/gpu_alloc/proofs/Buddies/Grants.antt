@@ -12,7 +12,7 @@ use Rattle.gpu_alloc_buddy.specs.Buddy.{buddy_with_leaf, buddy_with_chunk, chunk
 use Rattle.gpu_alloc_buddy.specs.BuddySound.{IsSoundBuddy}
 use Rattle.gpu_alloc_buddy.specs.BuddyState.{Buddy, IsLiveBuddyLeaf}
 use Rattle.gpu_alloc_base.specs.Chunks.{Chunk}
-use Rattle.gpu_alloc_freelist.specs.FreeListState.{Listing}
+use Rattle.gpu_alloc_freelist.specs.FreeListState.{FreeListState}
 use Rattle.gpu_alloc.specs.Inside.{fits_in, state_in, properties_in, types_in, lists_in, chunk_object, span_of_leaf, IsBuddyFor, IsForType}
 use Rattle.gpu_alloc.specs.Own.{OwnTable}
 use Rattle.gpu_alloc.specs.Whole.{IsKept}
@@ -34,7 +34,7 @@ use Rattle.gpu_alloc.specs.Sound.{is_chosen}
 use Rattle.gpu_alloc_block.specs.declared.sharing.Sharing.TheVariants.{Buddy as BuddiesChosen}
 use Rattle.gpu_alloc.proofs.Fits.States.{fits_next, fits_next_at}
 use Rattle.gpu_alloc.proofs.Buddies.States.{HasLeafMore, next_at, types_set, types_kept, lists_next, lists_next_at}
-use Rattle.gpu_alloc_fit.specs.Fit.{Fitting}
+use Rattle.gpu_alloc_fit.specs.Fit.{FitState}
 
 -- a live block is not empty
 some_bytes : (b : Buddy) (leaf : Leaf) → IsSoundBuddy b → IsLiveBuddyLeaf b leaf → 0 < leaf.size
@@ -44,7 +44,7 @@ some_bytes b leaf sound live = let lies = sound.space.inside leaf live in omega 
 pub same_set : {X : Type 0} (xs : List X) (i : ℕ) (x old : X) → old ≡ get_or xs i old → x ≡ old → set xs i x ≡ xs
 same_set xs i x old at same = ap (set xs i) (same ∙ at) ∙ set-get_or xs i old
 
-module _ {A : Type 0} (l : Limits A) (heaps : List Heap) (buddies : List Buddy) (lists : List Listing) (fits : List Fitting) (t : Table) (remaining index : ℕ) (b : Buddy)
+module _ {A : Type 0} (l : Limits A) (heaps : List Heap) (buddies : List Buddy) (lists : List FreeListState) (fits : List FitState) (t : Table) (remaining index : ℕ) (b : Buddy)
     (is : IsConsistent l.sharing l.config (properties_in l heaps) heaps buddies lists fits t remaining) (known : index < length (properties_in l heaps).memory_types) (at : b ≡ get_or buddies index b) where
   abbrev p : Properties
   p = properties_in l heaps

@@ -15,13 +15,13 @@ use Rattle.gpu_alloc_buddy.specs.BuddySound.{LiesInBuddyChunk, IsSoundBuddy}
 use Rattle.gpu_alloc_buddy.specs.BuddyState.{Buddy, IsLiveBuddyLeaf, IsLiveBuddySpan, IsNoLiveBuddySpan}
 use Rattle.gpu_alloc_base.proofs.Leaves.{leaf_same_or_left}
 use Rattle.gpu_alloc_base.specs.Chunks.{Chunk}
-use Rattle.gpu_alloc_freelist.specs.FreeListState.{Listing}
+use Rattle.gpu_alloc_freelist.specs.FreeListState.{FreeListState}
 use Rattle.gpu_alloc.specs.Inside.{fits_in, state_in, properties_in, lists_in, chunk_object, span_of_leaf}
 use Rattle.gpu_alloc.specs.Own.{OwnTable}
 use Rattle.gpu_alloc.specs.Whole.{whole, IsKept}
 use Rattle.gpu_alloc.proofs.Linked.{chosen_less, chosen_same, IsConsistent, IsBuddyOf, StandFor, buddies_set, consistent}
 use Rattle.gpu_alloc.proofs.Wholes.{at_read, leaf_goes, last_leaf_goes}
-use Rattle.gpu_alloc.specs.Release.{Frees, ObjectsFreed, GoesWith, IsUnused, without_all, without_objects, without_span}
+use Rattle.gpu_alloc.specs.Release.{Frees, ObjectsFreed, ReleasedWith, IsUnused, without_all, without_objects, without_span}
 use Rattle.gpu_alloc.specs.FirstTypes.{first_types}
 use Rattle.gpu_alloc.specs.Spans.{Table}
 use Rattle.gpu_alloc_block.specs.State.{HeldObject, Span, span_cmp, span_of, Block, IsOwned, State}
@@ -40,7 +40,7 @@ use Rattle.gpu_alloc.proofs.Buddies.Served.{buddy_agrees, unused_is, unused_was}
 use Rattle.gpu_alloc.proofs.Buddies.Serving.{Serves}
 use Rattle.gpu_alloc.proofs.Buddies.Grants.{same_set, serves, buddy_of, same_for, counted_before}
 use Rattle.gpu_alloc.proofs.Buddies.States.{types_kept}
-use Rattle.gpu_alloc_fit.specs.Fit.{Fitting}
+use Rattle.gpu_alloc_fit.specs.Fit.{FitState}
 
 -- the only span of an object is live no more where no span of it is left
 pub only_span : (live : set_of.FinSet span_cmp) (span other : Span) → ((left : Span) → IsTrue (set_of.contains (set_of.remove live span) left) → left.object ≢ span.object)
@@ -51,7 +51,7 @@ only_span live span other none was of_it = elim (eq_by_cmp span_cmp other span) 
 ] refl
 
 -- a block of a buddy allocator among the fields, as it comes back
-pub record Given {A : Type 0} (l : Limits A) (heaps : List Heap) (buddies : List Buddy) (lists : List Listing) (fits : List Fitting) (own : OwnTable) (remaining index i : ℕ) (b : Buddy) (heap : Heap) (leaf : Leaf) (block : Block) : Type 0 where
+pub record Given {A : Type 0} (l : Limits A) (heaps : List Heap) (buddies : List Buddy) (lists : List FreeListState) (fits : List FitState) (own : OwnTable) (remaining index i : ℕ) (b : Buddy) (heap : Heap) (leaf : Leaf) (block : Block) : Type 0 where
   pub kept : IsKept l.sharing l.config (properties_in l heaps) heaps buddies lists fits own remaining
   pub known : index < length (properties_in l heaps).memory_types
   pub at : b ≡ get_or buddies index b
@@ -63,7 +63,7 @@ pub record Given {A : Type 0} (l : Limits A) (heaps : List Heap) (buddies : List
 
 -- A live block of the whole allocator is one of its memory type's buddy allocator, which finds it by its span.
 
-module _ {A : Type 0} (l : Limits A) {heaps : List Heap} {buddies : List Buddy} {lists : List Listing} {fits : List Fitting} {own : OwnTable} {remaining index : ℕ} {b : Buddy} {block : Block} (kept : IsKept l.sharing l.config (properties_in l heaps) heaps buddies lists fits own remaining)
+module _ {A : Type 0} (l : Limits A) {heaps : List Heap} {buddies : List Buddy} {lists : List FreeListState} {fits : List FitState} {own : OwnTable} {remaining index : ℕ} {b : Buddy} {block : Block} (kept : IsKept l.sharing l.config (properties_in l heaps) heaps buddies lists fits own remaining)
     (owned : IsOwned (state_in l heaps buddies lists fits (whole own buddies lists fits) remaining) block) (shared : block.kind ≡ BuddyChunk) (typed : index ≡ block.memory_type) (at : b ≡ get_or buddies index b) where
   pub known_type : index < length (properties_in l heaps).memory_types
   known_type = omega (arith, typed, owned.held.2, (known_object (properties_in l heaps) heaps (whole own buddies lists fits) remaining kept.books refl block.object owned.held.0 owned.held.1).of_type)
@@ -86,7 +86,7 @@ module _ {A : Type 0} (l : Limits A) {heaps : List Heap} {buddies : List Buddy} 
     shared = shared;
   }
 
-module _ {A : Type 0} {l : Limits A} {heaps : List Heap} {buddies : List Buddy} {lists : List Listing} {fits : List Fitting} {own : OwnTable} {remaining index i : ℕ} {b : Buddy} {heap : Heap} {leaf : Leaf} {block : Block} (given : Given l heaps buddies lists fits own remaining index i b heap leaf block) where
+module _ {A : Type 0} {l : Limits A} {heaps : List Heap} {buddies : List Buddy} {lists : List FreeListState} {fits : List FitState} {own : OwnTable} {remaining index i : ℕ} {b : Buddy} {heap : Heap} {leaf : Leaf} {block : Block} (given : Given l heaps buddies lists fits own remaining index i b heap leaf block) where
   abbrev p : Properties
   p = properties_in l heaps
 
@@ -215,7 +215,7 @@ module _ {A : Type 0} {l : Limits A} {heaps : List Heap} {buddies : List Buddy} 
 
   module _ {after : Account Buddy} {es : List Event} {q r : Properties} {old new : ℕ → Option Object} (sound : IsSoundBuddy after.allocator) (agrees : agreement.Agrees before q old) (properties : r ≡ q) where
     -- these objects went with it
-    left : (s : State) (names : List ℕ) → With after s → GoesWith block.kind (without_span before block) block.object names → es ≡ map Deallocated names
+    left : (s : State) (names : List ℕ) → With after s → ReleasedWith block.kind (without_span before block) block.object names → es ≡ map Deallocated names
         → s ≡ record (without_span before block) { held = without_all before.held names; remaining = remaining + length names } → new ≡ without_objects old names → agreement.Agrees s r new → IsReturned after es r old new
     left s names fields with_it told lets objects agreed =
         record { kept = fields.0; frees = (names, with_it, (told, fields.1 ∙ lets)); freed = (names, with_it, objects); agreed = subst (λ x. agreement.Agrees x r new) (sym fields.1) agreed }
@@ -223,7 +223,7 @@ module _ {A : Type 0} {l : Limits A} {heaps : List Heap} {buddies : List Buddy} 
     chunk_stays : (IsUnusedBuddyChunk (buddy_without_leaf b leaf) leaf.chunk → ⊥) → es ≡ [] → after ≡ account (buddy_without_leaf b leaf) heap remaining → new ≡ old → IsReturned after es r old new
     chunk_stays used none after_is same_objects =
         let fields = stays (subst IsSoundBuddy (ap (λ (a : Account Buddy). a.allocator) after_is) sound) in
-        left (without_span before block) [] (subst (λ a. With a (without_span before block)) (sym after_is) fields) (subst (λ k. GoesWith k (without_span before block) block.object []) (sym given.shared) (inr (used_now used, refl))) none
+        left (without_span before block) [] (subst (λ a. With a (without_span before block)) (sym after_is) fields) (subst (λ k. ReleasedWith k (without_span before block) block.object []) (sym given.shared) (inr (used_now used, refl))) none
         (λ k. record (without_span before block) { remaining = zero k }) same_objects (subst (agreement.Agrees (without_span before block) r) (sym same_objects) (agrees_without_span before q r old block agrees properties))
       where
         zero : remaining ≡ remaining + 0
@@ -236,7 +236,7 @@ module _ {A : Type 0} {l : Limits A} {heaps : List Heap} {buddies : List Buddy} 
         let same = after_is ∙ (λ k. account (record (buddy_without_leaf b leaf) { chunks = finite.remove b.chunks leaf.chunk }) (record heap { used = heap.used - (one k).size }) (remaining + 1)) in
         let fields = goes unused (subst IsSoundBuddy (ap (λ (a : Account Buddy). a.allocator) same) sound) in
         let object_gone : new ≡ put old block.object None = gone_object ∙ ap (λ n. put old n None) (sym object_is) in
-        left (returned before block) (block.object ∷ []) (subst (λ a. With a (returned before block)) (sym same) fields) (subst (λ k. GoesWith k (without_span before block) block.object (block.object ∷ [])) (sym given.shared) (inl (unused_now unused, refl)))
+        left (returned before block) (block.object ∷ []) (subst (λ a. With a (returned before block)) (sym same) fields) (subst (λ k. ReleasedWith k (without_span before block) block.object (block.object ∷ [])) (sym given.shared) (inl (unused_now unused, refl)))
         (told ∙ ap (λ n. Deallocated n ∷ []) (sym object_is)) refl object_gone (agrees_returned before (returned before block) q r old new block agrees properties object_gone refl refl (λ span live. (live_other t.live (span_of block) span live).1))
 
     pub back : buddy.Frees (account b heap remaining) leaf es after → buddy.ObjectsFreed b leaf old new → IsReturned after es r old new

@@ -27,7 +27,7 @@ use Rattle.gpu_alloc.proofs.Buddies.Serving.{table_of, Serves}
 use Rattle.gpu_alloc.proofs.HeapLists.{ledger_at}
 
 module _ (s : State) (index : ℕ) (b : Buddy) (serves : Serves s index b) where
-  -- What both tell.
+  -- What both say.
 
   -- a chunk's object is held as one
   chunk_held : (key : ℕ) (c : Chunk) → map.get b.chunks key ≡ Some c → IsChunkOf (table_of s) b.memory_type c.object (chunk_object b c)

@@ -1,4 +1,4 @@
--- A memory type's buddy allocator in the whole allocator's state: both tell the same of chunks, free bytes and blocks.
+-- A memory type's buddy allocator in the whole allocator's state: both say the same of chunks, free bytes and blocks.
 use Rattle.std.proofs.Common.{◌≡◌, ℕ, ◌*◌, ◌^◌, ◌<◌, Some, slice_get, refl, sym, ◌∙◌, ap, subst, arith}
 use Rattle.std.proofs.lemmas.Nat.{pow_pos}
 use Rattle.std.specs.Prelude.{max}
@@ -32,12 +32,12 @@ use Rattle.gpu_alloc.proofs.Links.{leaf_at}
 abbrev pub table_of : State → Table
 table_of s = record { held = s.held; live = s.live }
 
--- the memory type's buddy allocator, whose next chunk is as the state tells
+-- the memory type's buddy allocator, whose next chunk is as the state says
 pub record Serves (s : State) (index : ℕ) (b : Buddy) : Type 0 where
   pub of : IsBuddyOf s.config s.properties (table_of s) index b
   pub next : next_chunk_of (slice_get s.types index) ≡ b.next_chunk
 
--- Two ways to tell of free bytes that tell the same of one object, whatever name each has for it.
+-- Two descriptions of free bytes that agree on one object, whatever name each has for it.
 
 module _ (F G : ℕ → ℕ → Type 0) (x y : ℕ) (to : (at : ℕ) → F x at → G y at) where
   place_to : (start length : ℕ) → IsPlace F x start length → IsPlace G y start length
@@ -152,7 +152,7 @@ module _ (s : State) (index : ℕ) (b : Buddy) (serves : Serves s index b) where
       let props : b.props ≡ props_at s.properties index = serves.of.for_type.props in
       λ i. record { size = max (next i) (2 * size); memory_type = type i; flags = flags_of s.properties; mapped = has_bit (props i) 2 }
 
-  -- A request, which both tell.
+  -- A request, which both describe.
 
   told_as : (heap : Heap) (size : ℕ) → IsHeap s (heap_at s.properties index) heap → IsToldAs (buddy_case (account b heap s.remaining) size (flags_of s.properties)) (buddy_candidate s size index)
   told_as heap size of = record {

@@ -4,7 +4,7 @@ use Rattle.std.proofs.Math.ListN.{set}
 use Rattle.std.specs.FinSet as set_of
 use Rattle.gpu_alloc_base.specs.declared.buddy_block.Leaf.{Leaf}
 use Rattle.gpu_alloc_buddy.specs.BuddyState.{Buddy}
-use Rattle.gpu_alloc_freelist.specs.FreeListState.{Listing}
+use Rattle.gpu_alloc_freelist.specs.FreeListState.{FreeListState}
 use Rattle.gpu_alloc.specs.Inside.{types_in, lists_in, span_of_leaf}
 use Rattle.gpu_alloc.specs.BuddySharing.{next_chunk_of, with_next_chunk}
 use Rattle.gpu_alloc.specs.Spans.{Table}
@@ -42,7 +42,7 @@ next_at (type ∷ types) (y ∷ buddies) (suc i) b at within = next_at types bud
 -- The free lists' part of it, beside the buddy allocators'.
 
 -- the next buddy chunk is the same with it
-pub lists_next : (types : List TypeState) (lists : List Listing) (i size : ℕ) → lists_in (with_next_chunk types i size) lists ≡ with_next_chunk (lists_in types lists) i size
+pub lists_next : (types : List TypeState) (lists : List FreeListState) (i size : ℕ) → lists_in (with_next_chunk types i size) lists ≡ with_next_chunk (lists_in types lists) i size
 unfolding with_next_chunk
 lists_next [] lists i size = refl
 lists_next (type ∷ types) [] zero size = refl
@@ -50,7 +50,7 @@ lists_next (type ∷ types) [] (suc i) size = refl
 lists_next (type ∷ types) (l ∷ lists) zero size = refl
 lists_next (type ∷ types) (l ∷ lists) (suc i) size = ap (λ ts. record type { list_chunk = l.next_chunk; number = l.space.latest } ∷ ts) (lists_next types lists i size)
 
-pub lists_next_at : (types : List TypeState) (lists : List Listing) (i : ℕ) → i < length lists → next_chunk_of (slice_get (lists_in types lists) i) ≡ next_chunk_of (slice_get types i)
+pub lists_next_at : (types : List TypeState) (lists : List FreeListState) (i : ℕ) → i < length lists → next_chunk_of (slice_get (lists_in types lists) i) ≡ next_chunk_of (slice_get types i)
 lists_next_at [] lists i inside = refl
 lists_next_at (type ∷ types) [] i inside = absurd (omega (arith, inside))
 lists_next_at (type ∷ types) (l ∷ lists) zero inside = refl

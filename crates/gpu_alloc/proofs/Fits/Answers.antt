@@ -23,10 +23,10 @@ use Rattle.gpu_alloc_block.specs.declared.block.Kind.TheVariants.{FitChunk}
 use Rattle.gpu_alloc_block.specs.declared.sharing.Sharing.TheVariants.{Fit as FitsChosen}
 use Rattle.gpu_alloc_block.proofs.LiveSpans.{not_live}
 use Rattle.gpu_alloc_buddy.specs.BuddyState.{Buddy}
-use Rattle.gpu_alloc_fit.specs.Fit.{Fitting, ObjectsAfter, chunk_size, fit_case, fitting_in_new_chunk, fitting_with_slot, question, sees_chunks}
-use Rattle.gpu_alloc_fit.specs.FitSound.{IsSoundFitting}
+use Rattle.gpu_alloc_fit.specs.Fit.{FitState, ObjectsAfter, chunk_size, fit_case, fitting_in_new_chunk, fitting_with_slot, question, sees_chunks}
+use Rattle.gpu_alloc_fit.specs.FitSound.{IsSoundFit}
 use Rattle.gpu_alloc_fits.specs.Space.{BeginsFitChunk, IsFitting}
-use Rattle.gpu_alloc_freelist.specs.FreeListState.{Listing}
+use Rattle.gpu_alloc_freelist.specs.FreeListState.{FreeListState}
 use Rattle.gpu_alloc.specs.Allocation.{ObjectsWith}
 use Rattle.gpu_alloc.specs.BuddySharing.{with_span}
 use Rattle.gpu_alloc.specs.Candidates.{fit_candidate}
@@ -51,8 +51,8 @@ use Rattle.gpu_alloc.proofs.Wholes.{at_read, fit_comes, fit_chunk_comes}
 
 -- A request to an allocator of fit chunks among the fields, and the block that it gave.
 
-module _ {A : Type 0} {limits : Limits A} {heaps : List Heap} {buddies : List Buddy} {lists : List Listing} {fits : List Fitting} {remaining index i : ℕ} {f : Fitting} {heap : Heap} {flags : ℕ} {slot : Slot} {q : Properties} {old : ℕ → Option Object}
-    (own : OwnTable) (given : Given limits heaps buddies lists fits (whole own buddies lists fits) remaining index i fits f heap flags q old) (apart : AreOneWhole own buddies lists fits) (choice : limits.sharing ≡ FitsChosen) (new : ℕ → Option Object) (size alignment : ℕ) (es : List Event) (after : Account Fitting)
+module _ {A : Type 0} {limits : Limits A} {heaps : List Heap} {buddies : List Buddy} {lists : List FreeListState} {fits : List FitState} {remaining index i : ℕ} {f : FitState} {heap : Heap} {flags : ℕ} {slot : Slot} {q : Properties} {old : ℕ → Option Object}
+    (own : OwnTable) (given : Given limits heaps buddies lists fits (whole own buddies lists fits) remaining index i fits f heap flags q old) (apart : AreOneWhole own buddies lists fits) (choice : limits.sharing ≡ FitsChosen) (new : ℕ → Option Object) (size alignment : ℕ) (es : List Event) (after : Account FitState)
     (answers : Answers (fit_case (account f heap remaining) size alignment flags) es (Ok slot) after) (objects : ObjectsAfter f (Ok slot) after.allocator old new) (nonempty : 0 < slot.size) where
   abbrev t : Table
   t = whole own buddies lists fits
@@ -93,15 +93,15 @@ module _ {A : Type 0} {limits : Limits A} {heaps : List Heap} {buddies : List Bu
   stands = at_read fits index f (omega (arith, given.known, given.is.fitted.count)) given.at
 
   -- What the fields are with another one.
-  module _ (sound : IsSoundFitting after.allocator) where
-    abbrev now : Account Fitting → Table
+  module _ (sound : IsSoundFit after.allocator) where
+    abbrev now : Account FitState → Table
     now a = whole own buddies lists (set fits index a.allocator)
 
-    abbrev state_of : Account Fitting → State
+    abbrev state_of : Account FitState → State
     state_of a = state_in limits (set heaps i a.heap) buddies lists (set fits index a.allocator) (now a) a.remaining
 
     -- what is left of it
-    pub record IsServed (a : Account Fitting) : Type 0 where
+    pub record IsServed (a : Account FitState) : Type 0 where
       pub recorded : IsRecorded limits.sharing limits.config (properties_in limits (set heaps i a.heap)) (set heaps i a.heap) buddies lists (set fits index a.allocator) (now a) a.remaining
       pub parts : AreOneWhole own buddies lists (set fits index a.allocator)
       pub gives : GivesInPlace (fit_candidate before size alignment index) es block (state_of a) ⊎ GivesInNewObject (fit_candidate before size alignment index) es block (state_of a)
@@ -113,11 +113,11 @@ module _ {A : Type 0} {limits : Limits A} {heaps : List Heap} {buddies : List Bu
     in_run fitting same_objects after_is gives =
         let chunk : Chunk = fitting.chunk in
         let found = fitting.held in
-        let fit_now : Fitting = fitting_with_slot f slot in
+        let fit_now : FitState = fitting_with_slot f slot in
         let made = fit_comes own buddies lists fits apart index f stands serving.of.sound serving.of.for_type.memory_type fit_now refl slot chunk found fitting.object refl refl in
         let now_is : Table = whole own buddies lists (set fits index fit_now) in
         let more : HasSlotMore t now_is slot = record { free = slot_is_free; live = made.live_is } in
-        let sound_now = subst IsSoundFitting (ap (λ (a : Account Fitting). a.allocator) after_is) sound in
+        let sound_now = subst IsSoundFit (ap (λ (a : Account FitState). a.allocator) after_is) sound in
         let state = state_with_fit limits heaps buddies lists fits t remaining index f given.is given.known given.at i heap given.here given.at_heap slot chunk now_is found fitting.object sound_now made.held_is more in
         subst IsServed (sym after_is) (record {
           recorded = recorded_with_fit limits heaps buddies lists fits t remaining index f given.is given.known given.at i heap given.here given.at_heap slot chunk now_is found fitting.object sound_now made.held_is more;
@@ -137,10 +137,10 @@ module _ {A : Type 0} {limits : Limits A} {heaps : List Heap} {buddies : List Bu
         let n : ℕ = chunk_size f size in
         let chunk : Chunk = record { object = slot.object; size = n } in
         let changed : Heap = record heap { used = heap.used + n } in
-        let fit_now : Fitting = fitting_in_new_chunk f slot n in
-        let after_fit : after.allocator ≡ fit_now = ap (λ (a : Account Fitting). a.allocator) after_is in
+        let fit_now : FitState = fitting_in_new_chunk f slot n in
+        let after_fit : after.allocator ≡ fit_now = ap (λ (a : Account FitState). a.allocator) after_is in
         let chunk_now : finite.get after.allocator.space.chunks slot.chunk ≡ Some chunk =
-        ap (λ (x : Fitting). finite.get x.space.chunks slot.chunk) after_fit ∙ own_inserted f.space.chunks slot.chunk chunk in
+        ap (λ (x : FitState). finite.get x.space.chunks slot.chunk) after_fit ∙ own_inserted f.space.chunks slot.chunk chunk in
         let row : HeldObject = record { memory_type = index; counted = n; kind = FitChunk } in
         let row_is : fit_object f chunk ≡ row = λ k. record row { memory_type = for_type.memory_type k } in
         let made = fit_chunk_comes own buddies lists fits apart index f stands serving.of.sound for_type.memory_type fit_now refl slot chunk free refl begins.free_key refl refl in
@@ -148,7 +148,7 @@ module _ {A : Type 0} {limits : Limits A} {heaps : List Heap} {buddies : List Bu
         let held_now : now_is.held ≡ finite.insert t.held slot.object row = made.held_is ∙ ap (finite.insert t.held slot.object) row_is in
         let more : HasSlotMore t now_is slot = record { free = slot_is_free; live = made.live_is } in
         let small : n < 2 ^ 64 = (sound.space.sizes slot.chunk chunk chunk_now).1 in
-        let sound_now = subst IsSoundFitting after_fit sound in
+        let sound_now = subst IsSoundFit after_fit sound in
         let lies = sound_now.space.inside slot ((slot_inserted f.space.live slot slot).1 (inl refl)) in
         let own_chunk : lies.chunk ≡ chunk = one_value _ lies.chunk chunk lies.held (own_inserted f.space.chunks slot.chunk chunk) in
         let fits_last : size ≤ f.final_chunk = omega (arith, begins.exact, lies.inside, ap (λ (x : Chunk). x.size) own_chunk, (sound_now.chunks slot.chunk chunk (own_inserted f.space.chunks slot.chunk chunk)).1) in

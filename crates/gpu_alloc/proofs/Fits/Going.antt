@@ -16,19 +16,19 @@ use Rattle.gpu_alloc_block.specs.Parts.{Makes}
 use Rattle.gpu_alloc_block.specs.State.{State, total}
 use Rattle.gpu_alloc_buddy.specs.BuddyState.{Buddy}
 use Rattle.gpu_alloc_fit.specs.Fit as fit
-use Rattle.gpu_alloc_fit.specs.Fit.{Fitting}
-use Rattle.gpu_alloc_fit.specs.FitSound.{IsSoundFitting}
+use Rattle.gpu_alloc_fit.specs.Fit.{FitState}
+use Rattle.gpu_alloc_fit.specs.FitSound.{IsSoundFit}
 use Rattle.gpu_alloc_fits.specs.Space.{IsWhollyFree, without_chunk}
-use Rattle.gpu_alloc_freelist.specs.FreeListState.{Listing}
+use Rattle.gpu_alloc_freelist.specs.FreeListState.{FreeListState}
 use Rattle.gpu_alloc.specs.FirstTypes.{first_types}
 use Rattle.gpu_alloc.specs.Inside.{fit_object, fits_in, lists_in, properties_in, state_in, types_in, AreFits}
 use Rattle.gpu_alloc.specs.Own.{OwnTable}
-use Rattle.gpu_alloc.specs.Release.{AreFitsGone, IsUnusedFit, LetsFitsGo, without_objects}
+use Rattle.gpu_alloc.specs.Release.{AreFitChunksReleased, IsUnusedFit, ReleasesFitChunks, without_objects}
 use Rattle.gpu_alloc.specs.Spans.{Table}
 use Rattle.gpu_alloc.specs.Whole.{parts_of, whole, IsKept, IsPartFor}
 use Rattle.gpu_alloc.specs.declared.limits.Limits.{Limits}
 use Rattle.gpu_alloc.proofs.Buddies.Grants.{same_set}
-use Rattle.gpu_alloc.proofs.Consistency.{heap_there, booked-let_go}
+use Rattle.gpu_alloc.proofs.Consistency.{heap_there, booked-release}
 use Rattle.gpu_alloc.proofs.Fits.Grants.{fit_of, same_fit_for, serves_fits}
 use Rattle.gpu_alloc.proofs.Fits.Served.{fit_agrees, fit_counted, unused_is, unused_was}
 use Rattle.gpu_alloc.proofs.Fits.Serving.{ServesFits, fit_chunk_was}
@@ -42,18 +42,18 @@ use Rattle.gpu_alloc.proofs.ReturnedTotals.{fits_total}
 use Rattle.gpu_alloc.proofs.Wholes.{at_read, fit_chunk_goes}
 
 -- a memory type's allocator of fit chunks and its heap, as a call is handed them
-pub record Handed {A : Type 0} (l : Limits A) (heaps : List Heap) (buddies : List Buddy) (lists : List Listing) (fits : List Fitting) (own : OwnTable) (remaining index i : ℕ) (f : Fitting) (heap : Heap) : Type 0 where
+pub record Handed {A : Type 0} (l : Limits A) (heaps : List Heap) (buddies : List Buddy) (lists : List FreeListState) (fits : List FitState) (own : OwnTable) (remaining index i : ℕ) (f : FitState) (heap : Heap) : Type 0 where
   pub kept : IsKept l.sharing l.config (properties_in l heaps) heaps buddies lists fits own remaining
   pub known : index < length (properties_in l heaps).memory_types
   pub at : f ≡ get_or fits index f
   pub here : i ≡ heap_at (properties_in l heaps) index
   pub at_heap : heap ≡ get_or heaps i heap
 
-pub handed : {A : Type 0} (l : Limits A) {heaps : List Heap} {buddies : List Buddy} {lists : List Listing} {fits : List Fitting} {own : OwnTable} {remaining index i : ℕ} {f : Fitting} {heap : Heap} → IsKept l.sharing l.config (properties_in l heaps) heaps buddies lists fits own remaining
+pub handed : {A : Type 0} (l : Limits A) {heaps : List Heap} {buddies : List Buddy} {lists : List FreeListState} {fits : List FitState} {own : OwnTable} {remaining index i : ℕ} {f : FitState} {heap : Heap} → IsKept l.sharing l.config (properties_in l heaps) heaps buddies lists fits own remaining
     → index < length (properties_in l heaps).memory_types → f ≡ get_or fits index f → i ≡ heap_at (properties_in l heaps) index → heap ≡ get_or heaps i heap → Handed l heaps buddies lists fits own remaining index i f heap
 handed l kept known at here at_heap = record { kept = kept; known = known; at = at; here = here; at_heap = at_heap }
 
-module _ {A : Type 0} {l : Limits A} {heaps : List Heap} {buddies : List Buddy} {lists : List Listing} {fits : List Fitting} {own : OwnTable} {remaining index i : ℕ} {f : Fitting} {heap : Heap} (h : Handed l heaps buddies lists fits own remaining index i f heap) where
+module _ {A : Type 0} {l : Limits A} {heaps : List Heap} {buddies : List Buddy} {lists : List FreeListState} {fits : List FitState} {own : OwnTable} {remaining index i : ℕ} {f : FitState} {heap : Heap} (h : Handed l heaps buddies lists fits own remaining index i f heap) where
   abbrev p : Properties
   p = properties_in l heaps
 
@@ -89,32 +89,32 @@ module _ {A : Type 0} {l : Limits A} {heaps : List Heap} {buddies : List Buddy} 
   -- The fields with another one, which was given the same.
 
   -- with this allocator, heap and count
-  abbrev pub With : Account Fitting → State → Type 0
+  abbrev pub With : Account FitState → State → Type 0
   With a s = StandFor l (set heaps i a.heap) buddies lists (set fits index a.allocator) own a.remaining s
 
-  abbrev pub state_with : Account Fitting → State
+  abbrev pub state_with : Account FitState → State
   state_with a = state_in l (set heaps i a.heap) buddies lists (set fits index a.allocator) (whole own buddies lists (set fits index a.allocator)) a.remaining
 
   -- with no other chunk, and the same next one
-  pub fitted_with : (after : Fitting) → after.memory_type ≡ f.memory_type → after.props ≡ f.props → after.atom ≡ f.atom → after.final_chunk ≡ f.final_chunk → after.next_chunk ≡ f.next_chunk
-      → ((key : ℕ) (chunk : Chunk) → finite.get after.space.chunks key ≡ Some chunk → finite.get f.space.chunks key ≡ Some chunk) → IsSoundFitting after → AreFits l.config p (set fits index after)
+  pub fitted_with : (after : FitState) → after.memory_type ≡ f.memory_type → after.props ≡ f.props → after.atom ≡ f.atom → after.final_chunk ≡ f.final_chunk → after.next_chunk ≡ f.next_chunk
+      → ((key : ℕ) (chunk : Chunk) → finite.get after.space.chunks key ≡ Some chunk → finite.get f.space.chunks key ≡ Some chunk) → IsSoundFit after → AreFits l.config p (set fits index after)
   fitted_with after memory_type props atom final next fewer sound =
       fits_set l.config p fits index after h.kept.fitted (record { for_type = same_fit_for l heaps buddies lists fits t remaining index f is h.known h.at after memory_type props atom final; sized = sized_less of.for_type of.sized after next fewer; sound = sound })
 
   -- the memory types as they were
-  pub types_with : (after : Fitting) → after.next_chunk ≡ f.next_chunk → fits_in (lists_in (types_in (first_types l.config p) buddies) lists) (set fits index after) ≡ state.types
+  pub types_with : (after : FitState) → after.next_chunk ≡ f.next_chunk → fits_in (lists_in (types_in (first_types l.config p) buddies) lists) (set fits index after) ≡ state.types
   types_with after next = fit_types_kept (lists_in (types_in (first_types l.config p) buddies) lists) fits index after f h.at next
 
-  -- no chunk goes
+  -- no chunk is removed
   unchanged : With (account f heap remaining) state
   unchanged =
       subst (λ hs. StandFor l hs buddies lists (set fits index f) own remaining state) (sym (same_set heaps i heap heap h.at_heap refl))
       (subst (λ fs. StandFor l heaps buddies lists fs own remaining state) (sym (same_set fits index f f h.at refl)) (h.kept, refl))
 
-  -- One chunk goes.
+  -- One chunk is removed.
 
   module _ (key : ℕ) (chunk : Chunk) (found : finite.get f.space.chunks key ≡ Some chunk) (free : IsWhollyFree f.space key) where
-    abbrev less : Fitting
+    abbrev less : FitState
     less = record f { space = without_chunk f.space key }
 
     abbrev changed : Heap
@@ -126,10 +126,10 @@ module _ {A : Type 0} {l : Limits A} {heaps : List Heap} {buddies : List Buddy} 
     made : Makes (IsPartFor (length buddies) (length lists)) (parts_of own buddies lists (set fits index less)) (finite.remove t.held chunk.object) t.live
     made = fit_chunk_goes own buddies lists fits h.kept.apart index f (at_read fits index f in_range h.at) of.sound of.for_type.memory_type less refl key chunk found free.unused refl refl
 
-    chunk_goes : IsSoundFitting less → With (account less changed (remaining + 1)) (without_these state (chunk.object ∷ []))
+    chunk_goes : IsSoundFit less → With (account less changed (remaining + 1)) (without_these state (chunk.object ∷ []))
     chunk_goes sound = (
       subst (λ (q : Properties). IsKept l.sharing l.config q (set heaps i changed) buddies lists (set fits index less) own (remaining + 1)) (sym (properties_kept l heaps i changed heap h.at_heap refl)) (record {
-        books = booked-let_go p heaps t remaining h.kept.books refl now (fit_object f chunk) chunk.object
+        books = booked-release p heaps t remaining h.kept.books refl now (fit_object f chunk) chunk.object
             (record { found = of.linked.chunks key chunk found; unused = (unused_is state index f serves key chunk found free).unused; held = made.held_is; live = made.live_is })
             heap changed i (h.here ∙ ap (heap_at p) (sym of.for_type.memory_type)) h.at_heap refl;
         shared = h.kept.shared;
@@ -143,7 +143,7 @@ module _ {A : Type 0} {l : Limits A} {heaps : List Heap} {buddies : List Buddy} 
     )
 
     -- it is the one that may go
-    only_gone : AreFitsGone state index (chunk.object ∷ [])
+    only_gone : AreFitChunksReleased state index (chunk.object ∷ [])
     only_gone = record {
       few = omega arith;
       all = λ object. (
@@ -159,7 +159,7 @@ module _ {A : Type 0} {l : Limits A} {heaps : List Heap} {buddies : List Buddy} 
       );
     }
 
-  none_gone : ((key : ℕ) → IsWhollyFree f.space key → ⊥) → AreFitsGone state index []
+  none_gone : ((key : ℕ) → IsWhollyFree f.space key → ⊥) → AreFitChunksReleased state index []
   none_gone none = record {
     few = omega arith;
     all = λ object. (
@@ -170,16 +170,16 @@ module _ {A : Type 0} {l : Limits A} {heaps : List Heap} {buddies : List Buddy} 
 
   -- What a cleanup leaves.
 
-  pub record IsCleaned (after : Account Fitting) (es : List Event) (r : Properties) (old new : ℕ → Option Object) : Type 0 where
+  pub record IsCleaned (after : Account FitState) (es : List Event) (r : Properties) (old new : ℕ → Option Object) : Type 0 where
     pub kept : IsKept l.sharing l.config (properties_in l (set heaps i after.heap)) (set heaps i after.heap) buddies lists (set fits index after.allocator) own after.remaining
     pub names : List ℕ
-    pub gives : LetsFitsGo state index names es (state_with after) old new
+    pub gives : ReleasesFitChunks state index names es (state_with after) old new
     pub agreed : Agrees (state_with after) r new
     pub whole : total (state_with after) ≡ total state
 
-  module _ {after : Account Fitting} {es : List Event} {q r : Properties} {old new : ℕ → Option Object} (sound : IsSoundFitting after.allocator) (agrees : Agrees state q old) (properties : r ≡ q) where
+  module _ {after : Account FitState} {es : List Event} {q r : Properties} {old new : ℕ → Option Object} (sound : IsSoundFit after.allocator) (agrees : Agrees state q old) (properties : r ≡ q) where
     -- these objects went
-    left : (names : List ℕ) → AreFitsGone state index names → With after (without_these state names) → es ≡ map Deallocated names → new ≡ without_objects old names → Agrees (without_these state names) q (without_objects old names)
+    left : (names : List ℕ) → AreFitChunksReleased state index names → With after (without_these state names) → es ≡ map Deallocated names → new ≡ without_objects old names → Agrees (without_these state names) q (without_objects old names)
         → IsCleaned after es r old new
     left names gone fields told objects agreed = record {
       kept = fields.0;
@@ -204,7 +204,7 @@ module _ {A : Type 0} {l : Limits A} {heaps : List Heap} {buddies : List Buddy} 
         → after ≡ account (less key chunk found free) (changed key chunk found free) (remaining + 1) → new ≡ put old chunk.object None → IsCleaned after es r old new
     one_goes key chunk free found told after_is objects =
         left (chunk.object ∷ []) (only_gone key chunk found free)
-        (subst (λ a. With a (without_these state (chunk.object ∷ []))) (sym after_is) (chunk_goes key chunk found free (subst IsSoundFitting (ap (λ (a : Account Fitting). a.allocator) after_is) sound)))
+        (subst (λ a. With a (without_these state (chunk.object ∷ []))) (sym after_is) (chunk_goes key chunk found free (subst IsSoundFit (ap (λ (a : Account FitState). a.allocator) after_is) sound)))
         told objects (agrees_without_list_chunk state q old chunk.object (remaining + 1) agrees)
 
     pub cleaned : fit.Cleans (account f heap remaining) es after → fit.ObjectsCleaned f old new → IsCleaned after es r old new

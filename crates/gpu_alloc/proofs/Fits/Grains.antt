@@ -71,7 +71,7 @@ module _ (s : State) (sound : IsSound s) (t object : ℕ) (of : IsFitChunk s t o
           omega (arith, longest, positive))
     ]
 
-    -- and so the byte behind it
+    -- and so the byte after it
     ends_at : IsMultipleOf g end
     ends_at = elim (cases_lt end of.chunk.counted) [
       | inr past ↦

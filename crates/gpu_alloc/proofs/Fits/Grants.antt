@@ -19,9 +19,9 @@ use Rattle.gpu_alloc_block.specs.State.{HeldObject, TypeState, State}
 use Rattle.gpu_alloc_block.specs.declared.block.Kind.TheVariants.{FitChunk}
 use Rattle.gpu_alloc_block.specs.declared.sharing.Sharing.TheVariants.{Fit as FitsChosen}
 use Rattle.gpu_alloc_buddy.specs.BuddyState.{Buddy}
-use Rattle.gpu_alloc_fit.specs.Fit.{Fitting, chunk_size, fitting_in_new_chunk, fitting_with_slot}
-use Rattle.gpu_alloc_fit.specs.FitSound.{IsSoundFitting}
-use Rattle.gpu_alloc_freelist.specs.FreeListState.{Listing}
+use Rattle.gpu_alloc_fit.specs.Fit.{FitState, chunk_size, fitting_in_new_chunk, fitting_with_slot}
+use Rattle.gpu_alloc_fit.specs.FitSound.{IsSoundFit}
+use Rattle.gpu_alloc_freelist.specs.FreeListState.{FreeListState}
 use Rattle.gpu_alloc.specs.BuddySharing.{with_span}
 use Rattle.gpu_alloc.specs.FirstTypes.{first_types, first_type_state}
 use Rattle.gpu_alloc.specs.FitSharing.{IsFitChunkSize, first_fit, fit_question, fits_first, grain_of, largest_fit, largest_fit_chunk, with_fit_chunk, with_next_fit}
@@ -53,7 +53,7 @@ first_in_largest c heap g some =
     let last : starting_size c heap g ≤ final_size c heap g = starting_fits c heap g some in
     omega (arith, first, last)
 
-module _ {A : Type 0} (limits : Limits A) (heaps : List Heap) (buddies : List Buddy) (lists : List Listing) (fits : List Fitting) (t : Table) (remaining index : ℕ) (f : Fitting)
+module _ {A : Type 0} (limits : Limits A) (heaps : List Heap) (buddies : List Buddy) (lists : List FreeListState) (fits : List FitState) (t : Table) (remaining index : ℕ) (f : FitState)
     (is : IsConsistent limits.sharing limits.config (properties_in limits heaps) heaps buddies lists fits t remaining) (known : index < length (properties_in limits heaps).memory_types) (at : f ≡ get_or fits index f) where
   abbrev p : Properties
   p = properties_in limits heaps
@@ -78,10 +78,10 @@ module _ {A : Type 0} (limits : Limits A) (heaps : List Heap) (buddies : List Bu
       (omega (arith, known, is.listed.count))
 
   pub fit_of : IsFitOf limits.config p t index f
-  fit_of = subst (λ (o : Option Fitting). IfSome o (IsFitOf limits.config p t index)) there (is.fitted.each index)
+  fit_of = subst (λ (o : Option FitState). IfSome o (IsFitOf limits.config p t index)) there (is.fitted.each index)
 
   -- what it was given stays
-  pub same_fit_for : (after : Fitting) → after.memory_type ≡ f.memory_type → after.props ≡ f.props → after.atom ≡ f.atom → after.final_chunk ≡ f.final_chunk → IsFitForType limits.config p index after
+  pub same_fit_for : (after : FitState) → after.memory_type ≡ f.memory_type → after.props ≡ f.props → after.atom ≡ f.atom → after.final_chunk ≡ f.final_chunk → IsFitForType limits.config p index after
   same_fit_for after memory_type props atom final =
       let given = fit_of.for_type in
       record { memory_type = memory_type ∙ given.memory_type; props = props ∙ given.props; atom = atom ∙ given.atom; final_chunk = final ∙ given.final_chunk }
@@ -113,15 +113,15 @@ module _ {A : Type 0} (limits : Limits A) (heaps : List Heap) (buddies : List Bu
     counted_before = fit_counted s index f serves_fits heaps i heap is.books here heap_in at_heap
 
     -- the fields with another one, heap, table and count
-    abbrev state_with : Fitting → Heap → Table → ℕ → State
+    abbrev state_with : FitState → Heap → Table → ℕ → State
     state_with after changed now left = state_in limits (set heaps i changed) buddies lists (set fits index after) now left
 
-    abbrev IsRecordedWith : Fitting → Heap → Table → ℕ → Type 0
+    abbrev IsRecordedWith : FitState → Heap → Table → ℕ → Type 0
     IsRecordedWith after changed now left = IsRecorded limits.sharing limits.config (properties_in limits (set heaps i changed)) (set heaps i changed) buddies lists (set fits index after) now left
 
     -- A block more in a held chunk.
 
-    module _ (slot : Slot) (chunk : Chunk) (now : Table) (found : finite.get f.space.chunks slot.chunk ≡ Some chunk) (object : slot.object ≡ chunk.object) (sound : IsSoundFitting (fitting_with_slot f slot))
+    module _ (slot : Slot) (chunk : Chunk) (now : Table) (found : finite.get f.space.chunks slot.chunk ≡ Some chunk) (object : slot.object ≡ chunk.object) (sound : IsSoundFit (fitting_with_slot f slot))
         (held : now.held ≡ t.held) (more : HasSlotMore t now slot) where
       chunk_held : finite.get t.held slot.object ≡ Some (fit_object f chunk)
       chunk_held = ap (finite.get t.held) object ∙ fit_of.linked.chunks slot.chunk chunk found
@@ -147,13 +147,13 @@ module _ {A : Type 0} (limits : Limits A) (heaps : List Heap) (buddies : List Bu
     -- A chunk more with a block in it.
 
     module _ (slot : Slot) (size : ℕ) (now : Table) (changed : Heap) (free : finite.get t.held slot.object ≡ None) (some : 0 < remaining) (small : size < 2 ^ 64) (sized : IsFitChunkSize limits.config (heap_size p index) (grain_of s index) size)
-        (sound : IsSoundFitting (fitting_in_new_chunk f slot size))
+        (sound : IsSoundFit (fitting_in_new_chunk f slot size))
         (held : now.held ≡ finite.insert t.held slot.object (record { memory_type = index; counted = size; kind = FitChunk })) (more : HasSlotMore t now slot)
         (counts : changed ≡ record heap { used = heap.used + size }) (within : heap.used + size ≤ heap.limit) (choice : limits.sharing ≡ FitsChosen) where
       abbrev object_of : HeldObject
       object_of = record { memory_type = index; counted = size; kind = FitChunk }
 
-      abbrev pub fit_after : Fitting
+      abbrev pub fit_after : FitState
       fit_after = fitting_in_new_chunk f slot size
 
       fit_with_chunk : IsFitFor limits.config p index fit_after
@@ -184,15 +184,15 @@ module _ {A : Type 0} (limits : Limits A) (heaps : List Heap) (buddies : List Bu
 
     -- Nothing has changed.
 
-    module _ (after : Fitting) (changed : Heap) (left : ℕ) (same_fit : after ≡ f) (same_heap : changed ≡ heap) (same_count : left ≡ remaining) (now : Table) where
+    module _ (after : FitState) (changed : Heap) (left : ℕ) (same_fit : after ≡ f) (same_heap : changed ≡ heap) (same_count : left ≡ remaining) (now : Table) where
       pub kept_refused : (own : OwnTable) → IsKept limits.sharing limits.config p heaps buddies lists fits own remaining → IsKept limits.sharing limits.config (properties_in limits (set heaps i changed)) (set heaps i changed) buddies lists (set fits index after) own left
       kept_refused own kept =
           subst (λ (hs : List Heap). IsKept limits.sharing limits.config (properties_in limits hs) hs buddies lists (set fits index after) own left) (sym (same_set heaps i changed heap at_heap same_heap))
-          (subst (λ (fs : List Fitting). IsKept limits.sharing limits.config p heaps buddies lists fs own left) (sym (same_set fits index after f at same_fit))
+          (subst (λ (fs : List FitState). IsKept limits.sharing limits.config p heaps buddies lists fs own left) (sym (same_set fits index after f at same_fit))
           (subst (λ n. IsKept limits.sharing limits.config p heaps buddies lists fits own n) (sym same_count) kept))
 
       pub state_refused : now.held ≡ t.held → now.live ≡ t.live → state_with after changed now left ≡ s
       state_refused held live =
           ap (λ (hs : List Heap). state_in limits hs buddies lists (set fits index after) now left) (same_set heaps i changed heap at_heap same_heap)
-          ∙ ap (λ (fs : List Fitting). state_in limits heaps buddies lists fs now left) (same_set fits index after f at same_fit)
+          ∙ ap (λ (fs : List FitState). state_in limits heaps buddies lists fs now left) (same_set fits index after f at same_fit)
           ∙ (λ k. record s { held = held k; live = live k; remaining = same_count k })

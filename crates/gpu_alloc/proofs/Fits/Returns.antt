@@ -19,14 +19,14 @@ use Rattle.gpu_alloc_block.specs.declared.block.Kind.TheVariants.{FitChunk}
 use Rattle.gpu_alloc_block.proofs.LiveSpans.{live_kept, live_other}
 use Rattle.gpu_alloc_buddy.specs.BuddyState.{Buddy}
 use Rattle.gpu_alloc_fit.specs.Fit as fit
-use Rattle.gpu_alloc_fit.specs.Fit.{Fitting, account_without}
-use Rattle.gpu_alloc_fit.specs.FitSound.{IsSoundFitting}
+use Rattle.gpu_alloc_fit.specs.Fit.{FitState, account_without}
+use Rattle.gpu_alloc_fit.specs.FitSound.{IsSoundFit}
 use Rattle.gpu_alloc_fits.specs.Space as fit_space
 use Rattle.gpu_alloc_fits.specs.Space.{FitSpace, IsLiveFitSpan, IsLiveSlot, IsWhollyFree, LiesInChunk, without_chunk, without_slot}
-use Rattle.gpu_alloc_freelist.specs.FreeListState.{Listing}
+use Rattle.gpu_alloc_freelist.specs.FreeListState.{FreeListState}
 use Rattle.gpu_alloc.specs.Inside.{fit_object, properties_in, span_of_slot, state_in}
 use Rattle.gpu_alloc.specs.Own.{OwnTable}
-use Rattle.gpu_alloc.specs.Release.{Frees, GoesWith, IsSpareFit, IsUnused, ObjectsFreed, without_all, without_objects, without_span}
+use Rattle.gpu_alloc.specs.Release.{Frees, IsSpareFit, IsUnused, ObjectsFreed, ReleasedWith, without_all, without_objects, without_span}
 use Rattle.gpu_alloc.specs.Spans.{Table}
 use Rattle.gpu_alloc.specs.Whole.{whole, IsKept}
 use Rattle.gpu_alloc.specs.declared.limits.Limits.{Limits}
@@ -44,7 +44,7 @@ use Rattle.gpu_alloc.proofs.Returns.{returned}
 use Rattle.gpu_alloc.proofs.Wholes.{at_read, fit_goes, last_fit_goes, one_fit}
 
 -- a block of an allocator of fit chunks among the fields, as it comes back
-pub record Given {A : Type 0} (l : Limits A) (heaps : List Heap) (buddies : List Buddy) (lists : List Listing) (fits : List Fitting) (own : OwnTable) (remaining index i : ℕ) (f : Fitting) (heap : Heap) (slot : Slot) (block : Block) : Type 0 where
+pub record Given {A : Type 0} (l : Limits A) (heaps : List Heap) (buddies : List Buddy) (lists : List FreeListState) (fits : List FitState) (own : OwnTable) (remaining index i : ℕ) (f : FitState) (heap : Heap) (slot : Slot) (block : Block) : Type 0 where
   pub handed : Handed l heaps buddies lists fits own remaining index i f heap
   pub live : IsLiveSlot f.space slot
   pub span : ◌≡◌ {A = Span} (span_of block) (span_of_slot slot)
@@ -56,7 +56,7 @@ span_there is object offset size = record { live = is.live; of_object = is.of_ob
 
 -- A live block of the whole allocator is one of its memory type's fit chunks, with the same span.
 
-module _ {A : Type 0} (l : Limits A) {heaps : List Heap} {buddies : List Buddy} {lists : List Listing} {fits : List Fitting} {own : OwnTable} {remaining index : ℕ} {f : Fitting} {block : Block} (kept : IsKept l.sharing l.config (properties_in l heaps) heaps buddies lists fits own remaining)
+module _ {A : Type 0} (l : Limits A) {heaps : List Heap} {buddies : List Buddy} {lists : List FreeListState} {fits : List FitState} {own : OwnTable} {remaining index : ℕ} {f : FitState} {block : Block} (kept : IsKept l.sharing l.config (properties_in l heaps) heaps buddies lists fits own remaining)
     (owned : IsOwned (state_in l heaps buddies lists fits (whole own buddies lists fits) remaining) block) (shared : block.kind ≡ FitChunk) (typed : index ≡ block.memory_type) (at : f ≡ get_or fits index f) where
   pub known_type : index < length (properties_in l heaps).memory_types
   known_type = omega (arith, typed, owned.held.2, (known_object (properties_in l heaps) heaps (whole own buddies lists fits) remaining kept.books refl block.object owned.held.0 owned.held.1).of_type)
@@ -75,7 +75,7 @@ module _ {A : Type 0} (l : Limits A) {heaps : List Heap} {buddies : List Buddy} 
     shared = shared;
   }
 
-module _ {A : Type 0} {l : Limits A} {heaps : List Heap} {buddies : List Buddy} {lists : List Listing} {fits : List Fitting} {own : OwnTable} {remaining index i : ℕ} {f : Fitting} {heap : Heap} {slot : Slot} {block : Block} (given : Given l heaps buddies lists fits own remaining index i f heap slot block) where
+module _ {A : Type 0} {l : Limits A} {heaps : List Heap} {buddies : List Buddy} {lists : List FreeListState} {fits : List FitState} {own : OwnTable} {remaining index i : ℕ} {f : FitState} {heap : Heap} {slot : Slot} {block : Block} (given : Given l heaps buddies lists fits own remaining index i f heap slot block) where
   abbrev h : Handed l heaps buddies lists fits own remaining index i f heap
   h = given.handed
 
@@ -109,7 +109,7 @@ module _ {A : Type 0} {l : Limits A} {heaps : List Heap} {buddies : List Buddy} 
   found : finite.get t.held slot.object ≡ Some row
   found = ap (finite.get t.held) lies.object ∙ (of h).linked.chunks slot.chunk lies.chunk lies.held
 
-  -- What both tell of the chunks without the block.
+  -- What both say of the chunks without the block.
 
   -- no block of a chunk is left exactly where no span of its object is
   unused_then : (key : ℕ) (c : Chunk) → finite.get f.space.chunks key ≡ Some c → IsWhollyFree rest key → IsUnused (without_span before block) c.object
@@ -175,9 +175,9 @@ module _ {A : Type 0} {l : Limits A} {heaps : List Heap} {buddies : List Buddy} 
   -- What the fields stand for then.
 
   -- with a block fewer in a chunk that stays
-  stays : IsSoundFitting (record f { space = rest }) → With h (account_without (account f heap remaining) slot) (without_span before block)
+  stays : IsSoundFit (record f { space = rest }) → With h (account_without (account f heap remaining) slot) (without_span before block)
   stays sound =
-      let after : Fitting = record f { space = rest } in
+      let after : FitState = record f { space = rest } in
       let now : Table = whole own buddies lists (set fits index after) in
       let made = fit_goes own buddies lists fits h.kept.apart index f (at_read fits index f (in_range h) h.at) (of h).sound (of h).for_type.memory_type after refl slot given.live refl refl in
       subst (λ (hs : List Heap). StandFor l hs buddies lists (set fits index after) own remaining (without_span before block)) (sym (same_set heaps i heap heap h.at_heap refl)) (
@@ -194,10 +194,10 @@ module _ {A : Type 0} {l : Limits A} {heaps : List Heap} {buddies : List Buddy} 
 
   -- with a chunk fewer, which goes with its last block
 
-  abbrev less : Fitting
+  abbrev less : FitState
   less = record f { space = without_chunk rest slot.chunk }
 
-  goes : IsWhollyFree rest slot.chunk → IsSoundFitting less → With h (account less (record heap { used = heap.used - lies.chunk.size }) (remaining + 1)) (returned before block)
+  goes : IsWhollyFree rest slot.chunk → IsSoundFit less → With h (account less (record heap { used = heap.used - lies.chunk.size }) (remaining + 1)) (returned before block)
   goes free sound =
       let changed : Heap = record heap { used = heap.used - lies.chunk.size } in
       let now : Table = whole own buddies lists (set fits index less) in
@@ -222,24 +222,24 @@ module _ {A : Type 0} {l : Limits A} {heaps : List Heap} {buddies : List Buddy} 
 
   -- What the call of the allocator of fit chunks comes to.
 
-  pub record IsReturned (after : Account Fitting) (es : List Event) (r : Properties) (old new : ℕ → Option Object) : Type 0 where
+  pub record IsReturned (after : Account FitState) (es : List Event) (r : Properties) (old new : ℕ → Option Object) : Type 0 where
     pub kept : IsKept l.sharing l.config (properties_in l (set heaps i after.heap)) (set heaps i after.heap) buddies lists (set fits index after.allocator) own after.remaining
     pub frees : Frees before block es (state_with h after)
     pub freed : ObjectsFreed before block old new
     pub agreed : Agrees (state_with h after) r new
 
-  module _ {after : Account Fitting} {es : List Event} {q r : Properties} {old new : ℕ → Option Object} (sound : IsSoundFitting after.allocator) (agrees : Agrees before q old) (properties : r ≡ q) where
+  module _ {after : Account FitState} {es : List Event} {q r : Properties} {old new : ℕ → Option Object} (sound : IsSoundFit after.allocator) (agrees : Agrees before q old) (properties : r ≡ q) where
     -- these objects went with it
-    left : (s : State) (names : List ℕ) → With h after s → GoesWith block.kind (without_span before block) block.object names → es ≡ map Deallocated names
+    left : (s : State) (names : List ℕ) → With h after s → ReleasedWith block.kind (without_span before block) block.object names → es ≡ map Deallocated names
         → s ≡ record (without_span before block) { held = without_all before.held names; remaining = remaining + length names } → new ≡ without_objects old names → Agrees s r new → IsReturned after es r old new
     left s names fields with_it told lets objects agreed =
         record { kept = fields.0; frees = (names, with_it, (told, fields.1 ∙ lets)); freed = (names, with_it, objects); agreed = subst (λ x. Agrees x r new) (sym fields.1) agreed }
 
     chunk_stays : (fit_space.IsSpare rest slot.chunk → ⊥) → es ≡ [] → after ≡ account_without (account f heap remaining) slot → new ≡ old → IsReturned after es r old new
     chunk_stays kept none after_is same_objects =
-        let fields = stays (subst IsSoundFitting (ap (λ (a : Account Fitting). a.allocator) after_is) sound) in
+        let fields = stays (subst IsSoundFit (ap (λ (a : Account FitState). a.allocator) after_is) sound) in
         left (without_span before block) [] (subst (λ a. With h a (without_span before block)) (sym after_is) fields)
-        (subst (λ k. GoesWith k (without_span before block) block.object []) (sym given.shared) (inr ((λ spare. kept (spare_before spare)), refl))) none
+        (subst (λ k. ReleasedWith k (without_span before block) block.object []) (sym given.shared) (inr ((λ spare. kept (spare_before spare)), refl))) none
         (λ k. record (without_span before block) { remaining = zero k }) same_objects (subst (Agrees (without_span before block) r) (sym same_objects) (agrees_without_span before q r old block agrees properties))
       where
         zero : remaining ≡ remaining + 0
@@ -250,11 +250,11 @@ module _ {A : Type 0} {l : Limits A} {heaps : List Heap} {buddies : List Buddy} 
     chunk_goes spare chunk chunk_is told after_is gone_object =
         let one : chunk ≡ lies.chunk = one_value _ chunk lies.chunk chunk_is lies.held in
         let same = after_is ∙ (λ k. account less (record heap { used = heap.used - (one k).size }) (remaining + 1)) in
-        let fields = goes spare.free (subst IsSoundFitting (ap (λ (a : Account Fitting). a.allocator) same) sound) in
+        let fields = goes spare.free (subst IsSoundFit (ap (λ (a : Account FitState). a.allocator) same) sound) in
         let object_gone : new ≡ put old block.object None = gone_object ∙ ap (λ n. put old n None) (sym object_is) in
         let named : chunk.object ≡ block.object = ap (λ (c : Chunk). c.object) one ∙ sym chunk_object_is in
         left (returned before block) (block.object ∷ []) (subst (λ a. With h a (returned before block)) (sym same) fields)
-        (subst (λ k. GoesWith k (without_span before block) block.object (block.object ∷ [])) (sym given.shared) (inl (spare_then spare, refl)))
+        (subst (λ k. ReleasedWith k (without_span before block) block.object (block.object ∷ [])) (sym given.shared) (inl (spare_then spare, refl)))
         (told ∙ ap (λ n. Deallocated n ∷ []) named) refl object_gone (agrees_returned before (returned before block) q r old new block agrees properties object_gone refl refl (λ span live. (live_other t.live (span_of block) span live).1))
 
     pub back : fit.Frees (account f heap remaining) slot es after → fit.ObjectsFreed f slot old new → IsReturned after es r old new

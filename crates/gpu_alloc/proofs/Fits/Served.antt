@@ -13,7 +13,7 @@ use Rattle.gpu_alloc_base.proofs.Sums.{sum_by-within, len-within}
 use Rattle.gpu_alloc_block.specs.Agreement as agreement
 use Rattle.gpu_alloc_block.specs.State.{HeldObject, Span, State, IsLive, share}
 use Rattle.gpu_alloc_fit.specs.Fit as fit
-use Rattle.gpu_alloc_fit.specs.Fit.{Fitting, sees_chunks}
+use Rattle.gpu_alloc_fit.specs.Fit.{FitState, sees_chunks}
 use Rattle.gpu_alloc_fits.specs.Space.{IsLiveSlot, IsWhollyFree}
 use Rattle.gpu_alloc.specs.Inside.{fit_object, span_of_slot, IsBooked}
 use Rattle.gpu_alloc.specs.Release.{IsUnused, IsUnusedFit}
@@ -22,8 +22,8 @@ use Rattle.gpu_alloc.proofs.Buddies.Serving.{table_of}
 use Rattle.gpu_alloc.proofs.Fits.Serving.{ServesFits, fit_chunk_is, fit_held}
 use Rattle.gpu_alloc.proofs.HeapLists.{ledger_at}
 
-module _ (s : State) (index : ℕ) (f : Fitting) (serves : ServesFits s index f) where
-  -- What both tell.
+module _ (s : State) (index : ℕ) (f : FitState) (serves : ServesFits s index f) where
+  -- What both say.
 
   -- a live span of a chunk's object is a live block of the chunk
   pub span_is_slot : (key : ℕ) (c : Chunk) (span : Span) → map.get f.space.chunks key ≡ Some c → span.object ≡ c.object → IsLive s span → IsLiveSlot f.space (slot_at span key)

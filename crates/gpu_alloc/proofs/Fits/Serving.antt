@@ -1,4 +1,4 @@
--- A memory type's allocator of fit chunks in the whole allocator's state: both tell the same of chunks, free bytes and
+-- A memory type's allocator of fit chunks in the whole allocator's state: both say the same of chunks, free bytes and
 -- blocks.
 use Rattle.std.proofs.Common.{◌≡◌, ℕ, ◌+◌, ◌<◌, Some, refl, sym, ◌∙◌, ap, subst, arith}
 use Rattle.std.specs.Prelude.{max}
@@ -19,7 +19,7 @@ use Rattle.gpu_alloc_base.proofs.Maps.{one_value}
 use Rattle.gpu_alloc_base.proofs.ToldTwice.{IsToldAs}
 use Rattle.gpu_alloc_block.specs.State.{HeldObject, State}
 use Rattle.gpu_alloc_block.specs.declared.block.Kind.TheVariants.{FitChunk}
-use Rattle.gpu_alloc_fit.specs.Fit.{Fitting, alignment, case_of, fit_case, question, rounded}
+use Rattle.gpu_alloc_fit.specs.Fit.{FitState, alignment, case_of, fit_case, question, rounded}
 use Rattle.gpu_alloc_fits.specs.Choice.{IsRun}
 use Rattle.gpu_alloc_fits.specs.Space.{HasPlace, IsFitting, IsFreeIn, chunk_bytes, size_of}
 use Rattle.gpu_alloc.specs.Candidates.{candidate, fit_candidate}
@@ -34,12 +34,12 @@ use Rattle.gpu_alloc.proofs.Fits.Choices.{AreRenamed, chosen_renamed, renamed}
 use Rattle.gpu_alloc.proofs.HeapLists.{IsHeap}
 use Rattle.gpu_alloc.proofs.Linked.{IsFitOf}
 
--- the memory type's allocator of fit chunks, whose next chunk is as the state tells
-pub record ServesFits (s : State) (index : ℕ) (f : Fitting) : Type 0 where
+-- the memory type's allocator of fit chunks, whose next chunk is as the state says
+pub record ServesFits (s : State) (index : ℕ) (f : FitState) : Type 0 where
   pub of : IsFitOf s.config s.properties (table_of s) index f
   pub next : next_fit_chunk s index ≡ f.next_chunk
 
-module _ (s : State) (index : ℕ) (f : Fitting) (serves : ServesFits s index f) where
+module _ (s : State) (index : ℕ) (f : FitState) (serves : ServesFits s index f) where
   -- Chunks and bytes.
 
   -- a chunk's object is held as one
@@ -193,7 +193,7 @@ module _ (s : State) (index : ℕ) (f : Fitting) (serves : ServesFits s index f)
       let props : f.props ≡ props_at s.properties index = serves.of.for_type.props in
       λ i. record { size = grown_chunk (next i) (final i) size; memory_type = type i; flags = flags_of s.properties; mapped = has_bit (props i) 2 }
 
-  -- A request, which both tell.
+  -- A request, which both describe.
 
   told_as : (heap : Heap) (size alignment : ℕ) → 0 < size → IsHeap s (heap_at s.properties index) heap
       → IsToldAs (fit_case (account f heap s.remaining) size alignment (flags_of s.properties)) (fit_candidate s size alignment index)

@@ -15,8 +15,8 @@ use Rattle.gpu_alloc_base.proofs.ChunkSizes.{cut_whole, grown_is_least}
 use Rattle.gpu_alloc_base.proofs.Multiples.{down_below, multiple_min, multiple_times}
 use Rattle.gpu_alloc_base.proofs.Names.{put-cases}
 use Rattle.gpu_alloc_base.specs.declared.free_list_block.Slot.{Slot}
-use Rattle.gpu_alloc_fit.specs.Fit.{Fitting, chunk_size, fitting_in_new_chunk}
-use Rattle.gpu_alloc_fit.specs.FitSound.{IsSoundFitting}
+use Rattle.gpu_alloc_fit.specs.Fit.{FitState, chunk_size, fitting_in_new_chunk}
+use Rattle.gpu_alloc_fit.specs.FitSound.{IsSoundFit}
 use Rattle.gpu_alloc.specs.FitSharing.{AreSmall, FitChunksAreSmall, IsFitChunkSize, IsSmallChunk, first_fit, grain, largest_fit}
 use Rattle.gpu_alloc.specs.Inside.{HasFitSizes, IsFitForType}
 use Rattle.gpu_alloc.proofs.Opened.{largest_whole, starting_within}
@@ -101,12 +101,12 @@ module _ (c : Config) (heap g : ℕ) where
 
 -- The chunks of an allocator of fit chunks keep such sizes.
 
-module _ {c : Config} {p : Properties} {index : ℕ} {f : Fitting} (given : IsFitForType c p index f) (sized : HasFitSizes c p index f) where
+module _ {c : Config} {p : Properties} {index : ℕ} {f : FitState} (given : IsFitForType c p index f) (sized : HasFitSizes c p index f) where
   abbrev Sized : ℕ → Type 0
   Sized = IsFitChunkSize c (heap_size p index) (grain (atom_of p index))
 
   -- that of a new one
-  pub chunk_sized : (size : ℕ) → IsSoundFitting f → size ≤ f.final_chunk → Sized (chunk_size f size)
+  pub chunk_sized : (size : ℕ) → IsSoundFit f → size ≤ f.final_chunk → Sized (chunk_size f size)
   chunk_sized size sound fits =
       let last = given.final_chunk in
       subst (λ l. Sized (grown_chunk f.next_chunk l size)) (sym last)
@@ -122,5 +122,5 @@ module _ {c : Config} {p : Properties} {index : ℕ} {f : Fitting} (given : IsFi
   }
 
   -- and that of those that stay
-  pub sized_less : (after : Fitting) → after.next_chunk ≡ f.next_chunk → ((key : ℕ) (chunk : Chunk) → finite.get after.space.chunks key ≡ Some chunk → finite.get f.space.chunks key ≡ Some chunk) → HasFitSizes c p index after
+  pub sized_less : (after : FitState) → after.next_chunk ≡ f.next_chunk → ((key : ℕ) (chunk : Chunk) → finite.get after.space.chunks key ≡ Some chunk → finite.get f.space.chunks key ≡ Some chunk) → HasFitSizes c p index after
   sized_less after next fewer = record { next = subst Sized (sym next) sized.next; chunks = λ key chunk held. sized.chunks key chunk (fewer key chunk held) }

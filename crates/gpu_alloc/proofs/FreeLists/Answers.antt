@@ -22,8 +22,8 @@ use Rattle.gpu_alloc_freelist.proofs.Spaces.{next_is_new}
 use Rattle.gpu_alloc.proofs.HandedOn.{Given}
 use Rattle.gpu_alloc_types.specs.Flags.{has_bit}
 use Rattle.gpu_alloc.proofs.NewObjects.{counted_new}
-use Rattle.gpu_alloc_freelist.specs.FreeListSound.{IsSoundListing}
-use Rattle.gpu_alloc_freelist.specs.FreeListState.{Listing}
+use Rattle.gpu_alloc_freelist.specs.FreeListSound.{IsSoundFreeList}
+use Rattle.gpu_alloc_freelist.specs.FreeListState.{FreeListState}
 use Rattle.gpu_alloc.specs.Inside.{state_in, properties_in, list_object, span_of_slot}
 use Rattle.gpu_alloc.specs.Own.{OwnTable}
 use Rattle.gpu_alloc_block.specs.Parts.{IsAt}
@@ -49,12 +49,12 @@ use Rattle.gpu_alloc.proofs.HeapLists.{type_heap_is}
 use Rattle.gpu_alloc.proofs.FreeLists.Serving.{ServesList, tail_is, question_is, told_with}
 use Rattle.gpu_alloc_base.proofs.Maps.{own_inserted}
 use Rattle.gpu_alloc.proofs.FreeLists.Types.{own_listing, serves_own}
-use Rattle.gpu_alloc_fit.specs.Fit.{Fitting}
+use Rattle.gpu_alloc_fit.specs.Fit.{FitState}
 
 -- A request to a free list among the fields, and the block that it gave.
 
-module _ {A : Type 0} {limits : Limits A} {heaps : List Heap} {buddies : List Buddy} {lists : List Listing} {fits : List Fitting} {remaining index i : ℕ} {l : Listing} {heap : Heap} {flags : ℕ} {slot : Slot} {q : Properties} {old : ℕ → Option Object}
-    (own : OwnTable) (given : Given limits heaps buddies lists fits (whole own buddies lists fits) remaining index i lists l heap flags q old) (apart : AreOneWhole own buddies lists fits) (new : ℕ → Option Object) (size alignment : ℕ) (es : List Event) (after : Account Listing)
+module _ {A : Type 0} {limits : Limits A} {heaps : List Heap} {buddies : List Buddy} {lists : List FreeListState} {fits : List FitState} {remaining index i : ℕ} {l : FreeListState} {heap : Heap} {flags : ℕ} {slot : Slot} {q : Properties} {old : ℕ → Option Object}
+    (own : OwnTable) (given : Given limits heaps buddies lists fits (whole own buddies lists fits) remaining index i lists l heap flags q old) (apart : AreOneWhole own buddies lists fits) (new : ℕ → Option Object) (size alignment : ℕ) (es : List Event) (after : Account FreeListState)
     (answers : Answers (list_case (account l heap remaining) size alignment flags) es (Ok slot) after) (objects : ObjectsAfter l (Ok slot) after.allocator old new) (nonempty : 0 < slot.size) where
   abbrev t : Table
   t = whole own buddies lists fits
@@ -101,15 +101,15 @@ module _ {A : Type 0} {limits : Limits A} {heaps : List Heap} {buddies : List Bu
   stands = at_read lists index l (omega (arith, given.known, given.is.listed.count)) given.at
 
   -- What the fields are with another free list.
-  module _ (sound : IsSoundListing after.allocator) where
-    abbrev now : Account Listing → Table
+  module _ (sound : IsSoundFreeList after.allocator) where
+    abbrev now : Account FreeListState → Table
     now a = whole own buddies (set lists index a.allocator) fits
 
-    abbrev state_of : Account Listing → State
+    abbrev state_of : Account FreeListState → State
     state_of a = state_in limits (set heaps i a.heap) buddies (set lists index a.allocator) fits (now a) a.remaining
 
     -- what is left of it
-    pub record IsServed (a : Account Listing) : Type 0 where
+    pub record IsServed (a : Account FreeListState) : Type 0 where
       pub recorded : IsRecorded limits.sharing limits.config (properties_in limits (set heaps i a.heap)) (set heaps i a.heap) buddies (set lists index a.allocator) fits (now a) a.remaining
       pub parts : AreOneWhole own buddies (set lists index a.allocator) fits
       pub gives : GivesInPlace (list_candidate before size alignment index) es block (state_of a) ⊎ GivesInNewObject (list_candidate before size alignment index) es block (state_of a)
@@ -121,11 +121,11 @@ module _ {A : Type 0} {limits : Limits A} {heaps : List Heap} {buddies : List Bu
     in_run tail same_objects after_is gives =
         let chunk : Chunk = tail.object.0 in
         let found = tail.object.1 in
-        let list_now : Listing = listing_with_slot l slot in
+        let list_now : FreeListState = listing_with_slot l slot in
         let made = slot_comes own buddies lists fits apart index l stands serving.of.sound serving.of.for_type.memory_type list_now refl slot chunk found tail.object.2 refl refl in
         let now_is : Table = whole own buddies (set lists index list_now) fits in
         let more : HasSlotMore t now_is slot = record { free = slot_is_free; live = made.live_is } in
-        let sound_now = subst IsSoundListing (ap (λ (a : Account Listing). a.allocator) after_is) sound in
+        let sound_now = subst IsSoundFreeList (ap (λ (a : Account FreeListState). a.allocator) after_is) sound in
         let state = state_with_slot limits heaps buddies lists fits t remaining index l given.is given.known given.at i heap given.here given.at_heap slot chunk now_is found tail.object.2 sound_now made.held_is more in
         subst IsServed (sym after_is) (record {
           recorded = recorded_with_slot limits heaps buddies lists fits t remaining index l given.is given.known given.at i heap given.here given.at_heap slot chunk now_is found tail.object.2 sound_now made.held_is more;
@@ -145,10 +145,10 @@ module _ {A : Type 0} {limits : Limits A} {heaps : List Heap} {buddies : List Bu
         let n : ℕ = chunk_size l size in
         let chunk : Chunk = record { object = slot.object; size = n } in
         let changed : Heap = record heap { used = heap.used + n } in
-        let list_now : Listing = record l { space = with_slot (with_numbered_chunk l.space slot.object n) slot; next_chunk = next_size l n } in
-        let after_list : after.allocator ≡ list_now = ap (λ (a : Account Listing). a.allocator) after_is in
+        let list_now : FreeListState = record l { space = with_slot (with_numbered_chunk l.space slot.object n) slot; next_chunk = next_size l n } in
+        let after_list : after.allocator ≡ list_now = ap (λ (a : Account FreeListState). a.allocator) after_is in
         let chunk_now : finite.get after.allocator.space.chunks slot.chunk ≡ Some chunk =
-        ap (λ (x : Listing). finite.get x.space.chunks slot.chunk) after_list ∙ ap (finite.get (finite.insert l.space.chunks (l.space.latest + 1) chunk)) number
+        ap (λ (x : FreeListState). finite.get x.space.chunks slot.chunk) after_list ∙ ap (finite.get (finite.insert l.space.chunks (l.space.latest + 1) chunk)) number
         ∙ own_inserted l.space.chunks (l.space.latest + 1) chunk in
         let row : HeldObject = record { memory_type = index; counted = n; kind = FreeListChunk slot.chunk } in
         let latest : ℕ = l.space.latest + 1 in
@@ -158,7 +158,7 @@ module _ {A : Type 0} {limits : Limits A} {heaps : List Heap} {buddies : List Bu
         let held_now : now_is.held ≡ finite.insert t.held slot.object row = made.held_is ∙ ap (finite.insert t.held slot.object) row_is in
         let more : HasSlotMore t now_is slot = record { free = slot_is_free; live = made.live_is } in
         let small : n < 2 ^ 64 = (sound.space.sizes slot.chunk chunk chunk_now).1 in
-        let sound_now = subst IsSoundListing after_list sound in
+        let sound_now = subst IsSoundFreeList after_list sound in
         let state = state_with_list_chunk limits heaps buddies lists fits t remaining index l given.is given.known given.at i heap given.here given.at_heap slot n now_is changed number free some small sound_now held_now more refl within in
         let asked = asked_size limits heaps buddies lists fits t remaining index l given.is given.known given.at size in
         let state_asked = state ∙ ap (λ m. with_span (with_list_chunk before index slot.object m) (span_of_slot slot)) asked in

@@ -14,13 +14,13 @@ use Rattle.gpu_alloc_freelist.specs.FreeList.{IsWhollyFree}
 use Rattle.gpu_alloc_base.specs.Accounts.{Account, account, IsCounted}
 use Rattle.gpu_alloc_freelist.specs.FreeListAllocator.{object_of, without_objects_of}
 use Rattle.gpu_alloc_freelist.specs.FreeListAllocator as list
-use Rattle.gpu_alloc_freelist.specs.FreeListSound.{IsSoundListing}
-use Rattle.gpu_alloc_freelist.specs.FreeListState.{Listing, ListSpace}
+use Rattle.gpu_alloc_freelist.specs.FreeListSound.{IsSoundFreeList}
+use Rattle.gpu_alloc_freelist.specs.FreeListState.{FreeListState, ListSpace}
 use Rattle.gpu_alloc_freelist.proofs.ForCallers.{account_without_chunk, all_go, sound_without_chunk}
 use Rattle.gpu_alloc.specs.Inside.{state_in, properties_in, fits_in, types_in, list_object, IsLiveIn}
 use Rattle.gpu_alloc.specs.Own.{OwnTable}
 use Rattle.gpu_alloc.proofs.Linked.{IsConsistent, IsListOf, StandFor, chosen_less, consistent, lists_set}
-use Rattle.gpu_alloc.specs.Release.{AreChunksGone, LetsChunksGo, LetsGo, without_all, without_objects}
+use Rattle.gpu_alloc.specs.Release.{AreChunksReleased, ReleasesChunks, Releases, without_all, without_objects}
 use Rattle.gpu_alloc.specs.FirstTypes.{first_types}
 use Rattle.gpu_alloc.specs.Spans.{Table}
 use Rattle.gpu_alloc.specs.Whole.{parts_of, whole, IsKept, IsPartFor}
@@ -30,7 +30,7 @@ use Rattle.gpu_alloc_block.specs.State.{HeldObject, Span, State, total}
 use Rattle.gpu_alloc_base.specs.declared.heap.Heap.{Heap}
 use Rattle.gpu_alloc.specs.declared.limits.Limits.{Limits}
 use Rattle.gpu_alloc.proofs.Links.{slot_at}
-use Rattle.gpu_alloc.proofs.Consistency.{heap_there, booked-let_go}
+use Rattle.gpu_alloc.proofs.Consistency.{heap_there, booked-release}
 use Rattle.gpu_alloc.proofs.HeapLists.{properties_kept, state_kept}
 use Rattle.gpu_alloc.proofs.Ledgers.{Held}
 use Rattle.gpu_alloc.proofs.ReturnedTotals.{chunks_total}
@@ -40,7 +40,7 @@ use Rattle.gpu_alloc.proofs.FreeLists.Serving.{ServesList}
 use Rattle.gpu_alloc.proofs.FreeLists.States.{list_types_kept}
 use Rattle.gpu_alloc.proofs.Buddies.Grants.{same_set}
 use Rattle.gpu_alloc.proofs.FreeLists.Types.{own_listing, serves_own, same_listing_for}
-use Rattle.gpu_alloc_fit.specs.Fit.{Fitting}
+use Rattle.gpu_alloc_fit.specs.Fit.{FitState}
 
 -- the state with an object fewer, which went back
 abbrev pub without_object : State → ℕ → State
@@ -51,18 +51,18 @@ abbrev pub without_these : State → List ℕ → State
 without_these s names = record s { held = without_all s.held names; remaining = s.remaining + length names }
 
 -- a memory type's free list and its heap, as a call is handed them
-pub record Handed {A : Type 0} (l : Limits A) (heaps : List Heap) (buddies : List Buddy) (lists : List Listing) (fits : List Fitting) (own : OwnTable) (remaining index i : ℕ) (fl : Listing) (heap : Heap) : Type 0 where
+pub record Handed {A : Type 0} (l : Limits A) (heaps : List Heap) (buddies : List Buddy) (lists : List FreeListState) (fits : List FitState) (own : OwnTable) (remaining index i : ℕ) (fl : FreeListState) (heap : Heap) : Type 0 where
   pub kept : IsKept l.sharing l.config (properties_in l heaps) heaps buddies lists fits own remaining
   pub known : index < length (properties_in l heaps).memory_types
   pub at : fl ≡ get_or lists index fl
   pub here : i ≡ heap_at (properties_in l heaps) index
   pub at_heap : heap ≡ get_or heaps i heap
 
-pub handed : {A : Type 0} (l : Limits A) {heaps : List Heap} {buddies : List Buddy} {lists : List Listing} {fits : List Fitting} {own : OwnTable} {remaining index i : ℕ} {fl : Listing} {heap : Heap} → IsKept l.sharing l.config (properties_in l heaps) heaps buddies lists fits own remaining
+pub handed : {A : Type 0} (l : Limits A) {heaps : List Heap} {buddies : List Buddy} {lists : List FreeListState} {fits : List FitState} {own : OwnTable} {remaining index i : ℕ} {fl : FreeListState} {heap : Heap} → IsKept l.sharing l.config (properties_in l heaps) heaps buddies lists fits own remaining
     → index < length (properties_in l heaps).memory_types → fl ≡ get_or lists index fl → i ≡ heap_at (properties_in l heaps) index → heap ≡ get_or heaps i heap → Handed l heaps buddies lists fits own remaining index i fl heap
 handed l kept known at here at_heap = record { kept = kept; known = known; at = at; here = here; at_heap = at_heap }
 
-module _ {A : Type 0} {l : Limits A} {heaps : List Heap} {buddies : List Buddy} {lists : List Listing} {fits : List Fitting} {own : OwnTable} {remaining index i : ℕ} {fl : Listing} {heap : Heap} (h : Handed l heaps buddies lists fits own remaining index i fl heap) where
+module _ {A : Type 0} {l : Limits A} {heaps : List Heap} {buddies : List Buddy} {lists : List FreeListState} {fits : List FitState} {own : OwnTable} {remaining index i : ℕ} {fl : FreeListState} {heap : Heap} (h : Handed l heaps buddies lists fits own remaining index i fl heap) where
   abbrev p : Properties
   p = properties_in l heaps
 
@@ -95,15 +95,15 @@ module _ {A : Type 0} {l : Limits A} {heaps : List Heap} {buddies : List Buddy} 
   pub counted_first : IsCounted fl.space.chunks heap remaining
   counted_first = list_counted state index fl serves heaps i heap h.kept.books h.here heap_in h.at_heap
 
-  -- Which objects its numbers tell.
+  -- Which objects its numbers name.
 
-  pub names_gone : (keep_last : Bool) (gone : List ℕ) → list.AreGone fl.space keep_last gone → AreChunksGone state index keep_last (map (object_of fl.space) gone)
+  pub names_gone : (keep_last : Bool) (gone : List ℕ) → list.AreReleased fl.space keep_last gone → AreChunksReleased state index keep_last (map (object_of fl.space) gone)
   names_gone keep_last gone all = gone_is state index fl serves keep_last gone all
 
-  -- One chunk goes.
+  -- One chunk is removed.
 
   module _ (n : ℕ) (chunk : Chunk) (found : finite.get fl.space.chunks n ≡ Some chunk) (free : IsWhollyFree fl.space n) where
-    abbrev after : Account Listing
+    abbrev after : Account FreeListState
     after = account_without_chunk (account fl heap remaining) n chunk
 
     abbrev row : HeldObject
@@ -119,7 +119,7 @@ module _ {A : Type 0} {l : Limits A} {heaps : List Heap} {buddies : List Buddy} 
     pub chunk_goes : StandFor l (set heaps i after.heap) buddies (set lists index after.allocator) fits own (remaining + 1) (without_object state chunk.object)
     chunk_goes = (
       subst (λ (q : Properties). IsKept l.sharing l.config q (set heaps i after.heap) buddies (set lists index after.allocator) fits own (remaining + 1)) (sym (properties_kept l heaps i after.heap heap h.at_heap refl)) (record {
-        books = booked-let_go p heaps t remaining h.kept.books refl (whole own buddies (set lists index after.allocator) fits) row chunk.object (record { found = of.linked.chunks n chunk found; unused = unused; held = made.held_is; live = made.live_is })
+        books = booked-release p heaps t remaining h.kept.books refl (whole own buddies (set lists index after.allocator) fits) row chunk.object (record { found = of.linked.chunks n chunk found; unused = unused; held = made.held_is; live = made.live_is })
             heap after.heap i (h.here ∙ ap (heap_at p) (sym of.for_type.memory_type)) h.at_heap refl;
         shared = h.kept.shared;
         listed = lists_set l.config p lists index after.allocator h.kept.listed (record { for_type = same_listing_for l heaps t index fl after.allocator of refl refl refl refl; sound = sound_without_chunk fl n of.sound free });
@@ -146,7 +146,7 @@ pub objects_more : (objects : ℕ → Option Object) (names more : List ℕ) →
 objects_more objects [] more = refl
 objects_more objects (n ∷ names) more = objects_more (put objects n None) names more
 
-pub lets_more : (s now after : State) (names more : List ℕ) (es fs : List Event) → LetsGo s names es now → LetsGo now more fs after → LetsGo s (names ++ more) (es ++ fs) after
+pub lets_more : (s now after : State) (names more : List ℕ) (es fs : List Event) → Releases s names es now → Releases now more fs after → Releases s (names ++ more) (es ++ fs) after
 lets_more s now after names more es fs (told, is) (also, then) = (
   (λ k. told k ++ also k) ∙ sym (map-append Deallocated names more),
   then ∙ ap (λ (x : State). without_these x more) is ∙ (λ k. record s { held = sym (without_more s.held names more) k; remaining = count k }),
@@ -163,45 +163,45 @@ objects_named s objects (n ∷ gone) = objects_named s (put objects (object_of s
 -- All chunks that may go go.
 
 -- what came back, and what is left
-pub record AreLetGo (index : ℕ) (keep_last : Bool) (s : State) (es : List Event) (now : State) (p : Properties) (old new : ℕ → Option Object) : Type 0 where
+pub record AllReleased (index : ℕ) (keep_last : Bool) (s : State) (es : List Event) (now : State) (p : Properties) (old new : ℕ → Option Object) : Type 0 where
   pub names : List ℕ
-  pub gives : LetsChunksGo s index keep_last names es now old new
+  pub gives : ReleasesChunks s index keep_last names es now old new
   pub agrees : Agrees now p new
   pub whole : total now ≡ total s
 
-module _ {A : Type 0} {l : Limits A} {heaps : List Heap} {buddies : List Buddy} {lists : List Listing} {fits : List Fitting} {own : OwnTable} {remaining index i : ℕ} {fl : Listing} {heap : Heap} (h : Handed l heaps buddies lists fits own remaining index i fl heap) where
+module _ {A : Type 0} {l : Limits A} {heaps : List Heap} {buddies : List Buddy} {lists : List FreeListState} {fits : List FitState} {own : OwnTable} {remaining index i : ℕ} {fl : FreeListState} {heap : Heap} (h : Handed l heaps buddies lists fits own remaining index i fl heap) where
   -- the fields with this free list, heap and count
-  abbrev pub With : Account Listing → State → Type 0
+  abbrev pub With : Account FreeListState → State → Type 0
   With a s = StandFor l (set heaps i a.heap) buddies (set lists index a.allocator) fits own a.remaining s
 
-  abbrev pub state_with : Account Listing → State
+  abbrev pub state_with : Account FreeListState → State
   state_with a = state_in l (set heaps i a.heap) buddies (set lists index a.allocator) fits (whole own buddies (set lists index a.allocator) fits) a.remaining
 
   -- what is left of them
-  abbrev pub IsLeft : Bool → State → List Event → Account Listing → Properties → (ℕ → Option Object) → (ℕ → Option Object) → Type 0
+  abbrev pub IsLeft : Bool → State → List Event → Account FreeListState → Properties → (ℕ → Option Object) → (ℕ → Option Object) → Type 0
   IsLeft keep_last s es new p old now =
-      IsKept l.sharing l.config (properties_in l (set heaps i new.heap)) (set heaps i new.heap) buddies (set lists index new.allocator) fits own new.remaining × AreLetGo index keep_last s es (state_with new) p old now
+      IsKept l.sharing l.config (properties_in l (set heaps i new.heap)) (set heaps i new.heap) buddies (set lists index new.allocator) fits own new.remaining × AllReleased index keep_last s es (state_with new) p old now
 
-  handed_with : (a : Account Listing) (s : State) → With a s → Handed l (set heaps i a.heap) buddies (set lists index a.allocator) fits own a.remaining index i a.allocator a.heap
+  handed_with : (a : Account FreeListState) (s : State) → With a s → Handed l (set heaps i a.heap) buddies (set lists index a.allocator) fits own a.remaining index i a.allocator a.heap
   handed_with a s fields = handed l fields.0 h.known (sym (get_or-set_same lists index a.allocator a.allocator (list_in h))) h.here (sym (get_or-set_same heaps i a.heap a.heap (heap_in h)))
 
   -- as they are handed on
-  pub unchanged : {left : ℕ} {ls : List Listing} {s : State} → StandFor l heaps buddies ls fits own left s → StandFor l (set heaps i heap) buddies ls fits own left s
+  pub unchanged : {left : ℕ} {ls : List FreeListState} {s : State} → StandFor l heaps buddies ls fits own left s → StandFor l (set heaps i heap) buddies ls fits own left s
   unchanged {left} {ls} {s} fields = subst (λ hs. StandFor l hs buddies ls fits own left s) (sym (same_set heaps i heap heap h.at_heap refl)) fields
 
   pub unchanged_list : StandFor l heaps buddies (set lists index fl) fits own remaining (state h)
   unchanged_list = subst (λ ls. StandFor l heaps buddies ls fits own remaining (state h)) (sym (same_set lists index fl fl h.at refl)) (h.kept, refl)
 
-  abbrev Goes : Account Listing → List ℕ → Account Listing → Type 0
-  Goes a names new = (s : State) (p : Properties) (objects : ℕ → Option Object) → With a s → Agrees s p objects → With new (without_these s names) × Agrees (without_these s names) p (without_objects objects names)
+  abbrev ReleasesChunk : Account FreeListState → List ℕ → Account FreeListState → Type 0
+  ReleasesChunk a names new = (s : State) (p : Properties) (objects : ℕ → Option Object) → With a s → Agrees s p objects → With new (without_these s names) × Agrees (without_these s names) p (without_objects objects names)
 
-  none_goes : (a : Account Listing) → Goes a [] a
+  none_goes : (a : Account FreeListState) → ReleasesChunk a [] a
   none_goes a s p objects fields agrees = subst (λ n. With a (record s { remaining = n }) × Agrees (record s { remaining = n }) p objects) same (fields, agrees)
     where
       same : s.remaining ≡ s.remaining + 0
       same = omega arith
 
-  one_goes : (a new : Account Listing) (n : ℕ) (chunk : Chunk) (names : List ℕ) → IsSoundListing a.allocator → finite.get a.allocator.space.chunks n ≡ Some chunk → IsWhollyFree a.allocator.space n → Goes (account_without_chunk a n chunk) names new → Goes a (chunk.object ∷ names) new
+  one_goes : (a new : Account FreeListState) (n : ℕ) (chunk : Chunk) (names : List ℕ) → IsSoundFreeList a.allocator → finite.get a.allocator.space.chunks n ≡ Some chunk → IsWhollyFree a.allocator.space n → ReleasesChunk (account_without_chunk a n chunk) names new → ReleasesChunk a (chunk.object ∷ names) new
   one_goes a new n chunk names sound found free rest s p objects fields agrees =
       let after = account_without_chunk a n chunk in
       let goes = chunk_goes (handed_with a s fields) n chunk found free in
@@ -216,17 +216,17 @@ module _ {A : Type 0} {l : Limits A} {heaps : List Heap} {buddies : List Buddy} 
       count : s.remaining + 1 + length names ≡ s.remaining + length (chunk.object ∷ names)
       count = omega arith
 
-  module _ (a : Account Listing) {keep_last : Bool} {new : Account Listing} {gone : List ℕ} {es : List Event} {s : State} {p : Properties} {objects objects_now : ℕ → Option Object}
+  module _ (a : Account FreeListState) {keep_last : Bool} {new : Account FreeListState} {gone : List ℕ} {es : List Event} {s : State} {p : Properties} {objects objects_now : ℕ → Option Object}
       (gives : list.LetsWholeChunksGo keep_last a gone es new objects objects_now) (fields : With a s) (agrees : Agrees s p objects) where
     abbrev names : List ℕ
     names = map (object_of a.allocator.space) gone
 
     went : With new (without_these s names) × Agrees (without_these s names) p (without_objects objects names)
-    went = all_go Goes none_goes one_goes a new keep_last gone es (of (handed_with a s fields)).sound gives.0 gives.1.0 s p objects fields agrees
+    went = all_go ReleasesChunk none_goes one_goes a new keep_last gone es (of (handed_with a s fields)).sound gives.0 gives.1.0 s p objects fields agrees
 
-    pub let_go_left : IsLeft keep_last s es new p objects objects_now
-    let_go_left =
-        let all = subst (λ x. AreChunksGone x index keep_last names) fields.1 (names_gone (handed_with a s fields) keep_last gone gives.0) in
+    pub release_left : IsLeft keep_last s es new p objects objects_now
+    release_left =
+        let all = subst (λ x. AreChunksReleased x index keep_last names) fields.1 (names_gone (handed_with a s fields) keep_last gone gives.0) in
         let told = gives.1.0.0 ∙ sym (map-map Deallocated (object_of a.allocator.space) gone) in
         let left = gives.1.1 ∙ objects_named a.allocator.space objects gone in (
           went.0.0,

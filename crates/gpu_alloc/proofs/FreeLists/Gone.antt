@@ -1,4 +1,4 @@
--- Which chunks of a memory type's free list may go, as the free list and as the whole allocator's state tell.
+-- Which chunks of a memory type's free list may go, as the free list and as the whole allocator's state say.
 use Rattle.std.proofs.Common.{◌≡◌, ◌≢◌, inl, inr, ℕ, zero, suc, ◌<◌, Bool, false, List, [], ◌∷◌, length, get_or, map, Some, IsSome, IsTrue, Contains, refl, sym, ◌∙◌, ap, subst, arith}
 use Rattle.std.proofs.lemmas.List.{get_or-map, length-map}
 use Rattle.std.proofs.lemmas.List.Elements.{Contains-append_cases, Contains-get_or}
@@ -6,12 +6,12 @@ use Rattle.std.specs.FinMap as finite
 use Rattle.std.specs.FinSet as set
 use Rattle.gpu_alloc_base.specs.Chunks.{Chunk, object_in}
 use Rattle.gpu_alloc_freelist.specs.FreeList as list
-use Rattle.gpu_alloc_freelist.specs.FreeListAllocator.{AreGone, object_of}
-use Rattle.gpu_alloc_freelist.specs.FreeListState.{Listing}
+use Rattle.gpu_alloc_freelist.specs.FreeListAllocator.{AreReleased, object_of}
+use Rattle.gpu_alloc_freelist.specs.FreeListState.{FreeListState}
 use Rattle.gpu_alloc.specs.Inside.{list_object, span_of_slot}
 use Rattle.gpu_alloc.specs.FitSharing.{IsFitChunk}
 use Rattle.gpu_alloc.specs.FreeListSharing.{IsListChunk, IsFreeInChunk}
-use Rattle.gpu_alloc.specs.Release.{IsUnused, IsUnusedFit, HasLastListRun, ListChunkMayGo, AreChunksGone, AreFitsGone, AreGoneOfType, AreAllGone, without_all}
+use Rattle.gpu_alloc.specs.Release.{IsUnused, IsUnusedFit, HasLastListRun, ListChunkMayGo, AreChunksReleased, AreFitChunksReleased, AreReleasedOfType, AreAllReleased, without_all}
 use Rattle.gpu_alloc.proofs.Links.{IsNumberedChunk, slot_at}
 use Rattle.gpu_alloc_block.specs.State.{HeldObject, Span, span_cmp, State, IsLive}
 use Rattle.gpu_alloc_block.specs.declared.block.Kind.{Kind}
@@ -47,7 +47,7 @@ map_contains f xs y has =
     let within : has.0 < length xs = omega (arith, has.1, length-map xs f) in
     (get_or xs has.0 0, (Contains-get_or xs has.0 0 within, sym (get_or-map f xs has.0 0 y within) ∙ has.2))
 
-module _ (s : State) (index : ℕ) (l : Listing) (serves : ServesList s index l) where
+module _ (s : State) (index : ℕ) (l : FreeListState) (serves : ServesList s index l) where
   -- Chunks that are wholly free.
 
   pub unused_is : (number : ℕ) → list.IsWhollyFree l.space number → IsUnusedChunk s index number
@@ -92,11 +92,11 @@ module _ (s : State) (index : ℕ) (l : Listing) (serves : ServesList s index l)
   pub goes_was : (keep_last : Bool) (number object : ℕ) → ListChunkMayGo s index keep_last number object → list.MayGo l.space keep_last number
   goes_was keep_last number object may = (unused_was number (object, (may.chunk, may.unused)), λ kept last. may.not_last kept (last_is number last))
 
-  -- the object that a number tells
+  -- the object that a number names
   object_is : (number object : ℕ) → IsListChunk s index number object → object_of l.space number ≡ object
   object_is number object is = ap object_in (list_chunk_was s index l serves number object is)
 
-  module _ (keep_last : Bool) (numbers : List ℕ) (gone : AreGone l.space keep_last numbers) where
+  module _ (keep_last : Bool) (numbers : List ℕ) (gone : AreReleased l.space keep_last numbers) where
     abbrev objects : List ℕ
     objects = map (object_of l.space) numbers
 
@@ -109,8 +109,8 @@ module _ (s : State) (index : ℕ) (l : Listing) (serves : ServesList s index l)
         let here : get_or objects i d ≡ goes.0 = get_or-map (object_of l.space) numbers i 0 d inside ∙ object_is at goes.0 goes.1.chunk in
         (inside, one_number s index number at goes.0 (subst (IsListChunk s index number) here is) goes.1.chunk)
 
-    -- what goes is what goes
-    pub gone_is : AreChunksGone s index keep_last objects
+    -- both release the same
+    pub gone_is : AreChunksReleased s index keep_last objects
     gone_is = record {
       rising = λ i j d m n before within first second.
           let at_i = number_at i d m (omega (arith, before, within)) first in
@@ -159,7 +159,7 @@ module _ (s s' : State) (t : ℕ) (agree : AgreeOnType s s' t) where
     },
   )
 
--- both tell of the same free bytes
+-- both describe the same free bytes
 pub bytes_agree : (s s' : State) (t : ℕ) → AgreeOnType s s' t → AreSameBytes (IsFreeInChunk s t) (IsFreeInChunk s' t)
 bytes_agree s s' t agree = record { to = free_agrees s s' t agree; from = free_agrees s' s t (agree_back s s' t agree) }
 
@@ -170,8 +170,8 @@ goes_agrees s s' t agree keep_last number object may = record {
   not_last = λ kept last. may.not_last kept (last.0, (last_run_same (bytes_agree s' s t (agree_back s s' t agree)) last.0 last.1.0, last.1.1));
 }
 
--- what goes of one goes of the other
-pub gone_agrees : (s s' : State) (t : ℕ) → AgreeOnType s s' t → (keep_last : Bool) (gone : List ℕ) → AreChunksGone s t keep_last gone → AreChunksGone s' t keep_last gone
+-- what is released of one is released of the other
+pub gone_agrees : (s s' : State) (t : ℕ) → AgreeOnType s s' t → (keep_last : Bool) (gone : List ℕ) → AreChunksReleased s t keep_last gone → AreChunksReleased s' t keep_last gone
 gone_agrees s s' t agree keep_last gone chunks =
     let back = agree_back s s' t agree in
     record {
@@ -205,8 +205,8 @@ unused_fit_agrees s s' t agree object is = record {
   unused = λ span live. is.unused span (subst (λ (spans : set.FinSet span_cmp). IsTrue (set.contains spans span)) agree.live live);
 }
 
--- what goes of them in one goes in the other
-pub fits_agree : (s s' : State) (t : ℕ) → AgreeOnFits s s' t → (gone : List ℕ) → AreFitsGone s t gone → AreFitsGone s' t gone
+-- what is released of them in one is released in the other
+pub fits_agree : (s s' : State) (t : ℕ) → AgreeOnFits s s' t → (gone : List ℕ) → AreFitChunksReleased s t gone → AreFitChunksReleased s' t gone
 fits_agree s s' t agree gone fits = record {
   few = fits.few;
   all = λ object. (
@@ -216,7 +216,7 @@ fits_agree s s' t agree gone fits = record {
 }
 
 -- what a cleanup takes of the memory type in one it takes in the other
-pub type_agrees : (s s' : State) (t : ℕ) → AgreeOnType s s' t → (gone : List ℕ) → AreGoneOfType s t gone → AreGoneOfType s' t gone
+pub type_agrees : (s s' : State) (t : ℕ) → AgreeOnType s s' t → (gone : List ℕ) → AreReleasedOfType s t gone → AreReleasedOfType s' t gone
 type_agrees s s' t agree gone of_type = record {
   listed = of_type.listed;
   fitted = of_type.fitted;
@@ -252,15 +252,15 @@ agree_without s s' t gone held live other = record {
 
 -- What went of each memory type before one.
 
--- what goes of a memory type is held of it
-pub gone_held : (s : State) (t : ℕ) (gone : List ℕ) → AreGoneOfType s t gone → (object : ℕ) → Contains gone object → (h : HeldObject) × (finite.get s.held object ≡ Some h) × (h.memory_type ≡ t)
+-- what is released of a memory type is held of it
+pub gone_held : (s : State) (t : ℕ) (gone : List ℕ) → AreReleasedOfType s t gone → (object : ℕ) → Contains gone object → (h : HeldObject) × (finite.get s.held object ≡ Some h) × (h.memory_type ≡ t)
 gone_held s t gone of_type object has = elim (Contains-append_cases of_type.listed of_type.fitted object (subst (λ names. Contains names object) of_type.both has)) [
   | inl listed ↦ let is = ((of_type.of_list.all object).0 listed).1.chunk in (is.chunk, is.held, is.of_type)
   | inr fitted ↦ let is = ((of_type.of_fits.all object).0 fitted).chunk in (is.chunk, is.held, is.of_type)
 ]
 
 -- each is of an earlier memory type
-pub earlier_type : (s : State) (t : ℕ) (gone : List ℕ) → AreAllGone s t gone → (object : ℕ) (h : HeldObject) → Contains gone object → finite.get s.held object ≡ Some h → h.memory_type < t
+pub earlier_type : (s : State) (t : ℕ) (gone : List ℕ) → AreAllReleased s t gone → (object : ℕ) (h : HeldObject) → Contains gone object → finite.get s.held object ≡ Some h → h.memory_type < t
 earlier_type s zero gone none object h has is = absurd (contains_none object (subst (λ names. Contains names object) none has))
 earlier_type s (suc t) gone (earlier, own, both, all, chunks) object h has is =
     elim (Contains-append_cases earlier own object (subst (λ names. Contains names object) both has)) [
@@ -271,5 +271,5 @@ earlier_type s (suc t) gone (earlier, own, both, all, chunks) object h has is =
     ]
 
 -- so the rest of the memory types are as they were
-pub agree_after : (s s' : State) (t : ℕ) (gone : List ℕ) → AreAllGone s t gone → s'.held ≡ without_all s.held gone → s'.live ≡ s.live → AgreeOnType s s' t
+pub agree_after : (s s' : State) (t : ℕ) (gone : List ℕ) → AreAllReleased s t gone → s'.held ≡ without_all s.held gone → s'.live ≡ s.live → AgreeOnType s s' t
 agree_after s s' t gone all held live = agree_without s s' t gone held live (λ object h has is same. omega (arith, earlier_type s t gone all object h has is, same))

@@ -10,8 +10,8 @@ use Rattle.gpu_alloc_base.specs.Chunks.{Chunk}
 use Rattle.gpu_alloc_freelist.specs.FreeList.{with_slot, with_numbered_chunk}
 use Rattle.gpu_alloc_base.specs.Accounts.{IsCounted}
 use Rattle.gpu_alloc_freelist.specs.FreeListAllocator.{listing_with_slot, chunk_size, next_size}
-use Rattle.gpu_alloc_freelist.specs.FreeListSound.{IsSoundListing}
-use Rattle.gpu_alloc_freelist.specs.FreeListState.{Listing}
+use Rattle.gpu_alloc_freelist.specs.FreeListSound.{IsSoundFreeList}
+use Rattle.gpu_alloc_freelist.specs.FreeListState.{FreeListState}
 use Rattle.gpu_alloc.specs.Inside.{fits_in, state_in, properties_in, types_in, lists_in, list_object, span_of_slot}
 use Rattle.gpu_alloc.specs.Inside.{IsListFor}
 use Rattle.gpu_alloc.specs.Own.{OwnTable}
@@ -38,9 +38,9 @@ use Rattle.gpu_alloc.proofs.FreeLists.States.{list_types_set, list_types_kept}
 use Rattle.gpu_alloc_base.proofs.Slots.{slot_inserted}
 use Rattle.gpu_alloc.proofs.Buddies.Grants.{same_set}
 use Rattle.gpu_alloc.proofs.FreeLists.Types.{own_listing, serves_own, same_listing_for, typed_list}
-use Rattle.gpu_alloc_fit.specs.Fit.{Fitting}
+use Rattle.gpu_alloc_fit.specs.Fit.{FitState}
 
-module _ {A : Type 0} (limits : Limits A) (heaps : List Heap) (buddies : List Buddy) (lists : List Listing) (fits : List Fitting) (t : Table) (remaining index : ℕ) (l : Listing)
+module _ {A : Type 0} (limits : Limits A) (heaps : List Heap) (buddies : List Buddy) (lists : List FreeListState) (fits : List FitState) (t : Table) (remaining index : ℕ) (l : FreeListState)
     (is : IsConsistent limits.sharing limits.config (properties_in limits heaps) heaps buddies lists fits t remaining) (known : index < length (properties_in limits heaps).memory_types) (at : l ≡ get_or lists index l) where
   abbrev p : Properties
   p = properties_in limits heaps
@@ -85,15 +85,15 @@ module _ {A : Type 0} (limits : Limits A) (heaps : List Heap) (buddies : List Bu
     counted_before = list_counted s index l serving heaps i heap is.books here heap_in at_heap
 
     -- the fields with another free list, heap, table and count
-    abbrev state_with : Listing → Heap → Table → ℕ → State
+    abbrev state_with : FreeListState → Heap → Table → ℕ → State
     state_with after changed now left = state_in limits (set heaps i changed) buddies (set lists index after) fits now left
 
-    abbrev IsRecordedWith : Listing → Heap → Table → ℕ → Type 0
+    abbrev IsRecordedWith : FreeListState → Heap → Table → ℕ → Type 0
     IsRecordedWith after changed now left = IsRecorded limits.sharing limits.config (properties_in limits (set heaps i changed)) (set heaps i changed) buddies (set lists index after) fits now left
 
     -- A block more in a held chunk.
 
-    module _ (slot : Slot) (chunk : Chunk) (now : Table) (found : finite.get l.space.chunks slot.chunk ≡ Some chunk) (object : slot.object ≡ chunk.object) (sound : IsSoundListing (listing_with_slot l slot))
+    module _ (slot : Slot) (chunk : Chunk) (now : Table) (found : finite.get l.space.chunks slot.chunk ≡ Some chunk) (object : slot.object ≡ chunk.object) (sound : IsSoundFreeList (listing_with_slot l slot))
         (held : now.held ≡ t.held) (more : HasSlotMore t now slot) where
       chunk_held : finite.get t.held slot.object ≡ Some (list_object l slot.chunk chunk)
       chunk_held = ap (finite.get t.held) object ∙ of.linked.chunks slot.chunk chunk found
@@ -119,13 +119,13 @@ module _ {A : Type 0} (limits : Limits A) (heaps : List Heap) (buddies : List Bu
     -- A chunk more with a block in it.
 
     module _ (slot : Slot) (size : ℕ) (now : Table) (changed : Heap) (number : slot.chunk ≡ l.space.latest + 1) (free : finite.get t.held slot.object ≡ None) (some : 0 < remaining) (small : size < 2 ^ 64)
-        (sound : IsSoundListing (record l { space = with_slot (with_numbered_chunk l.space slot.object size) slot; next_chunk = next_size l size }))
+        (sound : IsSoundFreeList (record l { space = with_slot (with_numbered_chunk l.space slot.object size) slot; next_chunk = next_size l size }))
         (held : now.held ≡ finite.insert t.held slot.object (record { memory_type = index; counted = size; kind = FreeListChunk slot.chunk })) (more : HasSlotMore t now slot)
         (counts : changed ≡ record heap { used = heap.used + size }) (within : heap.used + size ≤ heap.limit) where
       abbrev object_of : HeldObject
       object_of = record { memory_type = index; counted = size; kind = FreeListChunk slot.chunk }
 
-      abbrev pub list_after : Listing
+      abbrev pub list_after : FreeListState
       list_after = record l { space = with_slot (with_numbered_chunk l.space slot.object size) slot; next_chunk = next_size l size }
 
       list_with_chunk : IsListFor limits.config p index list_after
@@ -161,15 +161,15 @@ module _ {A : Type 0} (limits : Limits A) (heaps : List Heap) (buddies : List Bu
 
     -- Nothing has changed.
 
-    module _ (after : Listing) (changed : Heap) (left : ℕ) (same_list : after ≡ l) (same_heap : changed ≡ heap) (same_count : left ≡ remaining) (now : Table) where
+    module _ (after : FreeListState) (changed : Heap) (left : ℕ) (same_list : after ≡ l) (same_heap : changed ≡ heap) (same_count : left ≡ remaining) (now : Table) where
       pub kept_refused : (own : OwnTable) → IsKept limits.sharing limits.config p heaps buddies lists fits own remaining → IsKept limits.sharing limits.config (properties_in limits (set heaps i changed)) (set heaps i changed) buddies (set lists index after) fits own left
       kept_refused own kept =
           subst (λ (hs : List Heap). IsKept limits.sharing limits.config (properties_in limits hs) hs buddies (set lists index after) fits own left) (sym (same_set heaps i changed heap at_heap same_heap))
-          (subst (λ (ls : List Listing). IsKept limits.sharing limits.config p heaps buddies ls fits own left) (sym (same_set lists index after l at same_list))
+          (subst (λ (ls : List FreeListState). IsKept limits.sharing limits.config p heaps buddies ls fits own left) (sym (same_set lists index after l at same_list))
           (subst (λ n. IsKept limits.sharing limits.config p heaps buddies lists fits own n) (sym same_count) kept))
 
       pub state_refused : now.held ≡ t.held → now.live ≡ t.live → state_with after changed now left ≡ s
       state_refused held live =
           ap (λ (hs : List Heap). state_in limits hs buddies (set lists index after) fits now left) (same_set heaps i changed heap at_heap same_heap)
-          ∙ ap (λ (ls : List Listing). state_in limits heaps buddies ls fits now left) (same_set lists index after l at same_list)
+          ∙ ap (λ (ls : List FreeListState). state_in limits heaps buddies ls fits now left) (same_set lists index after l at same_list)
           ∙ (λ k. record s { held = held k; live = live k; remaining = same_count k })

@@ -10,7 +10,7 @@ use Rattle.gpu_alloc_base.specs.Chunks.{IsThere, Chunk}
 use Rattle.gpu_alloc_base.specs.Accounts.{IsCounted, chunk_bytes}
 use Rattle.gpu_alloc_freelist.specs.FreeListAllocator.{sees_chunks}
 use Rattle.gpu_alloc_freelist.specs.FreeListAllocator as list
-use Rattle.gpu_alloc_freelist.specs.FreeListState.{Listing, IsLiveSlot}
+use Rattle.gpu_alloc_freelist.specs.FreeListState.{FreeListState, IsLiveSlot}
 use Rattle.gpu_alloc.specs.Inside.{IsBooked, list_object}
 use Rattle.gpu_alloc.specs.FreeListSharing.{list_block}
 use Rattle.gpu_alloc.proofs.Links.{IsNumberedChunk, slot_at}
@@ -32,8 +32,8 @@ agrees_without_list_chunk s p objects object remaining agrees =
     let now : State = record s { held = map.remove s.held object; remaining = remaining } in
     agrees_returned s now p p objects (put objects object None) (list_block s 0 0 (record { object = object; offset = 0; size = 0 })) agrees refl refl refl refl (λ span live. live)
 
-module _ (s : State) (index : ℕ) (l : Listing) (serves : ServesList s index l) where
-  -- What both tell.
+module _ (s : State) (index : ℕ) (l : FreeListState) (serves : ServesList s index l) where
+  -- What both say.
 
   -- a live span of a chunk's object is a live block of the chunk
   pub span_is_slot : (number : ℕ) (c : Chunk) (span : Span) → map.get l.space.chunks number ≡ Some c → span.object ≡ c.object → IsLive s span → IsLiveSlot l.space (slot_at span number)

@@ -1,4 +1,4 @@
--- A memory type's free list in the whole allocator's state: both tell the same of chunks, free bytes and blocks.
+-- A memory type's free list in the whole allocator's state: both say the same of chunks, free bytes and blocks.
 use Rattle.std.proofs.Common.{◌≡◌, ℕ, ◌+◌, Some, refl, sym, ◌∙◌, ap, subst, arith}
 use Rattle.std.specs.Prelude.{max}
 use Rattle.std.specs.FinMap as map
@@ -9,7 +9,7 @@ use Rattle.gpu_alloc_base.specs.Chunks.{Chunk}
 use Rattle.gpu_alloc_freelist.specs.FreeList.{HasPlace, HasNumber, IsTail}
 use Rattle.gpu_alloc_base.specs.Accounts.{account}
 use Rattle.gpu_alloc_freelist.specs.FreeListAllocator.{rounded, alignment, question, case_of, list_case}
-use Rattle.gpu_alloc_freelist.specs.FreeListState.{Listing, IsFreeIn}
+use Rattle.gpu_alloc_freelist.specs.FreeListState.{FreeListState, IsFreeIn}
 use Rattle.gpu_alloc.specs.Inside.{list_object, span_of_slot}
 use Rattle.gpu_alloc.proofs.Linked.{IsListOf}
 use Rattle.gpu_alloc.specs.FreeListSharing.{list_size, list_alignment, list_question, next_list_chunk, latest_number, largest_list_chunk, IsListChunk, IsFreeInChunk, HasListPlace, HasListNumber, IsRunTail}
@@ -28,13 +28,13 @@ use Rattle.gpu_alloc_base.proofs.Maps.{one_value}
 use Rattle.gpu_alloc_base.proofs.SameRuns.{AreSameBytes, same_back, place_same, last_room_same}
 use Rattle.gpu_alloc.proofs.Buddies.Serving.{table_of}
 
--- the memory type's free list, whose next chunk and latest number are as the state tells
-pub record ServesList (s : State) (index : ℕ) (l : Listing) : Type 0 where
+-- the memory type's free list, whose next chunk and latest number are as the state says
+pub record ServesList (s : State) (index : ℕ) (l : FreeListState) : Type 0 where
   pub of : IsListOf s.config s.properties (table_of s) index l
   pub next : next_list_chunk s index ≡ l.next_chunk
   pub number : latest_number s index ≡ l.space.latest
 
-module _ (s : State) (index : ℕ) (l : Listing) (serves : ServesList s index l) where
+module _ (s : State) (index : ℕ) (l : FreeListState) (serves : ServesList s index l) where
   -- Chunks and bytes.
 
   -- a chunk's object is held as one
@@ -84,7 +84,7 @@ module _ (s : State) (index : ℕ) (l : Listing) (serves : ServesList s index l)
             free.unused (span_of_slot slot) (serves.of.linked.slots slot live) (lies.object ∙ ap (λ (c : Chunk). c.object) one) i;
       }
 
-  -- both tell of the same free bytes
+  -- both describe the same free bytes
   pub same_bytes : AreSameBytes (IsFreeIn l.space) (IsFreeInChunk s index)
   same_bytes = record { to = free_byte; from = free_in }
 
@@ -128,7 +128,7 @@ module _ (s : State) (index : ℕ) (l : Listing) (serves : ServesList s index l)
   pub number_was : HasListNumber s index → HasNumber l.space
   number_was has = omega (arith, has, serves.number)
 
-  -- A request, which both tell.
+  -- A request, which both describe.
 
   told_as : (heap : Heap) (size alignment : ℕ) → IsHeap s (heap_at s.properties index) heap → IsToldAs (list_case (account l heap s.remaining) size alignment (flags_of s.properties)) (list_candidate s size alignment index)
   told_as heap size alignment of = record {

@@ -4,7 +4,7 @@ use Rattle.std.proofs.Math.ListN.{set}
 use Rattle.std.specs.FinSet as set_of
 use Rattle.gpu_alloc_base.specs.declared.free_list_block.Slot.{Slot}
 use Rattle.gpu_alloc_buddy.specs.BuddyState.{Buddy}
-use Rattle.gpu_alloc_freelist.specs.FreeListState.{Listing}
+use Rattle.gpu_alloc_freelist.specs.FreeListState.{FreeListState}
 use Rattle.gpu_alloc.specs.Inside.{types_in, lists_in, span_of_slot}
 use Rattle.gpu_alloc.specs.FreeListSharing.{list_chunk_of, number_of, with_next_list}
 use Rattle.gpu_alloc.specs.Spans.{Table}
@@ -13,38 +13,38 @@ use Rattle.gpu_alloc_block.specs.State.{TypeState}
 -- As a free list changes.
 
 -- its next chunk will have this size at least, and its latest one has the next number
-pub list_types_set : (types : List TypeState) (lists : List Listing) (i : ℕ) (l old : Listing) → old ≡ get_or lists i old → l.space.latest ≡ old.space.latest + 1 → i < length lists → i < length types
+pub list_types_set : (types : List TypeState) (lists : List FreeListState) (i : ℕ) (l old : FreeListState) → old ≡ get_or lists i old → l.space.latest ≡ old.space.latest + 1 → i < length lists → i < length types
     → lists_in types (set lists i l) ≡ with_next_list (lists_in types lists) i l.next_chunk
 unfolding with_next_list
 list_types_set [] lists i l old at latest lt within = absurd (omega (arith, within))
 list_types_set (type ∷ types) [] i l old at latest lt within = absurd (omega (arith, lt))
 list_types_set (type ∷ types) (y ∷ lists) zero l old at latest lt within =
-    ap (λ n. record type { list_chunk = l.next_chunk; number = n } ∷ lists_in types lists) (latest ∙ ap (λ (x : Listing). x.space.latest + 1) at)
+    ap (λ n. record type { list_chunk = l.next_chunk; number = n } ∷ lists_in types lists) (latest ∙ ap (λ (x : FreeListState). x.space.latest + 1) at)
 list_types_set (type ∷ types) (y ∷ lists) (suc i) l old at latest lt within =
     ap (λ ts. record type { list_chunk = y.next_chunk; number = y.space.latest } ∷ ts) (list_types_set types lists i l old at latest (omega (arith, lt)) (omega (arith, within)))
 
 -- its next chunk and its latest number are as they were
-pub list_types_kept : (types : List TypeState) (lists : List Listing) (i : ℕ) (l old : Listing) → old ≡ get_or lists i old → l.next_chunk ≡ old.next_chunk → l.space.latest ≡ old.space.latest
+pub list_types_kept : (types : List TypeState) (lists : List FreeListState) (i : ℕ) (l old : FreeListState) → old ≡ get_or lists i old → l.next_chunk ≡ old.next_chunk → l.space.latest ≡ old.space.latest
     → lists_in types (set lists i l) ≡ lists_in types lists
 list_types_kept [] lists i l old at same latest = refl
 list_types_kept (type ∷ types) [] i l old at same latest = refl
 list_types_kept (type ∷ types) (y ∷ lists) zero l old at same latest = λ k.
-    record type { list_chunk = (same ∙ ap (λ (x : Listing). x.next_chunk) at) k; number = (latest ∙ ap (λ (x : Listing). x.space.latest) at) k } ∷ lists_in types lists
+    record type { list_chunk = (same ∙ ap (λ (x : FreeListState). x.next_chunk) at) k; number = (latest ∙ ap (λ (x : FreeListState). x.space.latest) at) k } ∷ lists_in types lists
 list_types_kept (type ∷ types) (y ∷ lists) (suc i) l old at same latest =
     ap (λ ts. record type { list_chunk = y.next_chunk; number = y.space.latest } ∷ ts) (list_types_kept types lists i l old at same latest)
 
 -- what the next free-list chunk of a memory type has at least
-pub list_next_at : (types : List TypeState) (lists : List Listing) (i : ℕ) (l : Listing) → slice_get lists i ≡ Some l → i < length types → list_chunk_of (slice_get (lists_in types lists) i) ≡ l.next_chunk
+pub list_next_at : (types : List TypeState) (lists : List FreeListState) (i : ℕ) (l : FreeListState) → slice_get lists i ≡ Some l → i < length types → list_chunk_of (slice_get (lists_in types lists) i) ≡ l.next_chunk
 list_next_at [] lists i l at within = absurd (omega (arith, within))
 list_next_at (type ∷ types) [] i l at within = absurd (cc)
-list_next_at (type ∷ types) (y ∷ lists) zero l at within = let same : y ≡ l = cc in ap (λ (x : Listing). x.next_chunk) same
+list_next_at (type ∷ types) (y ∷ lists) zero l at within = let same : y ≡ l = cc in ap (λ (x : FreeListState). x.next_chunk) same
 list_next_at (type ∷ types) (y ∷ lists) (suc i) l at within = list_next_at types lists i l at (omega (arith, within))
 
 -- and the number of its latest one
-pub list_latest_at : (types : List TypeState) (lists : List Listing) (i : ℕ) (l : Listing) → slice_get lists i ≡ Some l → i < length types → number_of (slice_get (lists_in types lists) i) ≡ l.space.latest
+pub list_latest_at : (types : List TypeState) (lists : List FreeListState) (i : ℕ) (l : FreeListState) → slice_get lists i ≡ Some l → i < length types → number_of (slice_get (lists_in types lists) i) ≡ l.space.latest
 list_latest_at [] lists i l at within = absurd (omega (arith, within))
 list_latest_at (type ∷ types) [] i l at within = absurd (cc)
-list_latest_at (type ∷ types) (y ∷ lists) zero l at within = let same : y ≡ l = cc in ap (λ (x : Listing). x.space.latest) same
+list_latest_at (type ∷ types) (y ∷ lists) zero l at within = let same : y ≡ l = cc in ap (λ (x : FreeListState). x.space.latest) same
 list_latest_at (type ∷ types) (y ∷ lists) (suc i) l at within = list_latest_at types lists i l at (omega (arith, within))
 
 -- Beside the buddy allocators.

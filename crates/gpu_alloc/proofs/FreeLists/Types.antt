@@ -4,7 +4,7 @@ use Rattle.std.proofs.lemmas.List.{length-map}
 use Rattle.std.proofs.lemmas.Option.{slice_get_read}
 use Rattle.std.specs.List.{slice_get}
 use Rattle.gpu_alloc_buddy.specs.BuddyState.{Buddy}
-use Rattle.gpu_alloc_freelist.specs.FreeListState.{Listing}
+use Rattle.gpu_alloc_freelist.specs.FreeListState.{FreeListState}
 use Rattle.gpu_alloc.specs.Inside.{state_in, properties_in, lists_in, types_in, IsListForType}
 use Rattle.gpu_alloc.proofs.Linked.{IsConsistent, IsListOf}
 use Rattle.gpu_alloc.specs.FirstTypes.{first_types, first_type_state}
@@ -14,9 +14,9 @@ use Rattle.gpu_alloc.specs.declared.limits.Limits.{Limits}
 use Rattle.gpu_alloc.proofs.FreeLists.Serving.{ServesList}
 use Rattle.gpu_alloc.proofs.Fits.States.{fits_list_at, fits_number_at}
 use Rattle.gpu_alloc.proofs.FreeLists.States.{list_next_at, list_latest_at, types_within}
-use Rattle.gpu_alloc_fit.specs.Fit.{Fitting}
+use Rattle.gpu_alloc_fit.specs.Fit.{FitState}
 
-module _ {A : Type 0} (l : Limits A) (heaps : List Heap) (buddies : List Buddy) (lists : List Listing) (fits : List Fitting) (t : Table) (remaining index : ℕ) (fl : Listing)
+module _ {A : Type 0} (l : Limits A) (heaps : List Heap) (buddies : List Buddy) (lists : List FreeListState) (fits : List FitState) (t : Table) (remaining index : ℕ) (fl : FreeListState)
     (is : IsConsistent l.sharing l.config (properties_in l heaps) heaps buddies lists fits t remaining) (known : index < length (properties_in l heaps).memory_types) (at : fl ≡ get_or lists index fl) where
   there : slice_get lists index ≡ Some fl
   there = slice_get_read lists (length lists) index fl refl (omega (arith, known, is.listed.count)) at
@@ -27,7 +27,7 @@ module _ {A : Type 0} (l : Limits A) (heaps : List Heap) (buddies : List Buddy) 
       (omega (arith, known, length-map (properties_in l heaps).memory_types (first_type_state l.config (properties_in l heaps)))) (omega (arith, known, is.shared.count))
 
   pub own_listing : IsListOf l.config (properties_in l heaps) t index fl
-  own_listing = subst (λ (o : Option Listing). IfSome o (IsListOf l.config (properties_in l heaps) t index)) there (is.listed.each index)
+  own_listing = subst (λ (o : Option FreeListState). IfSome o (IsListOf l.config (properties_in l heaps) t index)) there (is.listed.each index)
 
   pub serves_own : ServesList (state_in l heaps buddies lists fits t remaining) index fl
   serves_own = record {
@@ -37,7 +37,7 @@ module _ {A : Type 0} (l : Limits A) (heaps : List Heap) (buddies : List Buddy) 
   }
 
 -- what it was given stays
-pub same_listing_for : {A : Type 0} (l : Limits A) (heaps : List Heap) (t : Table) (index : ℕ) (fl after : Listing) → IsListOf l.config (properties_in l heaps) t index fl
+pub same_listing_for : {A : Type 0} (l : Limits A) (heaps : List Heap) (t : Table) (index : ℕ) (fl after : FreeListState) → IsListOf l.config (properties_in l heaps) t index fl
     → after.memory_type ≡ fl.memory_type → after.props ≡ fl.props → after.atom ≡ fl.atom → after.final_chunk ≡ fl.final_chunk → IsListForType l.config (properties_in l heaps) index after
 same_listing_for l heaps t index fl after of memory_type props atom final =
     let given = of.for_type in

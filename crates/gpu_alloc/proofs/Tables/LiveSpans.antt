@@ -1,4 +1,4 @@
--- Live spans of a table, as one comes or goes.
+-- Live spans of a table, as one is added or removed.
 use Rattle.std.proofs.Common.{◌≡◌, ◌≢◌, inl, inr, false, None, IsTrue, sym, ◌∙◌, subst, ℕ, ap}
 use Rattle.std.specs.FinMap as map
 use Rattle.std.specs.FinSet.{contains, insert, remove}
@@ -34,7 +34,7 @@ module _ (old now : Table) (object : ℕ) where
     ];
   }
 
-  -- and goes
+  -- and is removed
   pub spans_fewer : (own : Span) → object ≢ own.object → now.live ≡ remove old.live own → HasSameSpans old now object
   spans_fewer own other live = record {
     still = λ span named was. subst (λ s. IsTrue (contains s span)) (sym live) (live_kept old.live own span (λ same. other (sym named ∙ ap (λ (s : Span). s.object) same)) was);

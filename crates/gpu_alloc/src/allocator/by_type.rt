@@ -6,10 +6,10 @@ ghost use Rattle.std.specs.FinMap as map;
 ghost use Rattle.gpu_alloc_types.specs.Properties.{IsUsable, properties_of};
 ghost use Rattle.gpu_alloc_base.specs.Heap.{unused};
 ghost use Rattle.gpu_alloc_buddy.specs.BuddySound.{IsSoundBuddy};
-ghost use Rattle.gpu_alloc_freelist.specs.FreeListSound.{IsSoundListing};
-ghost use Rattle.gpu_alloc_fit.specs.FitSound.{IsSoundFitting};
-ghost use Rattle.gpu_alloc.specs.Opening.{first_buddy, AreFirstBuddies, first_listing, AreFirstListings};
-ghost use Rattle.gpu_alloc.specs.Opening.{first_fitting, AreFirstFittings};
+ghost use Rattle.gpu_alloc_freelist.specs.FreeListSound.{IsSoundFreeList};
+ghost use Rattle.gpu_alloc_fit.specs.FitSound.{IsSoundFit};
+ghost use Rattle.gpu_alloc.specs.Opening.{first_buddy, AreFirstBuddies, first_listing, AreFirstFreeLists};
+ghost use Rattle.gpu_alloc.specs.Opening.{first_fitting, AreFirstFits};
 
 use crate::limits::{LEAST_GRAIN, atom_of};
 use gpu_alloc_base::heap::Heap;
@@ -99,7 +99,7 @@ pub(super) fn empty_free_lists<M: MemoryObject, A: Allocator + Copy>(
 ) -> Result<Vec<FreeListAllocator<M, A>, A>, AllocError>
     requires { IsUsable (properties_of props.now) }
     ensures count { IfOk result (λ lists. length lists.items ≡ length (properties_of props.now).memory_types) }
-    ensures each { IfOk result (λ lists. AreFirstListings config (properties_of props.now) lists.items) }
+    ensures each { IfOk result (λ lists. AreFirstFreeLists config (properties_of props.now) lists.items) }
 {
     let count = props.memory_types.len();
     let mut lists = Vec::with_capacity(alloc, count)?;
@@ -119,7 +119,7 @@ fn empty_free_list<M: MemoryObject, A: Allocator + Copy>(
     requires usable { IsUsable (properties_of props.now) }
     requires known { memory_type < length (properties_of props.now).memory_types }
     ensures first { result ≡ first_listing config (properties_of props.now) memory_type }
-    ensures sound { IsSoundListing result }
+    ensures sound { IsSoundFreeList result }
 {
     let own = props.memory_types[memory_type];
     let heap = props.memory_heaps[own.heap as usize].size;
@@ -154,7 +154,7 @@ pub(super) fn empty_fits<M: MemoryObject, A: Allocator + Copy>(
 ) -> Result<Vec<FitAllocator<M, A>, A>, AllocError>
     requires { IsUsable (properties_of props.now) }
     ensures count { IfOk result (λ fits. length fits.items ≡ length (properties_of props.now).memory_types) }
-    ensures each { IfOk result (λ fits. AreFirstFittings config (properties_of props.now) fits.items) }
+    ensures each { IfOk result (λ fits. AreFirstFits config (properties_of props.now) fits.items) }
 {
     let count = props.memory_types.len();
     let mut fits = Vec::with_capacity(alloc, count)?;
@@ -174,7 +174,7 @@ fn empty_fit<M: MemoryObject, A: Allocator + Copy>(
     requires usable { IsUsable (properties_of props.now) }
     requires known { memory_type < length (properties_of props.now).memory_types }
     ensures first { result ≡ first_fitting config (properties_of props.now) memory_type }
-    ensures sound { IsSoundFitting result }
+    ensures sound { IsSoundFit result }
 {
     let own = props.memory_types[memory_type];
     let heap = props.memory_heaps[own.heap as usize].size;

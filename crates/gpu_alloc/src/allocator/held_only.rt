@@ -27,15 +27,16 @@ use std::sync::ledger::Blank;
 
 impl<M: MemoryObject, A: Allocator> GpuAllocator<M, A> {
     /// Allocates a block from what is held. The device is asked for nothing, and is unchanged. It returns `Ok(None)`
-    /// where no memory type that may serve the request has a place for it. `alloc` would then ask the device, or refuse:
-    /// [`can_ever_serve`](GpuAllocator::can_ever_serve) tells a request that it refuses whatever is held.
+    /// where no memory type that may serve the request has a place for it. `alloc` would then ask the device, or
+    /// refuse: [`can_ever_serve`](GpuAllocator::can_ever_serve) is `false` for a request that it refuses whatever is
+    /// held.
     ///
     /// The request is that of [`alloc`](GpuAllocator::alloc), of `alloc_with_dedicated` where there is a hint, and of
-    /// `alloc_optimal` where there is a granularity, in bytes. The memory types are tried in rank. The first with a
-    /// place in one of its chunks serves the request as those calls would serve it there. So a type that they would ask
-    /// for a chunk is passed over for a later one that has a place. A type that serves the request by an object of its
-    /// own has no place: with `Required` the answer is `Ok(None)` or an error. How many more objects may be held does
-    /// not matter.
+    /// `alloc_optimal` where there is a granularity, in bytes. The memory types are tried in order of rank. The first
+    /// with a place in one of its chunks serves the request as those calls would serve it there. So a type that they
+    /// would ask for a chunk is passed over for a later one that has a place. A type that serves the request by an
+    /// object of its own has no place: with `Required` the answer is `Ok(None)` or an error. How many more objects may
+    /// be held does not matter.
     ///
     /// The conditions are those of the other calls. The errors, in the order in which they are tested:
     ///
@@ -153,7 +154,7 @@ impl<M: MemoryObject, A: Allocator> GpuAllocator<M, A> {
         }
     }
 
-    /// The first candidate in rank that has a place for its request, or `None`.
+    /// The first candidate, in order of rank, that has a place for its request, or `None`.
     fn first_with_place(
         &self,
         request: &Request,

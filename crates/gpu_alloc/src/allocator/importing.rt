@@ -18,10 +18,10 @@ use gpu_alloc_types::{MemoryObject, MemoryPropertyFlags};
 use std::alloc::Allocator;
 
 impl<M: MemoryObject, A: Allocator> GpuAllocator<M, A> {
-    /// Imports a memory object that another made, and returns the block of `size` bytes from `offset` on in it. The
-    /// allocator holds the object from then on: one fewer may be held, and the ledger of its heap rises by `size`,
-    /// however large the object is. The block is not mapped. `dealloc` returns it and releases the object to the
-    /// device.
+    /// Imports a memory object that the allocator did not make, and returns the block of `size` bytes from `offset` on
+    /// in it. The allocator holds the object from then on: one fewer may be held, and the ledger of its heap rises by
+    /// `size`, however large the object is. The block is not mapped. `dealloc` returns it and releases the object to
+    /// the device.
     ///
     /// The device is not called. For the allocator and the block to agree with it afterwards, it must hold the object,
     /// of this memory type and unmapped, with the range inside it. Where the memory type is host-visible and not

@@ -11,9 +11,9 @@ ghost use Rattle.gpu_alloc.specs.Sound as Sound;
 ghost use Rattle.gpu_alloc.specs.Spans.{held_objects_in, held_of, span_in};
 ghost use Rattle.gpu_alloc.specs.Listing.{AreOfKnownTypes, AreOnce};
 ghost use Rattle.gpu_alloc.specs.Whole.{buddy_part, fit_part, list_part};
-ghost use Rattle.gpu_alloc_fit.specs.FitSound.{IsSoundFitting};
+ghost use Rattle.gpu_alloc_fit.specs.FitSound.{IsSoundFit};
 ghost use Rattle.gpu_alloc_block.specs.Parts.{HaveOwnObjects};
-ghost use Rattle.gpu_alloc_freelist.specs.FreeListSound.{IsSoundListing};
+ghost use Rattle.gpu_alloc_freelist.specs.FreeListSound.{IsSoundFreeList};
 
 use super::GpuAllocator;
 use crate::spans::{HeldRow, LiveSpan};
@@ -235,7 +235,7 @@ fn list_slots<M: MemoryObject, A: Allocator, B: Allocator>(
     list: &FreeListAllocator<M, A>,
     rows: &mut Vec<LiveSpan, B>,
 ) -> Result<(), AllocError>
-    requires sound { IsSoundListing list.now }
+    requires sound { IsSoundFreeList list.now }
     ensures { OnOk result ((slots : List LiveSpan) × (rows.new.items ≡ rows.old.items ++ slots)
         × ((set.from_list (mapped span_in slots) ≡ (list_part list.now).live) × AreOnce (mapped span_in slots))) }
 {

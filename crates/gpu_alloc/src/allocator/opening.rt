@@ -39,7 +39,7 @@ impl<M: MemoryObject, A: Allocator + Copy> GpuAllocator<M, A> {
         GpuAllocator::with_sharing(alloc, config, props, Sharing::Buddy)
     }
 
-    /// As [`new`](GpuAllocator::new), with a choice how requests that are not `TRANSIENT` share objects: in buddy
+    /// As [`new`](GpuAllocator::new), with a choice of how requests that are not `TRANSIENT` share objects: in buddy
     /// chunks, as in the original crate, or in fit chunks. The choice is fixed ([`sharing`](GpuAllocator::sharing)).
     pub fn with_sharing(
         alloc: A,

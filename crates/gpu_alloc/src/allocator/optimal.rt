@@ -1,4 +1,4 @@
-//! Images that are not linear, which whole pages of a granularity keep apart from all else in a shared object.
+//! Optimal images: in a shared object, whole pages keep them apart from other blocks.
 
 ghost use Rattle.std.specs.Prelude.{◌≡◌, ◌<◌, ◌↔◌, List, length, true, false, Some, None, IfOk, IfSome, OnErr, IsTrue};
 ghost use Rattle.gpu_alloc_types.specs.Device.{Event, Chain};
@@ -26,13 +26,13 @@ impl<M: MemoryObject, A: Allocator> GpuAllocator<M, A> {
     /// (Vulkan's `bufferImageGranularity`).
     ///
     /// In a shared object the block begins at a page, and its whole pages hold the request's size. It is served as a
-    /// request of that size rounded up to pages and aligned to one at least. So no page with one of the block's first
-    /// `size` bytes has a byte of another block. An object of its own has exactly the request's size.
+    /// request whose size is rounded up to whole pages and whose alignment is at least one page. So no page with one of
+    /// the block's first `size` bytes has a byte of another block. An object of its own has exactly the request's size.
     ///
     /// The granularity must be a power of two of at most 2^32; with 1 this is `alloc`. The other conditions and the
-    /// errors are those of `alloc`. The limit of size and the test of the heap use the size as asked.
-    /// `OutOfDeviceMemory` is also the error where whole pages for it would have 2^64 bytes or more. (The original
-    /// crate has no granularity.)
+    /// errors are those of `alloc`. The size limit and the test of the heap use the requested size. `OutOfDeviceMemory`
+    /// is also the error where that size in whole pages would be 2^64 bytes or more. (The original crate has no
+    /// granularity.)
     pub fn alloc_optimal<D: ObjectDevice<M>>(
         &mut self,
         device: &mut D,

@@ -18,7 +18,7 @@ impl<M: MemoryObject, A: Allocator> GpuAllocator<M, A> {
     /// Its contract also says what holds of every allocator between calls (`sound`):
     ///
     /// - Live spans are not empty and share no byte. Each lies in its object as the object's kind says. In a buddy
-    ///   chunk it has a power of two of bytes and begins at a multiple of its size.
+    ///   chunk its size is a power of two, in bytes, and it begins at a multiple of that size.
     /// - An object of one block has no other. Only chunks of a free list and fit chunks are held without a live block,
     ///   and at most one fit chunk of a memory type is.
     /// - Chunks of a free list have numbers of their own. Shared chunks are of the kind that was chosen.
@@ -31,7 +31,7 @@ impl<M: MemoryObject, A: Allocator> GpuAllocator<M, A> {
         self.keeps_sound();
         match block.kind() {
             Kind::Dedicated | Kind::Imported => self.has_own(block),
-            Kind::BuddyChunk => self.has_in_chunk(block),
+            Kind::BuddyChunk => self.has_in_buddy(block),
             Kind::FreeListChunk(number) => self.has_in_list(block, number),
             Kind::FitChunk => self.has_in_fit(block),
         }
@@ -54,7 +54,7 @@ impl<M: MemoryObject, A: Allocator> GpuAllocator<M, A> {
     }
 
     /// Whether a block of a buddy chunk is live here.
-    fn has_in_chunk(&self, block: &MemoryBlock<M>) -> bool
+    fn has_in_buddy(&self, block: &MemoryBlock<M>) -> bool
         requires { (block.now).kind ≡ Kind.BuddyChunk }
         ensures { IsTrue result ↔ IsOwned self.now block.now }
     {

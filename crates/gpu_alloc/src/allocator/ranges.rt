@@ -15,9 +15,9 @@ impl<M: MemoryObject, A: Allocator + Copy> GpuAllocator<M, A> {
     /// The free ranges of a memory type's shared chunks, sorted by the name of their object, then by start. Each is in
     /// bytes of its object.
     ///
-    /// In a buddy chunk these are the free pieces: the longest ranges of a power of two of bytes, at a multiple of
-    /// their length, that lie in no live block. In a chunk of a free list and in a fit chunk they are the free runs:
-    /// the longest ranges that lie in no live block. An object of one block has none.
+    /// In a buddy chunk these are the free pieces: the longest ranges with a power of two as length, at a multiple of
+    /// it, that lie in no live block. In a chunk of a free list and in a fit chunk they are the free runs: the longest
+    /// ranges that lie in no live block. An object of one block has none.
     ///
     /// The memory type must exist. The only error is `OutOfHostMemory`: the answer and the list of each part take host
     /// memory. Nothing changes.

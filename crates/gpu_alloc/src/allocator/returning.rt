@@ -1,9 +1,9 @@
-//! How a block is returned, by what its object is held for.
+//! Returns, by kind of object.
 
 ghost use Rattle.std.specs.Prelude.{◌≡◌, ℕ, ◌<◌, List, length, false};
 ghost use Rattle.gpu_alloc_types.specs.Device.{Event, Chain};
 ghost use Rattle.gpu_alloc_block.specs.Agreement.{Agrees};
-ghost use Rattle.gpu_alloc.specs.Release.{Frees, ObjectsFreed, LetsChunksGo, LetsFitsGo, LetsTypeGo};
+ghost use Rattle.gpu_alloc.specs.Release.{Frees, ObjectsFreed, ReleasesChunks, ReleasesFitChunks, ReleasesType};
 ghost use Rattle.gpu_alloc.specs.Sound as Sound;
 ghost use Rattle.gpu_alloc_block.specs.State.{IsOwned, is_shared, total};
 
@@ -19,7 +19,7 @@ use std::marker::Brand;
 use std::sync::ledger::Blank;
 
 impl<M: MemoryObject, A: Allocator> GpuAllocator<M, A> {
-    /// Returns a block, by what its object is held for.
+    /// Returns a block, by the kind of its object.
     pub(super) fn put_back<D: ObjectDevice<M>>(&mut self, device: &mut D, block: MemoryBlock<M>)
         requires owned { IsOwned self.old block }
         requires agrees { Agrees self.old (D.properties device.old) (D.objects device.old) }
@@ -30,7 +30,7 @@ impl<M: MemoryObject, A: Allocator> GpuAllocator<M, A> {
     {
         match block.kind() {
             Kind::Dedicated | Kind::Imported => self.put_back_object(device, block),
-            Kind::BuddyChunk => self.put_back_in_chunk(device, block),
+            Kind::BuddyChunk => self.put_back_in_buddy(device, block),
             Kind::FreeListChunk(number) => self.put_back_in_list(device, block, number),
             Kind::FitChunk => self.put_back_in_fit(device, block),
         }
@@ -51,7 +51,7 @@ impl<M: MemoryObject, A: Allocator> GpuAllocator<M, A> {
         device.deallocate_memory(&memory);
         let row = self.own.remove(key, memory.object());
         let heap = self.limits.heap_index(row.memory_type);
-        booking::let_go(
+        booking::release(
             &mut self.heaps[heap],
             &mut self.allocations_remains,
             row.size,
@@ -60,7 +60,7 @@ impl<M: MemoryObject, A: Allocator> GpuAllocator<M, A> {
     }
 
     /// Returns a block of a buddy chunk.
-    fn put_back_in_chunk<D: ObjectDevice<M>>(&mut self, device: &mut D, block: MemoryBlock<M>)
+    fn put_back_in_buddy<D: ObjectDevice<M>>(&mut self, device: &mut D, block: MemoryBlock<M>)
         requires shared { block.kind ≡ Kind.BuddyChunk }
         requires owned { IsOwned self.old block }
         requires agrees { Agrees self.old (D.properties device.old) (D.objects device.old) }
@@ -152,7 +152,7 @@ impl<M: MemoryObject, A: Allocator> GpuAllocator<M, A> {
         requires known { memory_type < length (self.old.properties).memory_types }
         requires agrees { Agrees self.old (D.properties device.old) (D.objects device.old) }
         ensures gives { (gone : List ℕ) × (es : List Event) × Chain D.step device.old es device.new
-            × LetsTypeGo self.old memory_type gone es self.new (D.objects device.old) (D.objects device.new) }
+            × ReleasesType self.old memory_type gone es self.new (D.objects device.old) (D.objects device.new) }
         ensures agrees { Agrees self.new (D.properties device.new) (D.objects device.new) }
         ensures total { total self.new ≡ total self.old }
     {
@@ -165,7 +165,7 @@ impl<M: MemoryObject, A: Allocator> GpuAllocator<M, A> {
         requires known { memory_type < length (self.old.properties).memory_types }
         requires agrees { Agrees self.old (D.properties device.old) (D.objects device.old) }
         ensures gives { (gone : List ℕ) × (es : List Event) × Chain D.step device.old es device.new
-            × LetsFitsGo self.old memory_type gone es self.new (D.objects device.old) (D.objects device.new) }
+            × ReleasesFitChunks self.old memory_type gone es self.new (D.objects device.old) (D.objects device.new) }
         ensures agrees { Agrees self.new (D.properties device.new) (D.objects device.new) }
         ensures total { total self.new ≡ total self.old }
     {
@@ -182,7 +182,7 @@ impl<M: MemoryObject, A: Allocator> GpuAllocator<M, A> {
         requires known { memory_type < length (self.old.properties).memory_types }
         requires agrees { Agrees self.old (D.properties device.old) (D.objects device.old) }
         ensures gives { (gone : List ℕ) × (es : List Event) × Chain D.step device.old es device.new
-            × LetsChunksGo self.old memory_type false gone es self.new (D.objects device.old) (D.objects device.new) }
+            × ReleasesChunks self.old memory_type false gone es self.new (D.objects device.old) (D.objects device.new) }
         ensures agrees { Agrees self.new (D.properties device.new) (D.objects device.new) }
         ensures total { total self.new ≡ total self.old }
     {

@@ -13,10 +13,10 @@ impl<M: MemoryObject, A: Allocator + Copy> GpuAllocator<M, A> {
     /// Whether [`alloc`](GpuAllocator::alloc) may serve a request once enough blocks are returned. Its size, in bytes,
     /// must be within the limit given to `new`, and one of its candidates must lie in a heap that is at least as large.
     ///
-    /// Where this is `false`, no return helps: `alloc` refuses the request in every state, and asks nothing. Where it
-    /// is `true`, an object of its own fits an empty heap, so a caller may free blocks and ask again. It is no promise:
-    /// the device may still refuse. A chunk for a block that shares one may be larger than its heap, above all because
-    /// of its alignment. A heap's limit doesn't count, since it may be set anew.
+    /// Where this is `false`, no return helps: `alloc` refuses the request in every state, without a call of the
+    /// device. Where it is `true`, an object of its own fits an empty heap, so a caller may free blocks and ask again.
+    /// This is not a guarantee: the device may still refuse. A chunk for a block that shares one may be larger than its
+    /// heap, above all because of its alignment. A heap's limit is not considered, since it may be changed.
     pub fn can_ever_serve(&self, request: Request) -> bool
         ensures { IsTrue result ↔ MayServe self.now request }
     {

@@ -1,5 +1,5 @@
-//! Calls of a buddy allocator, and of an allocator of fit chunks, that count nothing: each begins ledgers of counts
-//! that nobody reads.
+//! Calls of a buddy allocator and of an allocator of fit chunks, without step counts: each makes counters and drops
+//! them.
 
 ghost use Rattle.std.specs.Prelude.{◌≡◌, ℕ, ◌≤◌, ◌<◌, ◌↔◌, ◌^◌, IfOk, OnErr, IsTrue};
 ghost use Rattle.gpu_alloc_types.specs.Flags.{allocation_bits, has_bit, with_device_address};
@@ -160,7 +160,7 @@ pub(super) fn alloc_fit<M: MemoryObject, A: Allocator, D: ObjectDevice<M>, L: Le
     ensures granted { IfOk result (fit.IsGranted fits.old (requested size align_mask flags) fits.new) }
     ensures refused { OnErr result
         ((fits.new ≡ fits.old) × ((heap.new ≡ heap.old) × (allocations_remains.new ≡ allocations_remains.old))) }
-    ensures sound { fit_sound.IsSoundFitting fits.new }
+    ensures sound { fit_sound.IsSoundFit fits.new }
 {
     let mut looks = Steps::<L>::new(blank);
     fits.alloc(
@@ -197,7 +197,7 @@ pub(super) fn dealloc_fit<M: MemoryObject, A: Allocator, D: ObjectDevice<M>, L: 
     ensures objects { (slot : LiveSlot) → IsLiveFitSpan (fits.old).space (M.object memory) offset size slot
         → fit.ObjectsFreed fits.old slot (D.objects device.old) (D.objects device.new) }
     ensures properties { D.properties device.new ≡ D.properties device.old }
-    ensures sound { fit_sound.IsSoundFitting fits.new }
+    ensures sound { fit_sound.IsSoundFit fits.new }
 {
     let mut looks = Steps::<L>::new(blank);
     fits.dealloc_span(

@@ -1,4 +1,4 @@
--- Chunks by key and rows as a part, as one comes or goes.
+-- Chunks by key and rows as a part, as one is added or removed.
 use Rattle.std.proofs.Common.{◌≡◌, ◌≢◌, inl, inr, ℕ, IsTrue, Some, None, refl, sym, ◌∙◌, ap, subst}
 use Rattle.std.proofs.lemmas.Bool.{cases_eq}
 use Rattle.std.specs.Cmp.{IsTotalOrder, nat_cmp_total}
@@ -85,7 +85,7 @@ module _ (g : ℕ → Chunk → HeldObject) (m : Chunks) (named : HaveOwnObjects
   name_comes k c none fresh =
       named_more nat_cmp_total nat_cmp-IsAntisymmetric (λ (e : Entry). e.1.object) (λ e. g e.0 e.1) (finite.entries m) (finite.entries (finite.insert m k c)) (k, c) (once_of (finite.insert m k c) (named_after m k c named fresh)) (entries_more m k c none)
 
-  -- and goes
+  -- and is removed
   pub name_goes : (k : ℕ) (c : Chunk) → finite.get m k ≡ Some c → by_name g (finite.remove m k) ≡ finite.remove (by_name g m) c.object
   name_goes k c is =
       named_less nat_cmp_total nat_cmp-IsAntisymmetric (λ (e : Entry). e.1.object) (λ e. g e.0 e.1) (finite.entries m) (finite.entries (finite.remove m k)) (k, c) (once_of m named) (entries_less m k c is)
@@ -116,7 +116,7 @@ module _ {K : Type 0} {R : K → K → Ordering} (total : IsTotalOrder R) (exact
     ];
   })
 
-  -- and goes, where no two live rows have one span
+  -- and is removed, where no two live rows have one span
   pub span_row_goes : (k : K) → ((a b : K) → IsTrue (set.contains s a) → IsTrue (set.contains s b) → span a ≡ span b → a ≡ b) → IsTrue (set.contains s k) → by_span span (set.remove s k) ≡ set.remove (by_span span s) (span k)
   span_row_goes k once live = names_less span_total span_exact span (set.items s) (set.items (set.remove s k)) k
       (λ a b has_a has_b. once a b ((item_there total exact s a).1 has_a) ((item_there total exact s b).1 has_b)) (record {

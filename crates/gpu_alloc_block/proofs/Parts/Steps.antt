@@ -115,7 +115,7 @@ module _ (IsPlace : ℕ → HeldObject → Type 0) (ps : List Part) (apart : Are
       live_is = live_put ps i p new at span (alone_live i span (alone_new i span.object none)) live;
     }
 
-    -- a span goes
+    -- a span is removed
     pub span_goes : (span : Span) (h : HeldObject) → Holds p span.object h → new.held ≡ p.held → new.live ≡ set_of.remove p.live span
         → Makes IsPlace (set ps i new) (held_in_parts ps) (set_of.remove (live_in_parts ps) span)
     span_goes span h has held live = record {

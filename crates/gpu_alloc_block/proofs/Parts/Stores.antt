@@ -1,4 +1,4 @@
--- A store of chunks by keys and of blocks as rows, as one part of several, as a block or a chunk comes or goes.
+-- A store of chunks by keys and of blocks as rows, as one part of several, as a block or a chunk is added or removed.
 use Rattle.std.proofs.Common.{◌≡◌, ◌≢◌, ℕ, List, IsTrue, Some, None, sym, ◌∙◌, ap}
 use Rattle.std.proofs.Math.ListN.{set}
 use Rattle.std.specs.Cmp.{IsTotalOrder}

@@ -201,7 +201,7 @@ module _ (ps : List Part) (i : ℕ) (p new : Part) (at : IsAt ps i p) where
       held_changed ps i p new k (Some v) at alone (λ x. ap (λ m. map.get m x) is ∙ map.get-insert nat_cmp_total p.held k v x) q
       ∙ sym (map.get-insert nat_cmp_total (held_in_parts ps) k v q))
 
-  -- and goes
+  -- and is removed
   pub held_gone : (k : ℕ) → IsAlone ps i k → new.held ≡ map.remove p.held k → held_in_parts (set ps i new) ≡ map.remove (held_in_parts ps) k
   held_gone k alone is = map.same_map nat_cmp_total nat_cmp-IsAntisymmetric _ _ (λ q.
       held_changed ps i p new k None at alone (λ x. ap (λ m. map.get m x) is ∙ map.get-remove nat_cmp_total p.held k x) q
@@ -213,7 +213,7 @@ module _ (ps : List Part) (i : ℕ) (p new : Part) (at : IsAt ps i p) where
       live_changed ps i p new k true at alone (λ x. ap (λ m. set_of.contains m x) is ∙ set_of.contains-insert span_total p.live k x ∙ as_cond (eq_by_cmp span_cmp x k) (set_of.contains p.live x)) q
       ∙ sym (set_of.contains-insert span_total (live_in_parts ps) k q ∙ as_cond (eq_by_cmp span_cmp q k) (set_of.contains (live_in_parts ps) q)))
 
-  -- and goes
+  -- and is removed
   pub live_gone : (k : Span) → IsAloneLive ps i k → new.live ≡ set_of.remove p.live k → live_in_parts (set ps i new) ≡ set_of.remove (live_in_parts ps) k
   live_gone k alone is = set_of.same_set span_total span_exact _ _ (λ q.
       live_changed ps i p new k false at alone (λ x. ap (λ m. set_of.contains m x) is ∙ set_of.contains-remove span_total p.live k x ∙ as_cond_not (eq_by_cmp span_cmp x k) (set_of.contains p.live x)) q

@@ -34,7 +34,7 @@ use std::sync::ledger::Ledger;
 /// Chunks of memory, the free runs in them, and the blocks that are live. It cannot be dropped:
 /// [`close`](FreeList::close) ends it.
 ///
-/// Chunks are numbered from 1 on, and no number comes twice. Between calls the regions are exactly the free runs: the
+/// Chunks are numbered from 1 on, and no number is used twice. Between calls the regions are exactly the free runs: the
 /// longest ranges of bytes that lie in a chunk and in no live block.
 pub struct FreeList<M: MemoryObject, A: Allocator = Global> {
     chunks: Chunks<M, A>,
@@ -295,7 +295,7 @@ impl<M: MemoryObject, A: Allocator> FreeList<M, A> {
     /// its number, or `None` where there is no such chunk. With `keep_last` the chunk with the last run is passed over.
     /// It allocates nothing, and room that was made stays.
     ///
-    /// The same blocks are live (`live`). Each chunk that goes leaves one fewer (`fewer`), so a loop until `None` ends.
+    /// The same blocks are live (`live`). Each chunk taken out leaves one fewer (`fewer`), so a loop until `None` ends.
     /// `None` without `keep_last`, while no block is live, means that no chunk is held (`rest`): then
     /// [`close`](FreeList::close) may be called without a test.
     #[inline(always)]

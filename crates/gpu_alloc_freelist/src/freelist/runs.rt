@@ -156,8 +156,8 @@ impl<A: Allocator> Runs<A> {
     }
 
     /// Returns a block that has no byte in common with a run, where `reserve` made room. It is joined in place with the
-    /// run before it and the run after it where it touches them. The result says what came of it. `steps` counts the
-    /// comparisons of a run with the block: at most the number of binary digits of the number of runs.
+    /// run before it and the run after it where it touches them. Returns the run that the block is then in. `steps`
+    /// counts the comparisons of a run with the block: at most the number of binary digits of the number of runs.
     pub(super) fn put_back<M: MemoryObject, L: Ledger>(
         &mut self,
         block: &FreeListBlock<M>,
@@ -345,7 +345,7 @@ fn touches(before: FreeListRegion, after: FreeListRegion) -> bool
     before.chunk == after.chunk && before.end == after.start
 }
 
-/// Puts a joint in place of the runs that it joins, at most two: one of them becomes it, or it is inserted.
+/// Replaces the joined runs, at most two, by their union with the block. Where there are none, inserts the block.
 fn splice<A: Allocator>(regions: &mut Vec<FreeListRegion, A>, joint: Joint)
     requires within { (joint.from ≤ joint.to) × (joint.to ≤ vec_len regions.old) }
     requires two { joint.to ≤ joint.from + 2 }

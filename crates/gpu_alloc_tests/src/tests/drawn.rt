@@ -1,6 +1,6 @@
 //! Lists of calls of a store, drawn from a fixed seed. Where each block lies, what the device is asked for, what is
 //! held and what is free is compared with a plain model. What other drawn lists share stands here too: the numbers, and
-//! how often each case came.
+//! how often each case occurred.
 
 ghost use Rattle.std.specs.Prelude.{◌≤◌, ◌<◌, ◌+◌, ◌^◌, IsTrue};
 ghost use Rattle.std.specs.Int.{is_power_of_two};
@@ -76,7 +76,7 @@ pub(super) fn count(number: &mut u64) {
     *number = number.saturating_add(1);
 }
 
-/// Each of these cases must have come at least so often. The tally has a number for each.
+/// Each of these cases must have occurred at least `least` times. The tally has a number for each.
 pub(super) fn came_often(rt: &impl Abort, cases: &[&str], tally: &[u64], least: u64) {
     holds(rt, cases.len() <= tally.len(), "a case that is not counted");
     for (case, times) in cases.iter().zip(tally.iter()) {
@@ -94,7 +94,7 @@ pub(super) type Answer = (Option<AllocationError>, Result<FreeRange, AllocationE
 /// A block, or why there is none.
 pub(super) type Came<B> = Result<B, AllocationError>;
 
-/// What comes of a step of a model, which takes memory.
+/// The result of a step of a model, which takes memory.
 pub(super) type Done = Result<(), AllocError>;
 
 /// How often a device was asked for a chunk, and for how many bytes the last time. Then how many objects are held, of
@@ -182,7 +182,7 @@ pub(super) trait Store: Sized {
     fn end(self, rt: &impl Abort);
 }
 
-/// What must come of the calls of a store.
+/// The expected results of the calls of a store.
 pub(super) trait Plain {
     /// Begins a list, before which nothing is held. Returns which question for a chunk the device is to refuse, or 0.
     fn open(&mut self, chance: &mut Chance, by_atoms: bool) -> u64;
@@ -325,7 +325,7 @@ impl<S: Store> Hand<S> {
     }
 }
 
-/// Makes a drawn call, and compares what comes of it. A return takes one of the blocks in hand, if there is one.
+/// Makes a drawn call, and compares its result. A return takes one of the blocks in hand, if there is one.
 fn step<S: Store>(
     rt: &impl Abort,
     hand: &mut Hand<S>,

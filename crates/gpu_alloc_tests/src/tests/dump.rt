@@ -112,7 +112,7 @@ fn grant_of(rt: &impl Abort, desk: &Desk, key: u64) -> Grant {
     }
 }
 
-/// How many bytes were asked for of the blocks in the objects of a memory type and kind, by the desk's grants.
+/// How many bytes were requested for the blocks in the objects of a memory type and kind, by the desk's grants.
 fn asked_of(rt: &impl Abort, desk: &Desk, report: &Report, kind: &KindReport) -> u128 {
     let mut asked = 0u128;
     for object in &report.objects {

@@ -33,11 +33,11 @@ impl Model for Exact {
     ghost use Rattle.std.specs.Prelude.{◌≡◌};
     ghost use Rattle.gpu_alloc.specs.Accounts.{IsCounted, chunks_and_remaining};
     ghost use Rattle.gpu_alloc_fit.specs.Codes.{fitting_code};
-    ghost use Rattle.gpu_alloc_fit.specs.Fit.{Agrees, Fitting};
-    ghost use Rattle.gpu_alloc_fit.specs.FitSound.{IsSoundFitting};
+    ghost use Rattle.gpu_alloc_fit.specs.Fit.{Agrees, FitState};
+    ghost use Rattle.gpu_alloc_fit.specs.FitSound.{IsSoundFit};
     ghost use Rattle.gpu_sim.specs.Sim.{objects_of};
 
-    ghost Value = { Fitting };
+    ghost Value = { FitState };
 
     ghost coded = { fitting_code };
 
@@ -46,7 +46,7 @@ impl Model for Exact {
     ghost invariant = { λ c. Agrees c.allocator (c.device).properties (objects_of c.device) ×
         (IsCounted ((c.allocator).space).chunks c.heap c.remaining ×
         ((chunks_and_remaining ((c.allocator).space).chunks c.remaining ≡ 3) ×
-        (IsSoundFitting c.allocator × ((c.allocator).final_chunk ≡ 32768)))) };
+        (IsSoundFit c.allocator × ((c.allocator).final_chunk ≡ 32768)))) };
 }
 
 impl Exact {

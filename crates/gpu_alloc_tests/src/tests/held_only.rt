@@ -20,16 +20,16 @@ enum Asked {
     /// The same, and it is `TRANSIENT`.
     Brief(u32),
 
-    /// It has so many bytes.
+    /// It has this many bytes.
     Sized(u64),
 
-    /// Its memory is whole pages of that many bytes.
+    /// Its memory is whole pages of this many bytes.
     Paged(u64),
 
-    /// It would gain by an object of its own.
+    /// It would gain from an object of its own.
     Preferred,
 
-    /// It needs an object of its own, with so many bytes of these memory types.
+    /// It needs an object of its own, with this many bytes of these memory types.
     Alone(u64, u32),
 }
 
@@ -92,8 +92,8 @@ fn parts(asked: Asked) -> (Request, Option<Dedicated>, Option<u64>) {
     }
 }
 
-/// Makes each request in turn, and compares the answer, that the device was asked for nothing, and that as much is
-/// held.
+/// Makes each request in turn. Compares the answer, and checks that the device was asked for nothing and that as much
+/// is held as before.
 fn ask_in_turn(rt: &impl Abort, bench: &mut Bench, rows: &[Row]) {
     for (what, asked, wanted) in rows {
         let before = (bench.held(), bench.device.asked(Question::Allocate));

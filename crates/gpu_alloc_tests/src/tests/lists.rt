@@ -1,4 +1,4 @@
-//! What must come of the calls of an allocator of free runs, by plain lists of chunks and live blocks.
+//! The expected results of calls of an allocator of free runs, by plain lists of chunks and live blocks.
 
 ghost use Rattle.std.specs.Prelude.{◌<◌};
 
@@ -55,7 +55,7 @@ pub(super) fn runs_of(
     for block in live {
         blocks.push(*block)?;
     }
-    // The last run of a chunk ends where a block behind it would begin.
+    // The last run of a chunk ends where a block after it would begin.
     for chunk in chunks {
         blocks.push(range_of(chunk.object, chunk.end, 0))?;
     }
@@ -75,7 +75,7 @@ pub(super) fn runs_of(
     Ok(runs)
 }
 
-/// On which sides of a block there are runs: before it, and behind it.
+/// On which sides of a block there are runs: before it, and after it.
 fn sides_of(runs: &[Range], block: Range) -> (bool, bool) {
     let mut before = false;
     let mut behind = false;
@@ -173,8 +173,8 @@ impl Choice<'_> {
     }
 
     /// Whether a block may be taken from a run with room. No run of a lower class is sure to have room. One of a lower
-    /// class that has it nevertheless is left for a sure one alone, behind enough that lack it. A wholly free chunk is the
-    /// last of its class.
+    /// class that has it nevertheless is passed over only for a sure one, after enough that lack it. A wholly free
+    /// chunk is the last of its class.
     fn allows(&self, run: Range) -> bool {
         let class = class_of(length_of(&run));
         let is_whole = !is_used(run.object, self.live);
@@ -193,7 +193,7 @@ impl Choice<'_> {
         true
     }
 
-    /// Counts which of the cases of [`CHOSEN`] it is that a block is taken from a run.
+    /// Counts the cases of [`CHOSEN`] that occur when a block is taken from a run.
     fn count(&self, run: Range, tally: &mut [u64; 4]) {
         let class = class_of(length_of(&run));
         let is_whole = !is_used(run.object, self.live);
@@ -222,7 +222,7 @@ impl Choice<'_> {
     }
 }
 
-/// Where a block must lie that some run has room for, which is where it came where the rule allows that.
+/// Where a block must lie if some run has room for it: where it actually lies, if the rule allows that.
 pub(super) fn place(
     rule: Rule,
     runs: &[Range],
@@ -331,7 +331,7 @@ const CHOSEN: [&str; 4] = [
     "another run of the class of a wholly free chunk",
 ];
 
-/// What is held and live by plain lists, and what must come of a call.
+/// What is held and live by plain lists, and the expected result of a call.
 #[derive(Drop)]
 struct Lists {
     alloc: Global,
@@ -359,8 +359,8 @@ struct Lists {
     /// Which of these questions it refuses.
     refused: u64,
 
-    /// Whether each of a list's first blocks is as long as a first chunk. Then one may leave its chunk wholly free, while
-    /// another chunk has a free run as long.
+    /// Whether each of a list's first blocks is as long as a first chunk. Then one may leave its chunk wholly free,
+    /// while another chunk has a free run as long.
     begins_long: bool,
 
     tally: Tally,
@@ -439,7 +439,7 @@ impl Lists {
     }
 
     /// Releases each wholly free chunk, except the one of this number. Returns how many were released.
-    fn let_go(&mut self, kept: u64) -> Result<u64, AllocError> {
+    fn release(&mut self, kept: u64) -> Result<u64, AllocError> {
         let mut left = Vec::new(self.alloc);
         let mut gone = 0;
         for chunk in &self.chunks {
@@ -533,13 +533,13 @@ impl Plain for Lists {
         self.find_runs()?;
         let (runs, live) = (self.runs.as_slice(), self.live.as_slice());
         let kept = kept_after(self.rule, runs, live, block.object);
-        let gone = self.let_go(kept)?;
+        let gone = self.release(kept)?;
         self.tally[11] = self.tally[11].saturating_add(gone);
         Ok(())
     }
 
     fn clean(&mut self) -> Done {
-        let gone = self.let_go(0)?;
+        let gone = self.release(0)?;
         self.tally[12] = self.tally[12].saturating_add(gone);
         Ok(())
     }

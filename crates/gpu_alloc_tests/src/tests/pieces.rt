@@ -1,4 +1,5 @@
-//! Drawn lists of calls of the buddy allocator: what must come of them by plain lists of free pieces and live blocks.
+//! Drawn lists of calls of the buddy allocator, and their expected results by plain lists of free pieces and live
+//! blocks.
 
 ghost use Rattle.std.specs.Prelude.{◌<◌};
 ghost use Rattle.gpu_alloc.specs.AlignMasks.{IsAlignMask};
@@ -69,7 +70,7 @@ pub(super) fn pieces_of(
     Ok(free)
 }
 
-/// The front of a shortest piece with room for this many bytes: of that where the block came, if it is as short.
+/// The front of a shortest piece with room for this many bytes: of the one where the block lies, if it is as short.
 pub(super) fn front_of_shortest(pieces: &[Piece], size: u64, came: Option<Piece>) -> Option<Piece> {
     let mut shortest = u64::MAX;
     let mut front = None;

@@ -28,11 +28,11 @@ impl Model for Listed {
     ghost use Rattle.gpu_alloc.specs.Codes.{listing_code};
     ghost use Rattle.gpu_alloc.specs.Accounts.{IsCounted, chunks_and_remaining};
     ghost use Rattle.gpu_alloc.specs.FreeListAllocator.{Agrees};
-    ghost use Rattle.gpu_alloc.specs.FreeListSound.{IsSoundListing};
-    ghost use Rattle.gpu_alloc.specs.FreeListState.{Listing};
+    ghost use Rattle.gpu_alloc.specs.FreeListSound.{IsSoundFreeList};
+    ghost use Rattle.gpu_alloc.specs.FreeListState.{FreeListState};
     ghost use Rattle.gpu_sim.specs.Sim.{objects_of};
 
-    ghost Value = { Listing };
+    ghost Value = { FreeListState };
 
     ghost coded = { listing_code };
 
@@ -41,7 +41,7 @@ impl Model for Listed {
     ghost invariant = { λ c. Agrees c.allocator (c.device).properties (objects_of c.device) ×
         (IsCounted ((c.allocator).space).chunks c.heap c.remaining ×
         ((chunks_and_remaining ((c.allocator).space).chunks c.remaining ≡ 3) ×
-        (IsSoundListing c.allocator × ((c.allocator).final_chunk ≡ 32768)))) };
+        (IsSoundFreeList c.allocator × ((c.allocator).final_chunk ≡ 32768)))) };
 }
 
 impl Store for Listed {

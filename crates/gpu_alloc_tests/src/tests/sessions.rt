@@ -1,7 +1,7 @@
-//! Sessions whose allocators share chunks in either way, over lists of commands drawn from a fixed seed. A block of a fit
-//! chunk must be exactly as long as requested, in whole grains, in a gap with room. One of a buddy chunk must be the
-//! front of a shortest free piece with room. What is answered, held, free and reported is compared with plain lists of
-//! objects and live blocks, and so is how often the device was asked in the end.
+//! Sessions whose allocators share chunks in either way, over lists of commands drawn from a fixed seed. A block of a
+//! fit chunk must be exactly as long as requested, in whole grains, in a gap with room. One of a buddy chunk must be
+//! the front of a shortest free piece with room. What is answered, held, free and reported is compared with plain lists
+//! of objects and live blocks, and so is how often the device was asked in the end.
 
 mod model;
 
@@ -170,7 +170,7 @@ fn refuse(rt: &impl Abort, device: &mut Sim, refused: [u64; 3])
     same(rt, "a plan", &third, &Ok(()));
 }
 
-/// What came of a request.
+/// The result of a request.
 fn came_of(rt: &impl Abort, replies: &[Reply]) -> Came {
     match replies.first() {
         Some(
@@ -251,7 +251,7 @@ fn compare_report(
     Ok(())
 }
 
-/// Runs a drawn command, and compares what comes of it: asks for a block under a name, returns a block, if one is live,
+/// Runs a drawn command, and compares its result: asks for a block under a name, returns a block, if one is live,
 /// or cleans up.
 fn step(
     rt: &impl Abort,
@@ -345,7 +345,7 @@ fn try_list(
 }
 
 /// If not, blocks would share bytes or be longer than requested, a device would be asked for chunks that nobody needs,
-/// or a chunk would be kept for ever.
+/// or a chunk would never be released.
 #[test]
 fn drawn_sessions_share_chunks(rt: HostRuntime) -> Result<(), Fail> {
     let mut chance = Chance { state: 41 };

@@ -174,7 +174,7 @@ enum Act {
     /// follows shows that.
     Fresh(&'static str, Plan),
 
-    /// The same of a coherent object, for which nothing is refused.
+    /// As above, for a coherent object, for which nothing is refused.
     Coherent(&'static str),
 
     /// The host writes bytes there.

@@ -1,4 +1,4 @@
-//! Values under keys that are given once: each call succeeds with ample memory, and places are used again.
+//! Values under keys that are never reused: each call succeeds with ample memory, and places are used again.
 
 use super::same::same;
 use gpu_slots::SlotMap;
@@ -37,7 +37,7 @@ fn replace(rt: &impl Abort, slots: &mut SlotMap<u32>) {
     same(rt, "what is taken", &slots.remove(second), &Some(9));
 }
 
-/// A key that was removed finds nothing for ever after, though its place is used again. If not, a caller with an old
+/// A key that was removed never finds anything again, though its place is used again. If not, a caller with an old
 /// key would get another's value.
 #[test]
 fn a_place_is_used_again_under_another_key(rt: HostRuntime) -> Result<(), Fail> {

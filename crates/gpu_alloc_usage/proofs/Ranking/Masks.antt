@@ -69,7 +69,7 @@ none_at_first bits t (inr c) = c
 pub with_bits_IsMaskOf : (bits : List ℕ) → IsMaskOf (with_bits 0 bits) bits
 with_bits_IsMaskOf bits t = (λ e. none_at_first bits t (set_is_there 0 bits t e), there_is_set 0 bits t)
 
--- a bit behind the others
+-- a bit after the others
 pub with_bits-more : (mask : ℕ) (bits : List ℕ) (bit : ℕ) → with_bits mask (bits ++ bit ∷ []) ≡ bit_or (with_bits mask bits) (2 ^ bit)
 unfolding with_bits
 with_bits-more mask [] bit = refl

@@ -31,7 +31,7 @@ join_front : (t : ℕ) (xs : List ℕ) (x : ℕ) → (t ≡ x) ⊎ Contains xs x
 join_front t xs x (inl same) = Contains-append_left (t ∷ []) xs x (0, omega arith, same)
 join_front t xs x (inr later) = Contains-append_right (t ∷ []) xs x later
 
--- One list behind another.
+-- One list after another.
 
 pub IsRising-append : (k : ℕ → ℕ) (xs ys : List ℕ) → IsRising k xs → IsRising k ys → ((x y : ℕ) → Contains xs x → Contains ys y → Before k x y) → IsRising k (xs ++ ys)
 IsRising-append k xs ys rx ry across a b less inside =

@@ -9,7 +9,7 @@ ghost use Rattle.gpu_alloc_usage.specs.Ranking.{IsMaskOf};
 
 use gpu_alloc_types::{MemoryPropertyFlags, MemoryType, UsageFlags};
 
-/// More than any key of a type.
+/// Greater than any type's key.
 const KEYS: u8 = 16;
 
 /// The memory types of one usage, by index, the best first, at most 32; and the mask with exactly their bits.

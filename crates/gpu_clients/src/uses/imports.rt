@@ -117,7 +117,7 @@ pub fn import_of_others<M: MemoryObject, D: MemoryDevice<M>>(
 }
 
 /// Releases an object that an allocator does not hold.
-fn let_go<M: MemoryObject, D: MemoryDevice<M>>(
+fn release<M: MemoryObject, D: MemoryDevice<M>>(
     allocator: &GpuAllocator<M>,
     device: &mut D,
     first: &MemoryBlock<M>,
@@ -172,7 +172,7 @@ fn import_new<M: MemoryObject, D: MemoryDevice<M>>(
     match import_whole(allocator, device, memory, memory_type, props, size) {
         Ok(block) => Some(block),
         Err(memory) => {
-            let_go(allocator, device, first, memory, memory_type, size);
+            release(allocator, device, first, memory, memory_type, size);
             None
         }
     }

@@ -137,8 +137,9 @@ impl<M: MemoryObject, D: ObjectDevice<M>, A: Allocator + Copy> TextureCache<M, D
         self.textures.get(&key)
     }
 
-    /// Ensures that a key has a texture: the one that it has, or a new one that is granted as requested (`loaded`). As
-    /// long as the new one is refused, the oldest texture is evicted. A request that can never be served evicts nothing.
+    /// Makes sure that a key has a texture: the one that it has, or a new one that is granted as requested (`loaded`).
+    /// As long as the new one is refused, the oldest texture is evicted. A request that can never be served evicts
+    /// nothing.
     ///
     /// The request must be askable (`Request::is_askable`). The errors are those of [`GpuAllocator::alloc`], and
     /// `OutOfDeviceMemory` for a request that can never be served.
@@ -223,7 +224,7 @@ impl<M: MemoryObject, D: ObjectDevice<M>, A: Allocator + Copy> TextureCache<M, D
         }
     }
 
-    /// Frees every texture, and then returns the device, which holds nothing of the cache's any more.
+    /// Frees every texture, and then returns the device, which no longer holds anything of the cache's.
     #[tactic(auto, using(gpu_alloc::proofs::UnderKeys::goes))]
     pub fn end(self) -> D
         ensures beside { (name : ℕ) → D.objects result name ≡ outside self.allocator (D.objects self.device) name }

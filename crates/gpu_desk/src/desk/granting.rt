@@ -323,7 +323,7 @@ impl Desk {
     }
 
     /// Frees a block, mapped or not, as `GpuAllocator::dealloc` does. The names of the objects that are released with
-    /// it are read by [`next_gone`](Desk::next_gone). The key stays invalid for ever. It allocates nothing.
+    /// it are read by [`next_gone`](Desk::next_gone). The key is never valid again. It allocates nothing.
     ///
     /// It denies a key that has no live block with `Fault::UnknownName`. Nothing has changed then.
     pub fn free(&mut self, key: u64) -> Result<(), Denial>

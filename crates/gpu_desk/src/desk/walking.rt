@@ -31,12 +31,12 @@ impl Desk {
         self.tags[place_of(key)]
     }
 
-    /// The live block whose key has the first place after that of `after`, or `None` where there is no more. The place
-    /// of a key is its lower 32 bits, and only that of `after` counts: its block may be live or freed. 0 begins at the
-    /// first place.
+    /// The live block whose key has the first place after that of `after`, or `None` where no such block is live. The
+    /// place of a key is its lower 32 bits, and only that of `after` counts: its block may be live or freed. 0 begins
+    /// at the first place.
     ///
     /// A walk begins with 0 and goes on with the key of each grant, until `None`. It meets each block that lives all
-    /// along exactly once, whatever calls are made between
+    /// along exactly once, whatever calls are made in between
     /// ([`a_walk_meets_each_block_once`](crate::laws::a_walk_meets_each_block_once)).
     pub fn block_after(&self, after: u64) -> Option<Grant>
         ensures told { IfSome result (λ grant. Told self.now grant.key grant) }

@@ -2,7 +2,7 @@ use Rattle.std.proofs.Common.{[], ◌∷◌, Err, refl, ◌∙◌}
 use Rattle.gpu_alloc_types.specs.Flags.{allocation_bits}
 use Rattle.gpu_alloc_types.specs.Device.Event.{Allocated}
 use Rattle.gpu_alloc_base.specs.NewChunk.{ChunkQuestion, chunk_question, unmapped}
-use Rattle.gpu_alloc_base.proofs.NewChunks.{may_map, mapped_after, still_there, let_go, refused_question, refused_mapping}
+use Rattle.gpu_alloc_base.proofs.NewChunks.{may_map, mapped_after, still_there, release, refused_question, refused_mapping}
 use Rattle.gpu_alloc_base.proofs.new_chunk.new_chunk.Goals as goal
 
 pub returns-in-Err-clause-asks : goal.returns-in-Err-clause-asks
@@ -50,5 +50,5 @@ returns-in-Err-map_memory-clause-objects g c =
     let row = g.met.D.ObjectDevice.row _ _ _ c.in-Ok.ensures in
     let kept = g.met.D.ObjectDevice.row _ _ _ c.in-Err-map_memory.ensures in
     let gone = g.met.D.ObjectDevice.row _ _ _ c.deallocate_memory.ensures in
-    let_go q (g.D.ObjectDevice.objects c.args.device.now) (g.D.ObjectDevice.objects c.allocate_memory.new.self) (allocation_bits c.args.flags) (g.M.MemoryObject.object c.in-Ok.memory) (g.D.ObjectDevice.properties c.args.device.now)
+    release q (g.D.ObjectDevice.objects c.args.device.now) (g.D.ObjectDevice.objects c.allocate_memory.new.self) (allocation_bits c.args.flags) (g.M.MemoryObject.object c.in-Ok.memory) (g.D.ObjectDevice.properties c.args.device.now)
     (g.D.ObjectDevice.objects c.map_memory.new.self) (g.D.ObjectDevice.objects c.deallocate_memory.new.self) row kept gone

@@ -60,7 +60,7 @@ returns-then-class-sure-clause-looks g c = (c.loop-passed.passed + 1, (omega (ar
 pub returns-then-class-sure-clause-some : goal.returns-then-class-sure-clause-some
 returns-then-class-sure-clause-some g c is = omega (arith, c.look.ensures.counted, c.loop-passed.invariant.0)
 
--- So many are passed.
+-- That many are passed.
 
 pub look-requires-then-first : goal.look-requires-then-first
 look-requires-then-first g c =

@@ -6,7 +6,7 @@ use Rattle.gpu_alloc_fits.specs.Tiles.{HasRoomAt, tile_in}
 use Rattle.gpu_alloc_fits.proofs.Walks.{IsSearch}
 use Rattle.gpu_alloc_fits.proofs.search.find_place.Given as goal
 
--- so many tiles are looked at and passed, more than a few only where no class that is sure has one
+-- that many tiles are looked at and passed, more than a few only where no class that is sure has one
 abbrev pub invariant-loop-passed : goal.invariant-loop-passed
 invariant-loop-passed g l =
     (l.looks ≡ l.fn.looks + l.passed)

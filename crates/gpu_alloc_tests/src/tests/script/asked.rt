@@ -105,7 +105,7 @@ map 2 0 1 = mapped 0 1 = 2 4 0 0 at 2 0 8192
 write 3 0 02 = ok = 2 4 0 0 at 2 0 8192
 read 3 0 1 = bytes 02 = 2 4 0 0 at 2 0 8192
 ",
-    // What the host does not see is refused unasked.
+    // What the host does not see is refused, and the device is not asked.
     "\
 heap 1048576
 type 0 1
@@ -117,7 +117,7 @@ unmap 1 = unmapped no = 1 0 0 0
 ",
 ];
 
-/// What the device was asked, as it stands behind a reply.
+/// What the device was asked, as it stands after a reply.
 fn asked_of(alloc: Global, device: &Sim) -> Result<String, AllocError> {
     let mut text = String::from_str(alloc, " =")?;
     for kind in [Allocate, Map, Flush, Invalidate] {
@@ -147,7 +147,7 @@ fn last_of(rt: &impl Abort, alloc: Global, text: &str) -> Result<String, Fail> {
     Ok(line)
 }
 
-/// Runs a script as far as each of its commands, and compares what comes of the last one.
+/// Runs a script as far as each of its commands, and compares the result of the last one.
 fn compare_each(rt: &impl Abort, alloc: Global, row: &str) -> Result<(), Fail> {
     let mut script = String::new(alloc);
     for line in row.lines() {

@@ -60,7 +60,7 @@ struct Held {
     range: Range,
 }
 
-/// What comes of a request: a memory type and a range of it, or a refusal.
+/// The result of a request: a memory type and a range of it, or a refusal.
 pub(super) type Came = Result<(u32, Range), AllocationError>;
 
 /// Why a memory type is passed over, and in the end the refusal where each is.
@@ -174,8 +174,8 @@ impl Model {
         }
     }
 
-    /// How a memory type serves a request by its size and its usage: from any chunk of a free list or of buddies, or from
-    /// a fit chunk what the first one has room for.
+    /// How a memory type serves a request by its size and its usage: from any chunk of a free list or of buddies, or
+    /// from a fit chunk what the first one has room for.
     fn unhinted(&self, ask: &Ask, memory_type: u32) -> Way {
         let heap = heap_of(memory_type).1 / 32;
         let (least, way) = if ask.is_brief() {
@@ -224,8 +224,8 @@ impl Model {
         Ok(gaps)
     }
 
-    /// What must come of a request, which is what came where that is one of the places that may be. What is asked of
-    /// the device for it is counted, and what is made is held.
+    /// The expected result of a request: the actual one, if that is one of the permitted places. The questions to the
+    /// device for it are counted, and what is made is held.
     fn decide(&mut self, ask: &Ask, came: Came) -> Result<Came, AllocError> {
         if ask.hint == Some(Dedicated::Required) && self.counts().0 == 0 {
             count(&mut self.tally[9]);
@@ -375,7 +375,7 @@ impl Model {
         }
     }
 
-    /// Takes in what came of a request, which must be right. A block is then live.
+    /// Takes in the result of a request, which must be right. A block is then live.
     pub(super) fn take(&mut self, rt: &impl Abort, name: u32, ask: &Ask, came: Came) -> Done {
         let wanted = self.decide(ask, came)?;
         same_at(rt, "what comes of", ask, &came, &wanted);
@@ -406,11 +406,11 @@ impl Model {
                 block.object,
             ),
         };
-        self.let_go(held.memory_type, held.way, kept)
+        self.release(held.memory_type, held.way, kept)
     }
 
     /// Releases each object of a memory type and a kind in which nothing is live, except this one.
-    fn let_go(&mut self, memory_type: u32, way: Way, kept: u64) -> Done {
+    fn release(&mut self, memory_type: u32, way: Way, kept: u64) -> Done {
         let mut left = Vec::new(self.alloc);
         for held in &self.held {
             let is_such = held.memory_type == memory_type && held.way == way;
@@ -426,8 +426,8 @@ impl Model {
     /// Releases each chunk in which nothing is live.
     pub(super) fn clean(&mut self) -> Done {
         for memory_type in 0..4 {
-            self.let_go(memory_type, self.shared, 0)?;
-            self.let_go(memory_type, Way::List, 0)?;
+            self.release(memory_type, self.shared, 0)?;
+            self.release(memory_type, Way::List, 0)?;
         }
         Ok(())
     }

@@ -1,11 +1,11 @@
--- Where the room is full, all of it is told.
+-- Where the room is full, all of it is written.
 use Rattle.std.proofs.Common.{◌≡◌, ◌≤◌, ℕ, List, length, take, arith, sym, ◌∙◌, subst}
 use Rattle.std.proofs.lemmas.List.{take_all}
 use Rattle.wallthyme.specs.Candidates.{AreListed}
 use Rattle.wallthyme.proofs.Rest.{nothing_behind}
 use Rattle.wallthyme.proofs.candidates.tell_types.Goals as goal
 
--- what is told of as many as there is room for
+-- what is written of as many as there is room for
 told_in_full : (found told : List ℕ) → length told ≤ length found
     → take (length told) told ≡ take (length told) found → AreListed found told
 told_in_full found told fits each =

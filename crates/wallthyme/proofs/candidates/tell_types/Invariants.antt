@@ -1,4 +1,4 @@
--- The memory types before the index are told. The others stay as they were.
+-- The memory types before the index are written. The others stay as they were.
 use Rattle.std.proofs.Common.{◌≡◌, ◌≤◌, drop, length, take}
 use Rattle.wallthyme.proofs.candidates.tell_types.Given as goal
 

@@ -1,4 +1,4 @@
--- Where the room is full, all of it is told.
+-- Where the room is full, all of it is written.
 use Rattle.std.proofs.Common.{◌≡◌, ◌≤◌, ℕ, List, length, take, arith, sym, ◌∙◌, subst}
 use Rattle.std.proofs.lemmas.List.{take-map, take_all}
 use Rattle.std.specs.Prelude.{map}
@@ -9,7 +9,7 @@ use Rattle.wallthyme.specs.declared.layout.Range.{Range}
 use Rattle.wallthyme.proofs.Rest.{nothing_behind}
 use Rattle.wallthyme.proofs.objects.tell.Goals as goal
 
--- what is told of as many as there is room for
+-- what is written of as many as there is room for
 told_in_full : (found : List FreeRange) (told : List Range) → length told ≤ length found
     → take (length told) told ≡ map free_range_of (take (length told) found) → AreRangesTold found told
 told_in_full found told fits each =

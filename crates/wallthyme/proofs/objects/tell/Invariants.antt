@@ -1,4 +1,4 @@
--- The ranges before the index are told. The others stay as they were.
+-- The ranges before the index are written. The others stay as they were.
 use Rattle.std.proofs.Common.{◌≡◌, ◌≤◌, drop, length, take}
 use Rattle.std.specs.Prelude.{map}
 use Rattle.wallthyme.specs.Layout.{free_range_of}

@@ -1,8 +1,8 @@
--- One more block is told.
+-- One more block is written.
 use Rattle.std.proofs.Common.{◌≡◌, ◌<◌, length, arith, ap, sym, subst, ◌∙◌}
 use Rattle.gpu_desk.specs.Calls.{Told}
 use Rattle.gpu_desk.specs.Walk.{IsNext}
-use Rattle.gpu_desk.specs.declared.told.Grant.{Grant}
+use Rattle.gpu_desk.specs.declared.answers.Grant.{Grant}
 use Rattle.wallthyme.specs.Walk.{IsNextBlock}
 use Rattle.wallthyme.proofs.Rest.{rest_stays}
 use Rattle.wallthyme.proofs.Walks.{one_more_behind, one_more_next}

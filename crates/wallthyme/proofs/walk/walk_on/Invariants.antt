@@ -1,4 +1,4 @@
--- The blocks before the index are told, and the walk goes on behind the last of them. The others stay as they were.
+-- The blocks before the index are written, and the walk goes on after the last of them. The others stay as they were.
 use Rattle.std.proofs.Common.{◌≡◌, drop, take}
 use Rattle.wallthyme.specs.Walk.{AreNext, key_behind}
 use Rattle.wallthyme.proofs.walk.walk_on.Given as goal

@@ -1,6 +1,6 @@
 use Rattle.std.proofs.Common.{false}
 use Rattle.gpu_alloc_base.specs.Accounts.{account}
-use Rattle.gpu_alloc.proofs.FreeLists.Going.{Handed, IsLeft, agrees_before, counted_first, let_go_left, handed, unchanged, unchanged_list}
+use Rattle.gpu_alloc.proofs.FreeLists.Going.{Handed, IsLeft, agrees_before, counted_first, release_left, handed, unchanged, unchanged_list}
 use Rattle.gpu_alloc.proofs.allocator.GpuAllocator.clean_list.Given.{Over}
 use Rattle.gpu_alloc.proofs.allocator.GpuAllocator.clean_list.Goals as goal
 
@@ -25,7 +25,7 @@ left : (g : Over) (c : goal.After-self-2-1 g) → IsLeft (given g c) false c.arg
     (g.D.ObjectDevice.properties c.args.device.now) (g.D.ObjectDevice.objects c.args.device.now) (g.D.ObjectDevice.objects c.cleanup.new.device)
 left g c =
     let agrees = rw (← c.self.view_is) at c.requires.agrees in
-    rw (← c.self.view_is) (let_go_left (given g c) (account c.index_mut.result.now c.index_mut-2.result.now c.self.inside.allocations_remains) c.cleanup.ensures.gives.1.2 (unchanged (given g c) (unchanged_list (given g c))) agrees)
+    rw (← c.self.view_is) (release_left (given g c) (account c.index_mut.result.now c.index_mut-2.result.now c.self.inside.allocations_remains) c.cleanup.ensures.gives.1.2 (unchanged (given g c) (unchanged_list (given g c))) agrees)
 
 pub invariant_of-self : goal.invariant_of-self
 invariant_of-self g c = (left g c).0

@@ -1,6 +1,6 @@
 use Rattle.std.proofs.Common.{◌≡◌, length, ◌++◌, ◌∙◌, ap, arith}
 use Rattle.gpu_alloc_types.specs.Chains.{chain_append}
-use Rattle.gpu_alloc.specs.Release.{AreAllGone}
+use Rattle.gpu_alloc.specs.Release.{AreAllReleased}
 use Rattle.gpu_alloc.proofs.Linked.{consistent}
 use Rattle.gpu_alloc.proofs.Agreed.{chain_keeps}
 use Rattle.gpu_alloc.proofs.BlocksAgreed.{cleanup_keeps_blocks}
@@ -26,7 +26,7 @@ loop-memory_type-preserved g c =
     )
 
 -- At the end all of all memory types went that may go.
-all_went : (g : Over) (c : goal.After-keeps_sound g) → AreAllGone c.args.self.now (length c.args.self.now.properties.memory_types) c.loop-memory_type.invariant.0
+all_went : (g : Over) (c : goal.After-keeps_sound g) → AreAllReleased c.args.self.now (length c.args.self.now.properties.memory_types) c.loop-memory_type.invariant.0
 all_went g c =
     let last : c.loop-memory_type.memory_type ≡ length c.self.inside.limits.memory_types.items =
     omega (arith, c.loop-memory_type.auto.memory_type-end, c.loop-memory_type-test.false, c.len-count.ensures, c.self.inside.limits.memory_types.ok) in

@@ -10,13 +10,13 @@ pub returns-in-Dedicated-clause-agrees : goal.returns-in-Dedicated-clause-agrees
 returns-in-Dedicated-clause-agrees g c = c.put_back_object.ensures.agrees
 
 pub returns-in-BuddyChunk-clause-freed : goal.returns-in-BuddyChunk-clause-freed
-returns-in-BuddyChunk-clause-freed g c = c.put_back_in_chunk.ensures.freed
+returns-in-BuddyChunk-clause-freed g c = c.put_back_in_buddy.ensures.freed
 
 pub returns-in-BuddyChunk-clause-objects : goal.returns-in-BuddyChunk-clause-objects
-returns-in-BuddyChunk-clause-objects g c = c.put_back_in_chunk.ensures.objects
+returns-in-BuddyChunk-clause-objects g c = c.put_back_in_buddy.ensures.objects
 
 pub returns-in-BuddyChunk-clause-agrees : goal.returns-in-BuddyChunk-clause-agrees
-returns-in-BuddyChunk-clause-agrees g c = c.put_back_in_chunk.ensures.agrees
+returns-in-BuddyChunk-clause-agrees g c = c.put_back_in_buddy.ensures.agrees
 
 pub returns-in-FreeListChunk-clause-freed : goal.returns-in-FreeListChunk-clause-freed
 returns-in-FreeListChunk-clause-freed g c = c.put_back_in_list.ensures.freed

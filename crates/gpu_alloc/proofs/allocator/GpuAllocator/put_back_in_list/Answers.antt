@@ -1,6 +1,6 @@
 use Rattle.std.proofs.Common.{◌∙◌, true}
 use Rattle.gpu_alloc_base.specs.Accounts.{account}
-use Rattle.gpu_alloc.specs.Release.{GoesWith, without_span}
+use Rattle.gpu_alloc.specs.Release.{ReleasedWith, without_span}
 use Rattle.gpu_alloc.proofs.Links.{slot_at}
 use Rattle.gpu_alloc.proofs.FreeLists.Going.{Handed, IsLeft, agrees_before, counted_first}
 use Rattle.gpu_alloc.proofs.FreeLists.Returns.{came_back, goes_with_list, handed_back, slot_live}
@@ -49,7 +49,7 @@ left g c =
 pub invariant_of-self : goal.invariant_of-self
 invariant_of-self g c = (left g c).0
 
-with_it : (g : Over) (c : goal.After-self-2-1 g) → GoesWith c.args.block.kind (without_span c.args.self.now c.args.block) c.args.block.object (left g c).1.names
+with_it : (g : Over) (c : goal.After-self-2-1 g) → ReleasedWith c.args.block.kind (without_span c.args.self.now c.args.block) c.args.block.object (left g c).1.names
 with_it g c = goes_with_list _ c.args.block c.args.number _ _ c.requires.owned c.requires.listed c.memory_type-memory_type.ensures (left g c).1.gives.chunks
 
 pub returns-clause-freed : goal.returns-clause-freed

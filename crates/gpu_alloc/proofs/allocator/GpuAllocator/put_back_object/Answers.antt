@@ -16,7 +16,7 @@ use Rattle.gpu_alloc.proofs.Consistency.{booked-gone, covers, fits_again, heap_t
 use Rattle.gpu_alloc.proofs.HeapLists.{properties_kept}
 use Rattle.gpu_alloc.proofs.Linked.{chosen_less}
 use Rattle.gpu_alloc_block.proofs.LiveSpans.{live_other}
-use Rattle.gpu_alloc.proofs.Returns.{returned, goes_with, let_go, state_returned}
+use Rattle.gpu_alloc.proofs.Returns.{returned, goes_with, release, state_returned}
 use Rattle.gpu_alloc.proofs.allocator.GpuAllocator.put_back_object.Given.{Over}
 use Rattle.gpu_alloc.proofs.allocator.GpuAllocator.put_back_object.Goals as goal
 
@@ -39,12 +39,12 @@ index_mut-requires g c =
     let n : vec_len c.self.inside.heaps ≡ length c.self.inside.heaps.items = grind (arith, common_steps) in
     omega (arith, n, c.heap_index-heap.ensures, heap_there _ _ _ _ c.self.invariant.books refl c.remove-row.result.memory_type known)
 
-pub let_go-requires-clause-counted : goal.let_go-requires-clause-counted
-let_go-requires-clause-counted g c =
+pub release-requires-clause-counted : goal.release-requires-clause-counted
+release-requires-clause-counted g c =
     omega (arith, covers _ _ _ _ c.self.invariant.books refl c.object.result (own_held c.remove-row.result) (held_whole c.self.inside.own c.self.inside.buddies.items c.self.inside.free_lists.items c.self.inside.fits.items c.self.invariant.apart c.object.result (own_held c.remove-row.result) c.remove-row.ensures.row.is_held) c.index_mut.result.now _ c.heap_index-heap.ensures c.index_mut.ensures.value)
 
-pub let_go-requires-clause-fits : goal.let_go-requires-clause-fits
-let_go-requires-clause-fits g c =
+pub release-requires-clause-fits : goal.release-requires-clause-fits
+release-requires-clause-fits g c =
     omega (arith, fits_again _ _ _ _ c.self.invariant.books refl c.object.result (own_held c.remove-row.result) (held_whole c.self.inside.own c.self.inside.buddies.items c.self.inside.free_lists.items c.self.inside.fits.items c.self.invariant.apart c.object.result (own_held c.remove-row.result) c.remove-row.ensures.row.is_held))
 
 pub invariant_of-self : goal.invariant_of-self
@@ -57,11 +57,11 @@ invariant_of-self g c =
     let span : ◌≡◌ {A = Span} (own_span c.remove-row.result) (span_of c.args.block) = sym (row.alone (span_of c.args.block) live (sym name)) in
     let went = own_goes c.self.inside.own c.self.inside.buddies.items c.self.inside.free_lists.items c.self.inside.fits.items c.self.invariant.apart c.remove-row.new.self c.remove-row.result c.object.result row c.remove-row.ensures.held c.remove-row.ensures.live in
     let now = whole c.remove-row.new.self c.self.inside.buddies.items c.self.inside.free_lists.items c.self.inside.fits.items in
-    let fewer = let_go c.self.inside.limits _ _ _ _ _ now _ c.args.block _ _ c.self.invariant.books owned c.requires.own name
+    let fewer = release c.self.inside.limits _ _ _ _ _ now _ c.args.block _ _ c.self.invariant.books owned c.requires.own name
     (held_whole c.self.inside.own c.self.inside.buddies.items c.self.inside.free_lists.items c.self.inside.fits.items c.self.invariant.apart c.object.result (own_held c.remove-row.result) row.is_held) went.held_is (went.live_is ∙ ap (set_of.remove (whole c.self.inside.own c.self.inside.buddies.items c.self.inside.free_lists.items c.self.inside.fits.items).live) span) in
-    rw (properties_kept c.self.inside.limits c.self.inside.heaps.items c.heap_index-heap.result c.let_go.new.heap c.index_mut.result.now at (ap (λ (h : Heap). h.size) c.let_go.ensures.ledger), c.let_go.ensures.count)
+    rw (properties_kept c.self.inside.limits c.self.inside.heaps.items c.heap_index-heap.result c.release.new.heap c.index_mut.result.now at (ap (λ (h : Heap). h.size) c.release.ensures.ledger), c.release.ensures.count)
     (record {
-      books = booked-gone _ _ _ _ c.self.invariant.books refl now (own_held c.remove-row.result) (span_of c.args.block) fewer.1 c.index_mut.result.now _ _ c.heap_index-heap.ensures at c.let_go.ensures.ledger;
+      books = booked-gone _ _ _ _ c.self.invariant.books refl now (own_held c.remove-row.result) (span_of c.args.block) fewer.1 c.index_mut.result.now _ _ c.heap_index-heap.ensures at c.release.ensures.ledger;
       shared = c.self.invariant.shared;
       listed = c.self.invariant.listed;
       fitted = c.self.invariant.fitted;
@@ -75,7 +75,7 @@ abbrev before : (g : Over) → goal.After-drop-memory g → State
 before g c = state_in c.self.inside.limits c.self.inside.heaps.items c.self.inside.buddies.items c.self.inside.free_lists.items c.self.inside.fits.items (whole c.self.inside.own c.self.inside.buddies.items c.self.inside.free_lists.items c.self.inside.fits.items) c.self.inside.allocations_remains
 
 left : (g : Over) (c : goal.After-drop-memory g)
-    → state_in c.self.inside.limits (set c.self.inside.heaps.items c.heap_index-heap.result c.let_go.new.heap) c.self.inside.buddies.items c.self.inside.free_lists.items c.self.inside.fits.items (whole c.remove-row.new.self c.self.inside.buddies.items c.self.inside.free_lists.items c.self.inside.fits.items) (c.self.inside.allocations_remains + 1)
+    → state_in c.self.inside.limits (set c.self.inside.heaps.items c.heap_index-heap.result c.release.new.heap) c.self.inside.buddies.items c.self.inside.free_lists.items c.self.inside.fits.items (whole c.remove-row.new.self c.self.inside.buddies.items c.self.inside.free_lists.items c.self.inside.fits.items) (c.self.inside.allocations_remains + 1)
     ≡ returned (before g c) c.args.block
 left g c =
     let owned = rw (← c.self.view_is) at c.requires.owned in
@@ -85,12 +85,12 @@ left g c =
     let span : ◌≡◌ {A = Span} (own_span c.remove-row.result) (span_of c.args.block) = sym (row.alone (span_of c.args.block) live (sym name)) in
     let went = own_goes c.self.inside.own c.self.inside.buddies.items c.self.inside.free_lists.items c.self.inside.fits.items c.self.invariant.apart c.remove-row.new.self c.remove-row.result c.object.result row c.remove-row.ensures.held c.remove-row.ensures.live in
     state_returned c.self.inside.limits _ c.self.inside.buddies.items c.self.inside.free_lists.items c.self.inside.fits.items _ _ c.index_mut.result.now (whole c.self.inside.own c.self.inside.buddies.items c.self.inside.free_lists.items c.self.inside.fits.items) (whole c.remove-row.new.self c.self.inside.buddies.items c.self.inside.free_lists.items c.self.inside.fits.items) _ c.args.block
-    c.index_mut.ensures.value (ap (λ (h : Heap). h.size) c.let_go.ensures.ledger) (ap (λ (h : Heap). h.limit) c.let_go.ensures.ledger)
+    c.index_mut.ensures.value (ap (λ (h : Heap). h.size) c.release.ensures.ledger) (ap (λ (h : Heap). h.limit) c.release.ensures.ledger)
     (went.held_is ∙ ap (finite.remove (whole c.self.inside.own c.self.inside.buddies.items c.self.inside.free_lists.items c.self.inside.fits.items).held) name) (went.live_is ∙ ap (set_of.remove (whole c.self.inside.own c.self.inside.buddies.items c.self.inside.free_lists.items c.self.inside.fits.items).live) span)
 
 pub returns-clause-freed : goal.returns-clause-freed
 returns-clause-freed g c =
-    rw (← c.self.view_is, c.let_go.ensures.count) (
+    rw (← c.self.view_is, c.release.ensures.count) (
       Deallocated c.args.block.object ∷ [],
       (c.deallocate_memory.new.self, rw (← c.into_memory-memory.ensures) c.deallocate_memory.ensures, refl),
       (c.args.block.object ∷ [], goes_with _ _ _ c.requires.own, (refl, left g c)),
@@ -106,5 +106,5 @@ returns-clause-agrees g c =
     let agreed = rw (← c.self.view_is) at c.requires.agrees in
     let gone = rw c.into_memory-memory.ensures at (g.met.D.ObjectDevice.row _ _ _ c.deallocate_memory.ensures) in
     let same = g.met.D.ObjectDevice.keeps_properties _ _ _ c.deallocate_memory.ensures in
-    rw c.let_go.ensures.count (subst (λ s. Agrees s (g.D.ObjectDevice.properties c.deallocate_memory.new.self) (g.D.ObjectDevice.objects c.deallocate_memory.new.self)) (sym (left g c))
+    rw c.release.ensures.count (subst (λ s. Agrees s (g.D.ObjectDevice.properties c.deallocate_memory.new.self) (g.D.ObjectDevice.objects c.deallocate_memory.new.self)) (sym (left g c))
     (agrees_returned _ _ _ _ _ _ c.args.block agreed same gone refl refl (λ span live. (live_other _ _ span live).1)))

@@ -7,7 +7,7 @@ use Rattle.gpu_alloc.specs.Inside.{state_in, span_of_slot}
 use Rattle.gpu_alloc_base.specs.Case.{GivesInPlace, GivesInNewObject}
 use Rattle.gpu_alloc.specs.FitSharing.{fit_block, fit_size}
 use Rattle.gpu_alloc.specs.Candidates.{fit_candidate}
-use Rattle.gpu_alloc_fit.specs.Fit.{Fitting, alignment}
+use Rattle.gpu_alloc_fit.specs.Fit.{FitState, alignment}
 use Rattle.gpu_alloc_base.specs.Wanted.{wanted}
 use Rattle.gpu_alloc_block.specs.State.{State, Block}
 use Rattle.gpu_alloc_block.specs.declared.sharing.Sharing.TheVariants.{Fit as FitsChosen}
@@ -130,7 +130,7 @@ returns-in-Err g c =
     let fits = c.self.inside.fits.items in
     let kept = same_set fits c.args.memory_type c.alloc_fit-answer.new.fits c.index_mut.result.now c.index_mut.ensures.value same.0 in
     let left = state_refused c.self.inside.limits _ _ _ _ _ _ c.args.memory_type c.index_mut.result.now (consistent _ _ _ _ _ _ _ _ _ c.self.invariant) known c.index_mut.ensures.value c.heap_index-heap.result c.index_mut-2.result.now c.heap_index-heap.ensures
-    c.index_mut-2.ensures.value _ _ _ same.0 same.1.0 same.1.1 (whole c.self.inside.own c.self.inside.buddies.items c.self.inside.free_lists.items (set fits c.args.memory_type c.alloc_fit-answer.new.fits)) (ap (λ (fs : List Fitting). (whole c.self.inside.own c.self.inside.buddies.items c.self.inside.free_lists.items fs).held) kept) (ap (λ (fs : List Fitting). (whole c.self.inside.own c.self.inside.buddies.items c.self.inside.free_lists.items fs).live) kept) in
+    c.index_mut-2.ensures.value _ _ _ same.0 same.1.0 same.1.1 (whole c.self.inside.own c.self.inside.buddies.items c.self.inside.free_lists.items (set fits c.args.memory_type c.alloc_fit-answer.new.fits)) (ap (λ (fs : List FitState). (whole c.self.inside.own c.self.inside.buddies.items c.self.inside.free_lists.items fs).held) kept) (ap (λ (fs : List FitState). (whole c.self.inside.own c.self.inside.buddies.items c.self.inside.free_lists.items fs).live) kept) in
     let s : State = state_in c.self.inside.limits c.self.inside.heaps.items c.self.inside.buddies.items c.self.inside.free_lists.items c.self.inside.fits.items (whole c.self.inside.own c.self.inside.buddies.items c.self.inside.free_lists.items c.self.inside.fits.items) c.self.inside.allocations_remains in
     rw (c.passing.ensures, ← c.self.view_is, left) (record {
       tries = (

@@ -23,7 +23,7 @@ use Rattle.gpu_alloc.proofs.FreeLists.Serving.{ServesList, told_of, rounded_is, 
 use Rattle.gpu_alloc.proofs.HeapLists.{type_heap_is}
 use Rattle.gpu_alloc.specs.Whole.{whole}
 use Rattle.gpu_alloc.proofs.Buddies.Grants.{same_set}
-use Rattle.gpu_alloc_freelist.specs.FreeListState.{Listing}
+use Rattle.gpu_alloc_freelist.specs.FreeListState.{FreeListState}
 use Rattle.gpu_alloc.proofs.Trials.{refused_tries, nothing_made}
 use Rattle.gpu_alloc.proofs.allocator.GpuAllocator.try_free_list.Given.{Over}
 use Rattle.gpu_alloc.proofs.HandedOn.{Given, given_by, below, address_there}
@@ -129,7 +129,7 @@ returns-in-Err g c =
     let lists = c.self.inside.free_lists.items in
     let kept = same_set lists c.args.memory_type c.alloc-answer.new.self c.index_mut.result.now c.index_mut.ensures.value same.0 in
     let left = state_refused c.self.inside.limits _ _ _ _ _ _ c.args.memory_type c.index_mut.result.now (consistent _ _ _ _ _ _ _ _ _ c.self.invariant) known c.index_mut.ensures.value c.heap_index-heap.result c.index_mut-2.result.now c.heap_index-heap.ensures
-    c.index_mut-2.ensures.value _ _ _ same.0 same.1.0 same.1.1 (whole c.self.inside.own c.self.inside.buddies.items (set lists c.args.memory_type c.alloc-answer.new.self) c.self.inside.fits.items) (ap (λ (ls : List Listing). (whole c.self.inside.own c.self.inside.buddies.items ls c.self.inside.fits.items).held) kept) (ap (λ (ls : List Listing). (whole c.self.inside.own c.self.inside.buddies.items ls c.self.inside.fits.items).live) kept) in
+    c.index_mut-2.ensures.value _ _ _ same.0 same.1.0 same.1.1 (whole c.self.inside.own c.self.inside.buddies.items (set lists c.args.memory_type c.alloc-answer.new.self) c.self.inside.fits.items) (ap (λ (ls : List FreeListState). (whole c.self.inside.own c.self.inside.buddies.items ls c.self.inside.fits.items).held) kept) (ap (λ (ls : List FreeListState). (whole c.self.inside.own c.self.inside.buddies.items ls c.self.inside.fits.items).live) kept) in
     let s : State = state_in c.self.inside.limits c.self.inside.heaps.items c.self.inside.buddies.items c.self.inside.free_lists.items c.self.inside.fits.items (whole c.self.inside.own c.self.inside.buddies.items c.self.inside.free_lists.items c.self.inside.fits.items) c.self.inside.allocations_remains in
     rw (c.passing.ensures, ← c.self.view_is, left) (record {
       tries = (

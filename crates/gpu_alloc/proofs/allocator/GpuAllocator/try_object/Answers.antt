@@ -18,7 +18,7 @@ use Rattle.gpu_alloc.specs.Own.{OwnTable}
 use Rattle.gpu_alloc.specs.Spans.{span_at}
 use Rattle.gpu_alloc_block.specs.State.{State, HeldObject, Block}
 use Rattle.gpu_alloc_buddy.specs.BuddyState.{Buddy}
-use Rattle.gpu_alloc_freelist.specs.FreeListState.{Listing}
+use Rattle.gpu_alloc_freelist.specs.FreeListState.{FreeListState}
 use Rattle.gpu_alloc_base.specs.declared.heap.Heap.{Heap}
 use Rattle.gpu_alloc.specs.declared.limits.Limits.{Limits}
 use Rattle.gpu_alloc_base.proofs.Maps.{own_inserted}
@@ -32,14 +32,14 @@ use Rattle.gpu_alloc.proofs.Linked.{chosen_more, kept-room}
 use Rattle.gpu_alloc.proofs.allocator.GpuAllocator.try_object.Given.{Over}
 use Rattle.gpu_alloc_base.proofs.Outcomes.{when_ok}
 use Rattle.gpu_alloc.proofs.allocator.GpuAllocator.try_object.Goals as goal
-use Rattle.gpu_alloc_fit.specs.Fit.{Fitting}
+use Rattle.gpu_alloc_fit.specs.Fit.{FitState}
 
 positive : (n : ℕ) → n ≢ 0 → 0 < n
 positive n not_zero = omega arith
 
 -- Room is made, and nothing else changes.
 
-state_kept : {A : Type 0} (l : Limits A) (heaps : List Heap) (buddies : List Buddy) (lists : List Listing) (fits : List Fitting) (new old : OwnTable) (remaining : ℕ) → new ≡ record old { room = new.room }
+state_kept : {A : Type 0} (l : Limits A) (heaps : List Heap) (buddies : List Buddy) (lists : List FreeListState) (fits : List FitState) (new old : OwnTable) (remaining : ℕ) → new ≡ record old { room = new.room }
     → state_in l heaps buddies lists fits (whole new buddies lists fits) remaining ≡ state_in l heaps buddies lists fits (whole old buddies lists fits) remaining
 state_kept l heaps buddies lists fits new old remaining kept = ap (λ t. state_in l heaps buddies lists fits (whole t buddies lists fits) remaining) kept
 

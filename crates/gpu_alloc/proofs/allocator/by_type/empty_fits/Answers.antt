@@ -1,6 +1,6 @@
 use Rattle.std.proofs.Common.{◌+◌, length, length-append, ap, sym, ◌∙◌, subst, arith}
 use Rattle.gpu_alloc_types.specs.Properties.{properties_of}
-use Rattle.gpu_alloc.specs.Opening.{AreFirstFittings}
+use Rattle.gpu_alloc.specs.Opening.{AreFirstFits}
 use Rattle.gpu_alloc.proofs.Opened.{one_first_fit_more}
 use Rattle.gpu_alloc.proofs.allocator.by_type.empty_fits.Goals as goal
 
@@ -11,5 +11,5 @@ loop-memory_type-preserved g c =
     record {
       count = ap length c.push_reserved.ensures.items ∙ length-append _ _ ∙ ap (λ n. n + 1) before.count;
       room = omega (arith, before.room, c.push_reserved.ensures.capacity);
-      each = subst (AreFirstFittings c.args.config p) (sym c.push_reserved.ensures.items) (one_first_fit_more c.args.config p _ _ _ before.each before.count c.empty_fit.ensures.first c.empty_fit.ensures.sound);
+      each = subst (AreFirstFits c.args.config p) (sym c.push_reserved.ensures.items) (one_first_fit_more c.args.config p _ _ _ before.each before.count c.empty_fit.ensures.first c.empty_fit.ensures.sound);
     }

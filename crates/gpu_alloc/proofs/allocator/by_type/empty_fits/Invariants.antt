@@ -1,6 +1,6 @@
 use Rattle.std.proofs.Common.{◌≡◌, ◌≤◌, length, vec_capacity}
 use Rattle.gpu_alloc_types.specs.Properties.{properties_of}
-use Rattle.gpu_alloc.specs.Opening.{AreFirstFittings}
+use Rattle.gpu_alloc.specs.Opening.{AreFirstFits}
 use Rattle.gpu_alloc.proofs.allocator.by_type.empty_fits.Given as goal
 
 -- the memory types so far have one each
@@ -8,5 +8,5 @@ abbrev pub invariant-loop-memory_type : goal.invariant-loop-memory_type
 invariant-loop-memory_type g l = record {
   count : length l.fits.items ≡ l.memory_type;
   room : l.count ≤ vec_capacity l.fits;
-  each : AreFirstFittings l.config (properties_of l.props) l.fits.items;
+  each : AreFirstFits l.config (properties_of l.props) l.fits.items;
 }

@@ -42,7 +42,7 @@ returns-in_default-clause-removed g c =
 pub returns-in_default-clause-rest : goal.returns-in_default-clause-rest
 returns-in_default-clause-rest g c = leaves_no_rest c.put_back-gone.new.self.space c.keeps_exact-2.ensures.sound
 
--- Its chunk goes.
+-- Its chunk is removed.
 
 abbrev held : (g : Over) → In-Some g → Chunk
 held g c = record { object = g.M.MemoryObject.object c.in-Some.memory; size = c.in-Some.size }
@@ -59,14 +59,14 @@ is_held g c = c.in-Some.ensures.goes.1.0
 counted : (g : Over) (c : In-Some g) → IsCounted c.self.inside.pairs.space.chunks c.args.heap.now c.args.allocations_remains.now
 counted g c = rw (← c.self.view_is) at c.requires.counted
 
-pub let_go-requires-clause-counted : goal.let_go-requires-clause-counted
-let_go-requires-clause-counted g c =
-    let at = (goal.at.let_go-requires-clause-counted g c).In-Some in
+pub release-requires-clause-counted : goal.release-requires-clause-counted
+release-requires-clause-counted g c =
+    let at = (goal.at.release-requires-clause-counted g c).In-Some in
     is_counted (before g at) c.into_parts.result.1 (held g at) c.keeps_exact.ensures.sound (live g at) (is_held g at) c.args.heap.now c.args.allocations_remains.now (counted g at)
 
-pub let_go-requires-clause-fits : goal.let_go-requires-clause-fits
-let_go-requires-clause-fits g c =
-    let at = (goal.at.let_go-requires-clause-fits g c).In-Some in
+pub release-requires-clause-fits : goal.release-requires-clause-fits
+release-requires-clause-fits g c =
+    let at = (goal.at.release-requires-clause-fits g c).In-Some in
     let less = one_more_fits (before g at) c.into_parts.result.1 (held g at) c.keeps_exact.ensures.sound (live g at) (is_held g at) c.args.heap.now c.args.allocations_remains.now (counted g at) in
     omega (arith, less)
 
@@ -85,10 +85,10 @@ pub returns-clause-frees : goal.returns-clause-frees
 returns-clause-frees g c =
     let at = (goal.at.returns-clause-frees g c).In-Some in
     let name = named g at in
-    rw (← c.self.view_is, ← c.into_parts.ensures.leaf, c.let_go.ensures.count) (
+    rw (← c.self.view_is, ← c.into_parts.ensures.leaf, c.release.ensures.count) (
       Deallocated c.into_parts.result.1.object ∷ [],
       (c.deallocate_memory.new.self, rw (← name) c.deallocate_memory.ensures, refl),
-      frees g at c.let_go.new.heap c.let_go.ensures.ledger,
+      frees g at c.release.new.heap c.release.ensures.ledger,
     )
 
 pub returns-clause-agrees : goal.returns-clause-agrees
@@ -104,12 +104,12 @@ returns-clause-agrees g c =
 pub returns-clause-counted : goal.returns-clause-counted
 returns-clause-counted g c =
     let at = (goal.at.returns-clause-counted g c).In-Some in
-    rw c.let_go.ensures.count (frees_counted (account (before g at) c.args.heap.now c.args.allocations_remains.now) _ c.into_parts.result.1 (Deallocated c.into_parts.result.1.object ∷ []) (counted g at) (frees g at c.let_go.new.heap c.let_go.ensures.ledger))
+    rw c.release.ensures.count (frees_counted (account (before g at) c.args.heap.now c.args.allocations_remains.now) _ c.into_parts.result.1 (Deallocated c.into_parts.result.1.object ∷ []) (counted g at) (frees g at c.release.new.heap c.release.ensures.ledger))
 
 pub returns-clause-total : goal.returns-clause-total
 returns-clause-total g c =
     let at = (goal.at.returns-clause-total g c).In-Some in
-    rw (← c.self.view_is, c.let_go.ensures.count) (frees_total (account (before g at) c.args.heap.now c.args.allocations_remains.now) _ c.into_parts.result.1 (Deallocated c.into_parts.result.1.object ∷ []) (frees g at c.let_go.new.heap c.let_go.ensures.ledger))
+    rw (← c.self.view_is, c.release.ensures.count) (frees_total (account (before g at) c.args.heap.now c.args.allocations_remains.now) _ c.into_parts.result.1 (Deallocated c.into_parts.result.1.object ∷ []) (frees g at c.release.new.heap c.release.ensures.ledger))
 
 pub returns-clause-at_most : goal.returns-clause-at_most
 returns-clause-at_most g c =
@@ -120,7 +120,7 @@ pub returns-clause-removed : goal.returns-clause-removed
 returns-clause-removed g c =
     let frees = returns-clause-frees g c in
     frees_remove (account c.args.self.now c.args.heap.now c.args.allocations_remains.now) c.args.block frees.0
-    (account (buddy_in c.put_back-gone.new.self.space c.self.inside.next_order c.self.inside.minimal_size c.self.inside.memory_type (property_bits c.self.inside.props) c.self.inside.atom) c.let_go.new.heap c.let_go.new.allocations_remains)
+    (account (buddy_in c.put_back-gone.new.self.space c.self.inside.next_order c.self.inside.minimal_size c.self.inside.memory_type (property_bits c.self.inside.props) c.self.inside.atom) c.release.new.heap c.release.new.allocations_remains)
     c.requires.live frees.2
 
 pub returns-clause-rest : goal.returns-clause-rest

@@ -8,7 +8,7 @@ use Rattle.gpu_alloc_base.specs.Case.{Answers}
 use Rattle.gpu_alloc_fit.specs.Fit.{alignment, fit_case}
 use Rattle.gpu_alloc_fit.proofs.FitAnswers.{IsRoundedTo, answers_add, answers_agree, answers_granted, answers_keep, answers_leave, keeps_books, rounds}
 use Rattle.gpu_alloc_base.proofs.Books.{answers_counted, answers_total, answers_within, refused_keeps}
-use Rattle.gpu_alloc_fit.specs.Fit.{Fitting}
+use Rattle.gpu_alloc_fit.specs.Fit.{FitState}
 use Rattle.gpu_alloc_base.specs.declared.error.AllocationError.{AllocationError}
 use Rattle.gpu_alloc_base.specs.declared.free_list_block.Slot.{Slot}
 use Rattle.gpu_alloc_base.specs.Sizes.{up}
@@ -19,10 +19,10 @@ use Rattle.gpu_alloc_fit.proofs.fit.FitAllocator.alloc.Goals.{After-alloc_rounde
 use Rattle.gpu_alloc_fit.proofs.fit.FitAllocator.alloc.Goals as goal
 
 -- what changes, before the call and after it
-abbrev old : (g : Over) → After-alloc_rounded g → Account Fitting
+abbrev old : (g : Over) → After-alloc_rounded g → Account FitState
 old g c = account c.args.self.now c.args.heap.now c.args.allocations_remains.now
 
-abbrev new : (g : Over) → After-alloc_rounded g → Account Fitting
+abbrev new : (g : Over) → After-alloc_rounded g → Account FitState
 new g c = account c.alloc_rounded.new.self c.alloc_rounded.new.heap c.alloc_rounded.new.allocations_remains
 
 -- what the request is rounded to
@@ -30,7 +30,7 @@ rounded_to : (g : Over) (c : After-alloc_rounded g)
     → IsRoundedTo c.args.self.now (wanted c.args.size c.args.align_mask (allocation_bits c.args.flags)) c.rounded_size-size.result (c.max-align_mask.result + 1)
 rounded_to g c =
     rounds c.args.self.now (wanted c.args.size c.args.align_mask (allocation_bits c.args.flags)) c.rounded_size-size.result (c.max-align_mask.result + 1) c.rounded_size-size.ensures.is
-    (omega (arith, c.max-align_mask.ensures, ap (λ (l : Fitting). l.atom) c.self.view_is)) c.rounded_size-size.ensures.whole c.alloc_rounded.ensures.was c.requires.nonempty c.requires.fits c.requires.alignment
+    (omega (arith, c.max-align_mask.ensures, ap (λ (l : FitState). l.atom) c.self.view_is)) c.rounded_size-size.ensures.whole c.alloc_rounded.ensures.was c.requires.nonempty c.requires.fits c.requires.alignment
 
 pub returns-clause-agrees : goal.returns-clause-agrees
 returns-clause-agrees g c =
@@ -62,12 +62,12 @@ alloc_rounded-requires-clause-fits g c = record {
   fits = rw (c.rounded_size-size.ensures.is) c.requires.fits;
   whole = c.rounded_size-size.ensures.whole;
   alignment = rw (c.max-align_mask.ensures) (greater_mask c.args.align_mask c.self.inside.atom_mask c.requires.alignment c.self.invariant.atom);
-  aligned = omega (arith, c.max-align_mask.ensures, ap (λ (l : Fitting). l.atom) c.self.view_is);
+  aligned = omega (arith, c.max-align_mask.ensures, ap (λ (l : FitState). l.atom) c.self.view_is);
 }
 
 -- the alignment that is used
 alignment_is : (g : Over) (c : After-alloc_rounded g) → c.max-align_mask.result + 1 ≡ alignment c.args.self.now (wanted c.args.size c.args.align_mask (allocation_bits c.args.flags))
-alignment_is g c = omega (arith, c.max-align_mask.ensures, ap (λ (l : Fitting). l.atom) c.self.view_is)
+alignment_is g c = omega (arith, c.max-align_mask.ensures, ap (λ (l : FitState). l.atom) c.self.view_is)
 
 pub returns-clause-allocates : goal.returns-clause-allocates
 returns-clause-allocates g c =
@@ -81,12 +81,12 @@ returns-clause-allocates g c =
     )
 
 -- a refusal changes nothing
-kept_when_refused : (a now : Account Fitting) (size alignment flags : ℕ) (es : List Event) (answer : Result Slot AllocationError) → Answers (fit_case a size alignment flags) es answer now
+kept_when_refused : (a now : Account FitState) (size alignment flags : ℕ) (es : List Event) (answer : Result Slot AllocationError) → Answers (fit_case a size alignment flags) es answer now
     → OnErr answer ((now.allocator ≡ a.allocator) × ((now.heap ≡ a.heap) × (now.remaining ≡ a.remaining)))
 kept_when_refused a now size alignment flags es (Ok slot) told = tt
 kept_when_refused a now size alignment flags es (Err e) told =
     let same = refused_keeps (fit_case a size alignment flags) es e now told in
-    (ap (λ (x : Account Fitting). x.allocator) same, (ap (λ (x : Account Fitting). x.heap) same, ap (λ (x : Account Fitting). x.remaining) same))
+    (ap (λ (x : Account FitState). x.allocator) same, (ap (λ (x : Account FitState). x.heap) same, ap (λ (x : Account FitState). x.remaining) same))
 
 pub returns-clause-refused : goal.returns-clause-refused
 returns-clause-refused g c =

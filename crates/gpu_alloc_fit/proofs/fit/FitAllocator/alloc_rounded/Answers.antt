@@ -4,8 +4,8 @@ use Rattle.gpu_alloc_base.specs.Accounts.{IsCounted, account}
 use Rattle.gpu_alloc_base.specs.Case.{Answers}
 use Rattle.gpu_alloc_fit.specs.Fit.{Agrees, ObjectsAfter, fit_case}
 use Rattle.gpu_alloc_fit.specs.FitSound.{fitting_in}
-use Rattle.gpu_alloc_fit.specs.FitSound.{IsSoundFitting}
-use Rattle.gpu_alloc_fit.specs.Fit.{Fitting}
+use Rattle.gpu_alloc_fit.specs.FitSound.{IsSoundFit}
+use Rattle.gpu_alloc_fit.specs.Fit.{FitState}
 use Rattle.gpu_alloc_fits.specs.Space.{FitSpace, IsSoundFitSpace}
 use Rattle.gpu_alloc_base.specs.declared.error.AllocationError.TheVariants.{OutOfHostMemory}
 use Rattle.gpu_alloc_fit.specs.declared.fit.FitAllocator.TheInside.{Inside}
@@ -15,14 +15,14 @@ use Rattle.gpu_alloc_fit.proofs.fit.FitAllocator.alloc_rounded.Given.{Over}
 use Rattle.gpu_alloc_fit.proofs.fit.FitAllocator.alloc_rounded.Goals as goal
 
 -- the allocator, its space being this
-abbrev over : (g : Over) → Inside g.row.M.Denot g.row.A.Denot → FitSpace → Fitting
+abbrev over : (g : Over) → Inside g.row.M.Denot g.row.A.Denot → FitSpace → FitState
 over g a s = fitting_in s a.chunk_size a.final_chunk_size a.memory_type (property_bits a.props) (a.atom_mask + 1)
 
 -- A block is cut from a held chunk.
 
 pub invariant_of-self : goal.invariant_of-self
 invariant_of-self g c =
-    let l : Fitting = fitting_in c.self.inside.fits.space c.self.inside.chunk_size c.self.inside.final_chunk_size c.self.inside.memory_type (property_bits c.self.inside.props) (c.self.inside.atom_mask + 1) in
+    let l : FitState = fitting_in c.self.inside.fits.space c.self.inside.chunk_size c.self.inside.final_chunk_size c.self.inside.memory_type (property_bits c.self.inside.props) (c.self.inside.atom_mask + 1) in
     let rounded = rw (← c.self.view_is) at c.requires.fits in
     let took = rw (c.in-Ok-Some.field-0-is) at c.in-Ok-Some.ensures.takes in
     let asked = askable l c.args.size c.args.align_mask rounded in
@@ -32,7 +32,7 @@ invariant_of-self g c =
 pub returns-in-Ok-Some-clause-answers : goal.returns-in-Ok-Some-clause-answers
 returns-in-Ok-Some-clause-answers g c =
     let took = rw (c.in-Ok-Some.field-0-is) at c.in-Ok-Some.ensures.takes in
-    let new : Fitting = over g c.self.inside c.take-taken.new.self.space in (
+    let new : FitState = over g c.self.inside c.take-taken.new.self.space in (
       [],
       refl,
       subst (λ x. Answers (fit_case (account x c.args.heap.now c.args.allocations_remains.now) c.args.size (c.args.align_mask + 1) (allocation_bits c.args.flags)) [] (Ok c.in-Ok-Some.block) (account new c.args.heap.now c.args.allocations_remains.now))
@@ -46,7 +46,7 @@ returns-in-Ok-Some-clause-objects g c =
     rw (← c.self.view_is, took.0.held) refl
 
 pub returns-in-Ok-Some-clause-was : goal.returns-in-Ok-Some-clause-was
-returns-in-Ok-Some-clause-was g c = subst IsSoundFitting c.self.view_is c.self.invariant
+returns-in-Ok-Some-clause-was g c = subst IsSoundFit c.self.view_is c.self.invariant
 
 -- There is a place, but no host memory.
 
@@ -56,7 +56,7 @@ invariant_of-self-in-Err g c = rw (c.in-Err.ensures.takes.1) c.self.invariant
 pub returns-in-Err-clause-answers : goal.returns-in-Err-clause-answers
 returns-in-Err-clause-answers g c =
     let took = c.in-Err.ensures.takes in
-    let new : Fitting = over g c.self.inside c.take-taken.new.self.space in (
+    let new : FitState = over g c.self.inside c.take-taken.new.self.space in (
       [],
       refl,
       subst (λ x. Answers (fit_case (account x c.args.heap.now c.args.allocations_remains.now) c.args.size (c.args.align_mask + 1) (allocation_bits c.args.flags)) [] (Err OutOfHostMemory) (account new c.args.heap.now c.args.allocations_remains.now))
@@ -65,14 +65,14 @@ returns-in-Err-clause-answers g c =
     )
 
 pub returns-in-Err-clause-was : goal.returns-in-Err-clause-was
-returns-in-Err-clause-was g c = subst IsSoundFitting c.self.view_is c.self.invariant
+returns-in-Err-clause-was g c = subst IsSoundFit c.self.view_is c.self.invariant
 
 -- There is none, and no chunk may be asked for.
 
 pub returns-in-Some-clause-answers : goal.returns-in-Some-clause-answers
 returns-in-Some-clause-answers g c =
     let took = rw (c.in-Ok-None.field-0-is) at c.in-Ok-None.ensures.takes in
-    let new : Fitting = over g c.self.inside c.take-taken.new.self.space in
+    let new : FitState = over g c.self.inside c.take-taken.new.self.space in
     let flags = allocation_bits c.args.flags in
     let now = account new c.args.heap.now c.args.allocations_remains.now in
     let refused = answers_unasked (fit_case now c.args.size (c.args.align_mask + 1) flags) tt (rw (took.1) took.0) c.in-Some.refusal (c.in-Some.ensures (c.args.align_mask + 1) flags) in
@@ -83,7 +83,7 @@ returns-in-Some-clause-answers g c =
     )
 
 pub returns-in-Some-clause-was : goal.returns-in-Some-clause-was
-returns-in-Some-clause-was g c = subst IsSoundFitting c.self.view_is c.self.invariant
+returns-in-Some-clause-was g c = subst IsSoundFit c.self.view_is c.self.invariant
 
 -- A chunk is asked for.
 
@@ -108,7 +108,7 @@ pub take_chunk-requires-clause-counted : goal.take_chunk-requires-clause-counted
 take_chunk-requires-clause-counted g c =
     let took = rw (c.in-Ok-None.field-0-is) at c.in-Ok-None.ensures.takes in
     let same : over g c.self.inside c.take-taken.new.self.space ≡ c.args.self.now = ap (over g c.self.inside) took.1 ∙ c.self.view_is in
-    subst (λ (x : Fitting). IsCounted x.space.chunks c.args.heap.now c.args.allocations_remains.now) (sym same) c.requires.counted
+    subst (λ (x : FitState). IsCounted x.space.chunks c.args.heap.now c.args.allocations_remains.now) (sym same) c.requires.counted
 
 pub take_chunk-requires-clause-fits : goal.take_chunk-requires-clause-fits
 take_chunk-requires-clause-fits g c =
@@ -133,7 +133,7 @@ returns-in-None-clause-objects g c =
     subst (λ x. ObjectsAfter x c.take_chunk.result c.take_chunk.new.self (g.D.ObjectDevice.objects c.args.device.now) (g.D.ObjectDevice.objects c.take_chunk.new.device)) same c.take_chunk.ensures.objects
 
 pub returns-in-None-clause-was : goal.returns-in-None-clause-was
-returns-in-None-clause-was g c = subst IsSoundFitting c.self.view_is c.self.invariant
+returns-in-None-clause-was g c = subst IsSoundFit c.self.view_is c.self.invariant
 
 pub returns-in-Ok-Some-clause-sound : goal.returns-in-Ok-Some-clause-sound
 returns-in-Ok-Some-clause-sound g c = invariant_of-self g c

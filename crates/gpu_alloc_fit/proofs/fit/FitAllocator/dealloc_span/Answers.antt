@@ -7,7 +7,7 @@ use Rattle.gpu_alloc_base.specs.Chunks.{Chunk}
 use Rattle.gpu_alloc_base.specs.declared.free_list_block.Slot.{Slot}
 use Rattle.gpu_alloc_base.specs.declared.heap.Heap.{Heap}
 use Rattle.gpu_alloc_base.proofs.Slots.{slot_removed}
-use Rattle.gpu_alloc_fit.specs.Fit.{Fitting, Goes, account_without}
+use Rattle.gpu_alloc_fit.specs.Fit.{FitState, ReleasesChunk, account_without}
 use Rattle.gpu_alloc_fit.specs.FitSound.{fitting_in}
 use Rattle.gpu_alloc_fits.specs.Space.{FitSpace, IsLiveFitSpan, IsSoundFitSpace, without_slot}
 use Rattle.gpu_alloc_fit.proofs.FitReturns.{agrees_without, goes_counted, goes_so, goes_total, is_counted, one_more_fits, sound_without_chunk, sound_without_slot}
@@ -19,7 +19,7 @@ use Rattle.gpu_alloc_fit.proofs.fit.FitAllocator.dealloc_span.Goals as goal
 
 pub invariant_of-self : goal.invariant_of-self
 invariant_of-self g c =
-    let f : Fitting = fitting_in c.self.inside.fits.space c.self.inside.chunk_size c.self.inside.final_chunk_size c.self.inside.memory_type (property_bits c.self.inside.props) (c.self.inside.atom_mask + 1) in
+    let f : FitState = fitting_in c.self.inside.fits.space c.self.inside.chunk_size c.self.inside.final_chunk_size c.self.inside.memory_type (property_bits c.self.inside.props) (c.self.inside.atom_mask + 1) in
     let of = rw (← c.self.view_is) at c.requires.live in
     let is = (c.in_default.ensures.back of.0 of.1).1 in
     rw is (sound_without_slot f of.0 c.self.invariant (subst IsSoundFitSpace is c.keeps_sound.ensures))
@@ -32,12 +32,12 @@ returns-in_default-clause-frees g c =
     let a = λ (s : FitSpace). account (fitting_in s c.self.inside.chunk_size c.self.inside.final_chunk_size c.self.inside.memory_type (property_bits c.self.inside.props) (c.self.inside.atom_mask + 1)) c.args.heap.now c.args.allocations_remains.now in
     rw (← c.self.view_is) (λ slot of. ([], refl, inl ((c.in_default.ensures.back slot of).0, (refl, ap a (c.in_default.ensures.back slot of).1))))
 
--- It goes.
+-- It is removed.
 
-abbrev before : (g : Over) → In-Some g → Fitting
+abbrev before : (g : Over) → In-Some g → FitState
 before g c = fitting_in c.self.inside.fits.space c.self.inside.chunk_size c.self.inside.final_chunk_size c.self.inside.memory_type (property_bits c.self.inside.props) (c.self.inside.atom_mask + 1)
 
-abbrev after : (g : Over) → In-Some g → Fitting
+abbrev after : (g : Over) → In-Some g → FitState
 after g c = fitting_in c.put_back_span-gone.new.self.space c.self.inside.chunk_size c.self.inside.final_chunk_size c.self.inside.memory_type (property_bits c.self.inside.props) (c.self.inside.atom_mask + 1)
 
 abbrev held : (g : Over) → In-Some g → Chunk
@@ -57,20 +57,20 @@ is_held : (g : Over) (c : In-Some g) (slot : Slot) → IsReturned g c slot → m
 is_held g c slot of = (c.in-Some.ensures.back slot of).1.0
 
 goes : (g : Over) (c : In-Some g) (slot : Slot) → IsReturned g c slot → (less : Heap) → less ≡ record c.args.heap.now { used = c.args.heap.now.used - c.in-Some.size }
-    → Goes (account_without (account (before g c) c.args.heap.now c.args.allocations_remains.now) slot) slot.chunk (Deallocated (held g c).object ∷ []) (account (after g c) less (c.args.allocations_remains.now + 1))
+    → ReleasesChunk (account_without (account (before g c) c.args.heap.now c.args.allocations_remains.now) slot) slot.chunk (Deallocated (held g c).object ∷ []) (account (after g c) less (c.args.allocations_remains.now + 1))
 goes g c slot of less is =
     goes_so (without_slot (before g c).space slot) c.put_back_span-gone.new.self.space c.self.inside.chunk_size c.self.inside.final_chunk_size c.self.inside.memory_type (property_bits c.self.inside.props) (c.self.inside.atom_mask + 1)
     slot.chunk c.args.heap.now less c.args.allocations_remains.now (held g c) (is_held g c slot of) (c.in-Some.ensures.back slot of).1.1 is
 
-pub let_go-requires-clause-counted : goal.let_go-requires-clause-counted
-let_go-requires-clause-counted g c =
-    let at = (goal.at.let_go-requires-clause-counted g c).In-Some in
+pub release-requires-clause-counted : goal.release-requires-clause-counted
+release-requires-clause-counted g c =
+    let at = (goal.at.release-requires-clause-counted g c).In-Some in
     let of = returned g at in
     is_counted (before g at) of.0.chunk (held g at) c.self.invariant.space (is_held g at of.0 of.1) c.args.heap.now c.args.allocations_remains.now (counted g at)
 
-pub let_go-requires-clause-fits : goal.let_go-requires-clause-fits
-let_go-requires-clause-fits g c =
-    let at = (goal.at.let_go-requires-clause-fits g c).In-Some in
+pub release-requires-clause-fits : goal.release-requires-clause-fits
+release-requires-clause-fits g c =
+    let at = (goal.at.release-requires-clause-fits g c).In-Some in
     let of = returned g at in
     let less = one_more_fits (before g at) of.0.chunk (held g at) c.self.invariant.space (is_held g at of.0 of.1) c.args.heap.now c.args.allocations_remains.now (counted g at) in
     omega (arith, less)
@@ -88,10 +88,10 @@ returns-clause-sound g c = invariant_of-self-2 g c
 pub returns-clause-frees : goal.returns-clause-frees
 returns-clause-frees g c =
     let at = (goal.at.returns-clause-frees g c).In-Some in
-    rw (← c.self.view_is, c.let_go.ensures.count) (λ slot of. (
+    rw (← c.self.view_is, c.release.ensures.count) (λ slot of. (
       Deallocated (held g at).object ∷ [],
       (c.deallocate_memory.new.self, c.deallocate_memory.ensures, refl),
-      inr ((c.in-Some.ensures.back slot of).0, goes g at slot of c.let_go.new.heap c.let_go.ensures.ledger),
+      inr ((c.in-Some.ensures.back slot of).0, goes g at slot of c.release.new.heap c.release.ensures.ledger),
     ))
 
 pub returns-clause-agrees : goal.returns-clause-agrees
@@ -107,10 +107,10 @@ pub returns-clause-counted : goal.returns-clause-counted
 returns-clause-counted g c =
     let at = (goal.at.returns-clause-counted g c).In-Some in
     let of = returned g at in
-    rw c.let_go.ensures.count (goes_counted _ _ _ _ (goes g at of.0 of.1 c.let_go.new.heap c.let_go.ensures.ledger) (counted g at))
+    rw c.release.ensures.count (goes_counted _ _ _ _ (goes g at of.0 of.1 c.release.new.heap c.release.ensures.ledger) (counted g at))
 
 pub returns-clause-total : goal.returns-clause-total
 returns-clause-total g c =
     let at = (goal.at.returns-clause-total g c).In-Some in
     let of = returned g at in
-    rw (← c.self.view_is, c.let_go.ensures.count) (goes_total _ _ _ _ (goes g at of.0 of.1 c.let_go.new.heap c.let_go.ensures.ledger))
+    rw (← c.self.view_is, c.release.ensures.count) (goes_total _ _ _ _ (goes g at of.0 of.1 c.release.new.heap c.release.ensures.ledger))

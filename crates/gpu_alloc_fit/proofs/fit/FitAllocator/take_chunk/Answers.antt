@@ -7,8 +7,8 @@ use Rattle.gpu_alloc_fit.specs.Fit.{ObjectsAfter, chunk_size, fit_case, next_siz
 use Rattle.gpu_alloc_base.proofs.Books.{object_more, refused_chunk}
 use Rattle.gpu_alloc_base.proofs.Maps.{own_inserted}
 use Rattle.gpu_alloc_fit.specs.FitSound.{fitting_in}
-use Rattle.gpu_alloc_fit.specs.FitSound.{IsSoundFitting}
-use Rattle.gpu_alloc_fit.specs.Fit.{Fitting}
+use Rattle.gpu_alloc_fit.specs.FitSound.{IsSoundFit}
+use Rattle.gpu_alloc_fit.specs.Fit.{FitState}
 use Rattle.gpu_alloc_fits.specs.Space.{BeginsFitChunk, FitSpace, IsSoundFitSpace, IsUnheld, with_chunk, with_slot}
 use Rattle.gpu_alloc_base.specs.NewChunk.{ChunkQuestion, HasOneChunkMore, chunk_question, made}
 use Rattle.std.specs.FinMap as map
@@ -43,17 +43,17 @@ returns-in-Err-clause-answers g c =
 
 pub invariant_of-self-3 : goal.invariant_of-self-3
 invariant_of-self-3 g c =
-    let f : Fitting = fitting_in c.self.inside.fits.space c.self.inside.chunk_size c.self.inside.final_chunk_size c.self.inside.memory_type (property_bits c.self.inside.props) (c.self.inside.atom_mask + 1) in
+    let f : FitState = fitting_in c.self.inside.fits.space c.self.inside.chunk_size c.self.inside.final_chunk_size c.self.inside.memory_type (property_bits c.self.inside.props) (c.self.inside.atom_mask + 1) in
     let rounded = rw (← c.self.view_is) at c.requires.fits in
     let asked = askable f c.args.size c.args.align_mask rounded in
     let is = grown_is f c.reserve.new.self.space c.begin-block.new.self.space c.begin-block.result c.chunk_size_for-chunk_size.result c.min-self-inside.result c.args.size
     c.reserve.ensures.kept c.begin-block.ensures.space c.chunk_size_for-chunk_size.ensures.is c.min-self-inside.ensures in
     let begins = subst (λ s. BeginsFitChunk s c.args.size c.begin-block.result) c.reserve.ensures.kept c.begin-block.ensures.begins in
-    subst IsSoundFitting (sym is) (sound_grown f c.begin-block.result c.args.size (c.args.align_mask + 1) c.self.invariant asked begins (subst IsSoundFitSpace (ap (λ (x : Fitting). x.space) is) c.keeps_sound.ensures))
+    subst IsSoundFit (sym is) (sound_grown f c.begin-block.result c.args.size (c.args.align_mask + 1) c.self.invariant asked begins (subst IsSoundFitSpace (ap (λ (x : FitState). x.space) is) c.keeps_sound.ensures))
 
 pub begin-block-requires-clause-new_object : goal.begin-block-requires-clause-new_object
 begin-block-requires-clause-new_object g c =
-    let f : Fitting = fitting_in c.self.inside.fits.space c.self.inside.chunk_size c.self.inside.final_chunk_size c.self.inside.memory_type (property_bits c.self.inside.props) (c.self.inside.atom_mask + 1) in
+    let f : FitState = fitting_in c.self.inside.fits.space c.self.inside.chunk_size c.self.inside.final_chunk_size c.self.inside.memory_type (property_bits c.self.inside.props) (c.self.inside.atom_mask + 1) in
     let agrees = rw (← c.self.view_is) at c.requires.agrees in
     let object = g.M.MemoryObject.object c.in-Ok.handles.0 in
     subst (λ s. IsUnheld s object) (sym c.reserve.ensures.kept) (other_objects f (g.D.ObjectDevice.properties c.args.device.now) (g.D.ObjectDevice.objects c.args.device.now) object agrees c.in-Ok.ensures.objects.0)
@@ -94,7 +94,7 @@ hold-requires-clause-remains g c =
     asks.has.remains.objects
 
 -- the answer where a block begins the new chunk
-grown_answers : (f : Fitting) (heap now : Heap) (remaining size alignment flags object whole next : ℕ) (s grown : FitSpace) (slot : Slot) (es : List Event) (q : ChunkQuestion) → s ≡ f.space → slot.object ≡ object → BeginsFitChunk s size slot
+grown_answers : (f : FitState) (heap now : Heap) (remaining size alignment flags object whole next : ℕ) (s grown : FitSpace) (slot : Slot) (es : List Event) (q : ChunkQuestion) → s ≡ f.space → slot.object ≡ object → BeginsFitChunk s size slot
     → grown ≡ with_slot (with_chunk s slot whole) slot → whole ≡ chunk_size f size → next ≡ next_size f whole → now ≡ record heap { used = heap.used + whole } → q ≡ question f size flags → es ≡ made q object
     → Asks (fit_case (account f heap remaining) size alignment flags) → Answers (fit_case (account f heap remaining) size alignment flags) es (Ok slot) (account (record f { space = grown; next_chunk = next }) now (remaining - 1))
 grown_answers f heap now remaining size alignment flags object whole next s grown slot es q s_is named begins grown_to whole_is next_is now_is q_is es_is asks =
@@ -109,7 +109,7 @@ grown_answers f heap now remaining size alignment flags object whole next s grow
 
 pub returns-clause-answers : goal.returns-clause-answers
 returns-clause-answers g c =
-    let f : Fitting = fitting_in c.self.inside.fits.space c.self.inside.chunk_size c.self.inside.final_chunk_size c.self.inside.memory_type (property_bits c.self.inside.props) (c.self.inside.atom_mask + 1) in
+    let f : FitState = fitting_in c.self.inside.fits.space c.self.inside.chunk_size c.self.inside.final_chunk_size c.self.inside.memory_type (property_bits c.self.inside.props) (c.self.inside.atom_mask + 1) in
     let asks = rw (← c.self.view_is) at c.requires.asks in
     let told = c.in-Ok.ensures.asks in
     let flags = allocation_bits c.args.flags in
@@ -126,7 +126,7 @@ returns-clause-answers g c =
     )
 
 -- and the device's objects
-grown_objects : (f : Fitting) (size flags object whole next : ℕ) (s grown : FitSpace) (slot : Slot) (q : ChunkQuestion) (old new : ℕ → Option Object) → s ≡ f.space → slot.object ≡ object → BeginsFitChunk s size slot
+grown_objects : (f : FitState) (size flags object whole next : ℕ) (s grown : FitSpace) (slot : Slot) (q : ChunkQuestion) (old new : ℕ → Option Object) → s ≡ f.space → slot.object ≡ object → BeginsFitChunk s size slot
     → grown ≡ with_slot (with_chunk s slot whole) slot → whole ≡ chunk_size f size → q ≡ question f size flags → HasOneChunkMore q object old new → ObjectsAfter f (Ok slot) (record f { space = grown; next_chunk = next }) old new
 grown_objects f size flags object whole next s grown slot q old new s_is named begins grown_is whole_is q_is more =
     let chunk : Chunk = record { object = slot.object; size = chunk_size f size } in
@@ -140,13 +140,13 @@ grown_objects f size flags object whole next s grown slot q old new s_is named b
 
 pub returns-clause-objects : goal.returns-clause-objects
 returns-clause-objects g c =
-    let f : Fitting = fitting_in c.self.inside.fits.space c.self.inside.chunk_size c.self.inside.final_chunk_size c.self.inside.memory_type (property_bits c.self.inside.props) (c.self.inside.atom_mask + 1) in
+    let f : FitState = fitting_in c.self.inside.fits.space c.self.inside.chunk_size c.self.inside.final_chunk_size c.self.inside.memory_type (property_bits c.self.inside.props) (c.self.inside.atom_mask + 1) in
     let flags = allocation_bits c.args.flags in
     let q : ChunkQuestion = chunk_question c.chunk_size_for-chunk_size.result c.self.inside.memory_type flags c.intersects-visible.result in
     let is = question_is f c.args.size c.chunk_size_for-chunk_size.result flags c.intersects-visible.result c.chunk_size_for-chunk_size.ensures.is c.intersects-visible.ensures in
     let before = g.D.ObjectDevice.objects c.args.device.now in
     let after = g.D.ObjectDevice.objects c.new_chunk_with_handle-made.new.device in
-    let new : Fitting = record f { space = c.begin-block.new.self.space; next_chunk = c.min-self-inside.result } in
+    let new : FitState = record f { space = c.begin-block.new.self.space; next_chunk = c.min-self-inside.result } in
     subst (λ x. ObjectsAfter x (Ok c.begin-block.result) new before after) c.self.view_is
     (grown_objects f c.args.size flags (g.M.MemoryObject.object c.in-Ok.handles.0) c.chunk_size_for-chunk_size.result c.min-self-inside.result c.reserve.new.self.space
     c.begin-block.new.self.space c.begin-block.result q before after c.reserve.ensures.kept c.begin-block.ensures.object c.begin-block.ensures.begins c.begin-block.ensures.space c.chunk_size_for-chunk_size.ensures.is is c.in-Ok.ensures.objects)

@@ -90,7 +90,7 @@ returns-in-None-clause-looks g c slot span =
     ∙ ap (λ n. c.args.looks.now + n) (neighbours_are g.M.MemoryObject.object c.self.inside.chunks c.self.inside.tiles c.self.inside.spare c.self.invariant.stored c.args.self.now.space (ap (λ (s : FitStore). s.space) c.self.view_is)
     c.object-object.result (g.M.MemoryObject.object c.args.memory) c.args.offset c.args.size c.object-object.ensures c.in-Some.place c.in-Some.ensures slot span)
 
--- It is another one, and goes.
+-- It is another one, and is removed.
 
 pub let_chunk_go-requires-clause-kept : goal.let_chunk_go-requires-clause-kept
 let_chunk_go-requires-clause-kept g c = keeps_kept c.put_back.new.nodes c.leave.new.nodes c.leave.ensures.keeps (chunk_size_in c.self.inside.chunks) c.put_back.ensures.kept

@@ -7,7 +7,7 @@ use Rattle.gpu_alloc_base.specs.Accounts.{Account, account}
 use Rattle.gpu_alloc_base.specs.Case.{Answers}
 use Rattle.gpu_alloc_freelist.specs.FreeListAllocator.{alignment, list_case}
 use Rattle.gpu_alloc_base.proofs.Books.{answers_counted, answers_total, answers_within, refused_keeps}
-use Rattle.gpu_alloc_freelist.specs.FreeListState.{Listing}
+use Rattle.gpu_alloc_freelist.specs.FreeListState.{FreeListState}
 use Rattle.gpu_alloc_base.specs.declared.error.AllocationError.{AllocationError}
 use Rattle.gpu_alloc_base.specs.declared.free_list_block.Slot.{Slot}
 use Rattle.gpu_alloc_freelist.proofs.FreeListAnswers.{IsRoundedTo, rounds, keeps_books, answers_agree, answers_granted, answers_sound}
@@ -18,10 +18,10 @@ use Rattle.gpu_alloc_freelist.proofs.freelist.FreeListAllocator.alloc.Goals.{Aft
 use Rattle.gpu_alloc_freelist.proofs.freelist.FreeListAllocator.alloc.Goals as goal
 
 -- what changes, before the call and after it
-abbrev old : (g : Over) → After-alloc_rounded g → Account Listing
+abbrev old : (g : Over) → After-alloc_rounded g → Account FreeListState
 old g c = account c.args.self.now c.args.heap.now c.args.allocations_remains.now
 
-abbrev new : (g : Over) → After-alloc_rounded g → Account Listing
+abbrev new : (g : Over) → After-alloc_rounded g → Account FreeListState
 new g c = account c.alloc_rounded.new.self c.alloc_rounded.new.heap c.alloc_rounded.new.allocations_remains
 
 -- what the request is rounded to
@@ -29,7 +29,7 @@ rounded_to : (g : Over) (c : After-alloc_rounded g)
     → IsRoundedTo c.args.self.now (wanted c.args.size c.args.align_mask (allocation_bits c.args.flags)) c.rounded_size-size.result (c.max-align_mask.result + 1)
 rounded_to g c =
     rounds c.args.self.now (wanted c.args.size c.args.align_mask (allocation_bits c.args.flags)) c.rounded_size-size.result (c.max-align_mask.result + 1) c.rounded_size-size.ensures.is
-    (omega (arith, c.max-align_mask.ensures, ap (λ (l : Listing). l.atom) c.self.view_is)) c.alloc_rounded.ensures.sound c.requires.nonempty c.requires.fits c.requires.alignment
+    (omega (arith, c.max-align_mask.ensures, ap (λ (l : FreeListState). l.atom) c.self.view_is)) c.alloc_rounded.ensures.sound c.requires.nonempty c.requires.fits c.requires.alignment
 
 pub returns-clause-agrees : goal.returns-clause-agrees
 returns-clause-agrees g c =
@@ -67,12 +67,12 @@ alloc_rounded-requires-clause-fits g c = record {
   nonempty = c.rounded_size-size.ensures.nonempty;
   fits = rw (c.rounded_size-size.ensures.is) c.requires.fits;
   alignment = rw (c.max-align_mask.ensures) (greater_mask c.args.align_mask c.self.inside.atom_mask c.requires.alignment c.self.invariant.atom);
-  aligned = omega (arith, c.max-align_mask.ensures, ap (λ (l : Listing). l.atom) c.self.view_is);
+  aligned = omega (arith, c.max-align_mask.ensures, ap (λ (l : FreeListState). l.atom) c.self.view_is);
 }
 
 -- the alignment that is used
 alignment_is : (g : Over) (c : After-alloc_rounded g) → c.max-align_mask.result + 1 ≡ alignment c.args.self.now (wanted c.args.size c.args.align_mask (allocation_bits c.args.flags))
-alignment_is g c = omega (arith, c.max-align_mask.ensures, ap (λ (l : Listing). l.atom) c.self.view_is)
+alignment_is g c = omega (arith, c.max-align_mask.ensures, ap (λ (l : FreeListState). l.atom) c.self.view_is)
 
 pub returns-clause-allocates : goal.returns-clause-allocates
 returns-clause-allocates g c =
@@ -86,12 +86,12 @@ returns-clause-allocates g c =
     )
 
 -- a refusal changes nothing
-kept_when_refused : (a now : Account Listing) (size alignment flags : ℕ) (es : List Event) (answer : Result Slot AllocationError) → Answers (list_case a size alignment flags) es answer now
+kept_when_refused : (a now : Account FreeListState) (size alignment flags : ℕ) (es : List Event) (answer : Result Slot AllocationError) → Answers (list_case a size alignment flags) es answer now
     → OnErr answer ((now.allocator ≡ a.allocator) × ((now.heap ≡ a.heap) × (now.remaining ≡ a.remaining)))
 kept_when_refused a now size alignment flags es (Ok slot) told = tt
 kept_when_refused a now size alignment flags es (Err e) told =
     let same = refused_keeps (list_case a size alignment flags) es e now told in
-    (ap (λ (x : Account Listing). x.allocator) same, (ap (λ (x : Account Listing). x.heap) same, ap (λ (x : Account Listing). x.remaining) same))
+    (ap (λ (x : Account FreeListState). x.allocator) same, (ap (λ (x : Account FreeListState). x.heap) same, ap (λ (x : Account FreeListState). x.remaining) same))
 
 pub returns-clause-refused : goal.returns-clause-refused
 returns-clause-refused g c =

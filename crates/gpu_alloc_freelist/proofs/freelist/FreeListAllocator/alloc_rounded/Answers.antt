@@ -4,8 +4,8 @@ use Rattle.gpu_alloc_base.specs.Accounts.{IsCounted, account}
 use Rattle.gpu_alloc_base.specs.Case.{Answers}
 use Rattle.gpu_alloc_freelist.specs.FreeListAllocator.{Agrees, ObjectsAfter, list_case}
 use Rattle.gpu_alloc_freelist.specs.FreeListInside.{listing_in}
-use Rattle.gpu_alloc_freelist.specs.FreeListSound.{IsSoundListing}
-use Rattle.gpu_alloc_freelist.specs.FreeListState.{Listing, ListSpace}
+use Rattle.gpu_alloc_freelist.specs.FreeListSound.{IsSoundFreeList}
+use Rattle.gpu_alloc_freelist.specs.FreeListState.{FreeListState, ListSpace}
 use Rattle.gpu_alloc_base.specs.declared.error.AllocationError.TheVariants.{OutOfHostMemory}
 use Rattle.gpu_alloc_freelist.specs.declared.freelist.FreeListAllocator.TheInside.{Inside}
 use Rattle.gpu_alloc_base.proofs.Unasked.{answers_unasked, asks_unrefused}
@@ -14,24 +14,24 @@ use Rattle.gpu_alloc_freelist.proofs.freelist.FreeListAllocator.alloc_rounded.Gi
 use Rattle.gpu_alloc_freelist.proofs.freelist.FreeListAllocator.alloc_rounded.Goals as goal
 
 -- the listing, its space being this
-abbrev over : (g : Over) → Inside g.row.M.Denot g.row.A.Denot → ListSpace → Listing
+abbrev over : (g : Over) → Inside g.row.M.Denot g.row.A.Denot → ListSpace → FreeListState
 over g a s = listing_in s a.chunk_size a.final_chunk_size a.memory_type (property_bits a.props) (a.atom_mask + 1)
 
 -- A block is cut from a held chunk.
 
 pub invariant_of-self : goal.invariant_of-self
 invariant_of-self g c =
-    let l : Listing = listing_in c.self.inside.freelist.space c.self.inside.chunk_size c.self.inside.final_chunk_size c.self.inside.memory_type (property_bits c.self.inside.props) (c.self.inside.atom_mask + 1) in
+    let l : FreeListState = listing_in c.self.inside.freelist.space c.self.inside.chunk_size c.self.inside.final_chunk_size c.self.inside.memory_type (property_bits c.self.inside.props) (c.self.inside.atom_mask + 1) in
     let rounded = rw (← c.self.view_is) at c.requires.fits in
     let took = rw (c.in-Ok-Some.field-0-is) at c.in-Ok-Some.ensures.takes in
     let asked = askable l c.args.size c.args.align_mask rounded in
-    subst (λ s. IsSoundListing (listing_in s c.self.inside.chunk_size c.self.inside.final_chunk_size c.self.inside.memory_type (property_bits c.self.inside.props) (c.self.inside.atom_mask + 1))) (sym took.1)
+    subst (λ s. IsSoundFreeList (listing_in s c.self.inside.chunk_size c.self.inside.final_chunk_size c.self.inside.memory_type (property_bits c.self.inside.props) (c.self.inside.atom_mask + 1))) (sym took.1)
     (sound_with_tail l c.args.size (c.args.align_mask + 1) c.in-Ok-Some.block c.self.invariant asked took.0)
 
 pub returns-in-Ok-Some-clause-answers : goal.returns-in-Ok-Some-clause-answers
 returns-in-Ok-Some-clause-answers g c =
     let took = rw (c.in-Ok-Some.field-0-is) at c.in-Ok-Some.ensures.takes in
-    let new : Listing = over g c.self.inside c.get_block.new.self.space in (
+    let new : FreeListState = over g c.self.inside c.get_block.new.self.space in (
       [],
       refl,
       subst (λ x. Answers (list_case (account x c.args.heap.now c.args.allocations_remains.now) c.args.size (c.args.align_mask + 1) (allocation_bits c.args.flags)) [] (Ok c.in-Ok-Some.block) (account new c.args.heap.now c.args.allocations_remains.now))
@@ -45,7 +45,7 @@ returns-in-Ok-Some-clause-objects g c =
     rw (← c.self.view_is, took.0.object.1) refl
 
 pub returns-in-Ok-Some-clause-sound : goal.returns-in-Ok-Some-clause-sound
-returns-in-Ok-Some-clause-sound g c = subst IsSoundListing c.self.view_is c.self.invariant
+returns-in-Ok-Some-clause-sound g c = subst IsSoundFreeList c.self.view_is c.self.invariant
 
 -- There is a place, but no host memory.
 
@@ -55,7 +55,7 @@ invariant_of-self-in-Err g c = rw (c.in-Err.ensures.takes.1) c.self.invariant
 pub returns-in-Err-clause-answers : goal.returns-in-Err-clause-answers
 returns-in-Err-clause-answers g c =
     let took = c.in-Err.ensures.takes in
-    let new : Listing = over g c.self.inside c.get_block.new.self.space in (
+    let new : FreeListState = over g c.self.inside c.get_block.new.self.space in (
       [],
       refl,
       subst (λ x. Answers (list_case (account x c.args.heap.now c.args.allocations_remains.now) c.args.size (c.args.align_mask + 1) (allocation_bits c.args.flags)) [] (Err OutOfHostMemory) (account new c.args.heap.now c.args.allocations_remains.now))
@@ -64,14 +64,14 @@ returns-in-Err-clause-answers g c =
     )
 
 pub returns-in-Err-clause-sound : goal.returns-in-Err-clause-sound
-returns-in-Err-clause-sound g c = subst IsSoundListing c.self.view_is c.self.invariant
+returns-in-Err-clause-sound g c = subst IsSoundFreeList c.self.view_is c.self.invariant
 
 -- There is none, and no chunk may be asked for.
 
 pub returns-in-Some-clause-answers : goal.returns-in-Some-clause-answers
 returns-in-Some-clause-answers g c =
     let took = rw (c.in-Ok-None.field-0-is) at c.in-Ok-None.ensures.takes in
-    let new : Listing = over g c.self.inside c.get_block.new.self.space in
+    let new : FreeListState = over g c.self.inside c.get_block.new.self.space in
     let flags = allocation_bits c.args.flags in
     let now = account new c.args.heap.now c.args.allocations_remains.now in
     let refused = answers_unasked (list_case now c.args.size (c.args.align_mask + 1) flags) tt (rw (took.1) took.0) c.in-Some.refusal (c.in-Some.ensures (c.args.align_mask + 1) flags) in
@@ -82,7 +82,7 @@ returns-in-Some-clause-answers g c =
     )
 
 pub returns-in-Some-clause-sound : goal.returns-in-Some-clause-sound
-returns-in-Some-clause-sound g c = subst IsSoundListing c.self.view_is c.self.invariant
+returns-in-Some-clause-sound g c = subst IsSoundFreeList c.self.view_is c.self.invariant
 
 -- A chunk is asked for.
 
@@ -107,7 +107,7 @@ pub take_chunk-requires-clause-counted : goal.take_chunk-requires-clause-counted
 take_chunk-requires-clause-counted g c =
     let took = rw (c.in-Ok-None.field-0-is) at c.in-Ok-None.ensures.takes in
     let same : over g c.self.inside c.get_block.new.self.space ≡ c.args.self.now = ap (over g c.self.inside) took.1 ∙ c.self.view_is in
-    subst (λ (x : Listing). IsCounted x.space.chunks c.args.heap.now c.args.allocations_remains.now) (sym same) c.requires.counted
+    subst (λ (x : FreeListState). IsCounted x.space.chunks c.args.heap.now c.args.allocations_remains.now) (sym same) c.requires.counted
 
 pub take_chunk-requires-clause-fits : goal.take_chunk-requires-clause-fits
 take_chunk-requires-clause-fits g c =
@@ -132,4 +132,4 @@ returns-in-None-clause-objects g c =
     subst (λ x. ObjectsAfter x c.take_chunk.result c.take_chunk.new.self (g.D.ObjectDevice.objects c.args.device.now) (g.D.ObjectDevice.objects c.take_chunk.new.device)) same c.take_chunk.ensures.objects
 
 pub returns-in-None-clause-sound : goal.returns-in-None-clause-sound
-returns-in-None-clause-sound g c = subst IsSoundListing c.self.view_is c.self.invariant
+returns-in-None-clause-sound g c = subst IsSoundFreeList c.self.view_is c.self.invariant

@@ -1,7 +1,7 @@
 use Rattle.std.proofs.Common.{◌+◌, true, subst}
 use Rattle.gpu_alloc_types.specs.Flags.{property_bits}
 use Rattle.gpu_alloc_base.specs.Accounts.{account}
-use Rattle.gpu_alloc_freelist.specs.FreeListAllocator.{CallLetsGo}
+use Rattle.gpu_alloc_freelist.specs.FreeListAllocator.{CallReleases}
 use Rattle.gpu_alloc_freelist.specs.FreeListInside.{listing_in}
 use Rattle.gpu_alloc_freelist.proofs.GoneChunks.{sound_without_slot}
 use Rattle.gpu_alloc_freelist.proofs.InHand.{frees_remove, frees_keep, frees_used}
@@ -13,7 +13,7 @@ invariant_of-self g c = rw (c.insert_uncounted.ensures.back) (sound_without_slot
 pub returns-clause-gives : goal.returns-clause-gives
 returns-clause-gives g c =
     let now = account c.let_chunks_go.new.self c.let_chunks_go.new.heap c.let_chunks_go.new.allocations_remains in
-    rw (← c.self.view_is) (subst (λ s. CallLetsGo g.D.ObjectDevice.step g.D.ObjectDevice.objects c.args.device.now c.let_chunks_go.new.device true
+    rw (← c.self.view_is) (subst (λ s. CallReleases g.D.ObjectDevice.step g.D.ObjectDevice.objects c.args.device.now c.let_chunks_go.new.device true
     (account (listing_in s c.self.inside.chunk_size c.self.inside.final_chunk_size c.self.inside.memory_type (property_bits c.self.inside.props) (c.self.inside.atom_mask + 1)) c.args.heap.now c.args.allocations_remains.now) now)
     c.insert_uncounted.ensures.back c.let_chunks_go.ensures.gives)
 

@@ -9,7 +9,7 @@ use Rattle.gpu_alloc_base.specs.FreeRuns.{IsFreeRun}
 use Rattle.gpu_alloc_base.specs.RangeOrder.{same_start}
 use Rattle.gpu_alloc_freelist.specs.FreeListAllocator.{object_of}
 use Rattle.gpu_alloc_freelist.specs.FreeListInside.{listing_in}
-use Rattle.gpu_alloc_freelist.specs.FreeListState.{Listing, IsFreeIn}
+use Rattle.gpu_alloc_freelist.specs.FreeListState.{FreeListState, IsFreeIn}
 use Rattle.gpu_alloc_base.specs.declared.region.FreeListRegion.{FreeListRegion}
 use Rattle.gpu_alloc_base.proofs.ListedRanges.{told_name, one_more, all_listed}
 use Rattle.gpu_alloc_freelist.proofs.WholeCounts.{count_all}
@@ -39,7 +39,7 @@ loop-region-preserved g c =
     let region = get_or regions i none in
     let held = is_held s region ((c.regions-regions.ensures.runs region).0 (Contains-get_or regions i none c.loop-region-test.true)) in
     let name : object_of s region.chunk ≡ c.object.result = told_name (map_of.get s.chunks region.chunk) c.object.result held (rw c.chunk.ensures (sym c.object.ensures)) in
-    let same = ap (λ (l : Listing). object_of l.space region.chunk) c.self.view_is in (
+    let same = ap (λ (l : FreeListState). object_of l.space region.chunk) c.self.view_is in (
       one_more (range_of c.args.self.now.space) regions i none _ c.loop-region.ranges.items c.push_reserved.new.self.items c.loop-region-test.true
           (λ k. record { object = (sym same ∙ name) k; start = region.start; end = region.end }) c.loop-region.invariant.0 c.push_reserved.ensures.items,
       (omega (arith, c.push_reserved.ensures.len, c.loop-region.invariant.1.0), omega (arith, c.push_reserved.ensures.capacity, c.loop-region.invariant.1.1)),
@@ -50,12 +50,12 @@ put_in_order-requires g c =
     let is = all_listed (range_of c.args.self.now.space) c.regions-regions.result.now c.loop-region.region-index c.loop-region.ranges.items (omega (arith, c.loop-region-test.false)) c.loop-region.invariant.0 in
     let apart = runs_apart (listing_in c.self.inside.freelist.space c.self.inside.chunk_size c.self.inside.final_chunk_size c.self.inside.memory_type (property_bits c.self.inside.props) (c.self.inside.atom_mask + 1)) c.self.invariant
     c.regions-regions.result.now c.regions-regions.ensures.runs c.regions-regions.ensures.rising in
-    subst (IsDistinct same_start) (ap (λ (l : Listing). map (range_of l.space) c.regions-regions.result.now) c.self.view_is ∙ sym is) apart
+    subst (IsDistinct same_start) (ap (λ (l : FreeListState). map (range_of l.space) c.regions-regions.result.now) c.self.view_is ∙ sym is) apart
 
 pub returns-clause-runs : goal.returns-clause-runs
 returns-clause-runs g c r =
     let is = all_listed (range_of c.args.self.now.space) c.regions-regions.result.now c.loop-region.region-index c.loop-region.ranges.items (omega (arith, c.loop-region-test.false)) c.loop-region.invariant.0 in
-    let runs = subst (λ (l : Listing). (q : FreeListRegion) → Contains c.regions-regions.result.now q ↔ IsFreeRun (IsFreeIn l.space) q.chunk q.start q.end) c.self.view_is c.regions-regions.ensures.runs in
+    let runs = subst (λ (l : FreeListState). (q : FreeListRegion) → Contains c.regions-regions.result.now q ↔ IsFreeRun (IsFreeIn l.space) q.chunk q.start q.end) c.self.view_is c.regions-regions.ensures.runs in
     let exact = all_runs c.args.self.now.space c.regions-regions.result.now runs r in
     let same = c.put_in_order.ensures.same r in (
       (λ has. exact.0 (subst (λ xs. Contains xs r) is (same.0 has))),
@@ -68,5 +68,5 @@ returns-clause-few g c =
     let is = all_listed (range_of c.args.self.now.space) c.regions-regions.result.now c.loop-region.region-index c.loop-region.ranges.items (omega (arith, c.loop-region-test.false)) c.loop-region.invariant.0 in
     let same = c.put_in_order.ensures.count (λ _. true) in
     let long = ap length is ∙ length-map c.regions-regions.result.now (range_of c.args.self.now.space) in
-    let few = subst (λ (l : Listing). length c.regions-regions.result.now ≤ set.len l.space.live + map_of.len l.space.chunks) c.self.view_is c.regions-regions.ensures.few in
+    let few = subst (λ (l : FreeListState). length c.regions-regions.result.now ≤ set.len l.space.live + map_of.len l.space.chunks) c.self.view_is c.regions-regions.ensures.few in
     omega (arith, few, same, long, count_all c.put_in_order.new.ranges.items, count_all c.loop-region.ranges.items)

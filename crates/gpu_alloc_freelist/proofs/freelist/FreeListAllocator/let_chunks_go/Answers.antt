@@ -18,11 +18,11 @@ loop-memory-init g c =
     let counted = rw (← c.self.view_is) at c.requires.counted in
     record { way = ([], [], refl, rw (← c.self.view_is) (begins c.self.invariant agreed counted)); properties = refl }
 
-pub let_go-requires-clause-counted : goal.let_go-requires-clause-counted
-let_go-requires-clause-counted g c = is_counted c.loop-memory.invariant.way.3 c.in-Some.field-0-2 _ c.in-Some.ensures.chunk c.in-Some.ensures.first
+pub release-requires-clause-counted : goal.release-requires-clause-counted
+release-requires-clause-counted g c = is_counted c.loop-memory.invariant.way.3 c.in-Some.field-0-2 _ c.in-Some.ensures.chunk c.in-Some.ensures.first
 
-pub let_go-requires-clause-fits : goal.let_go-requires-clause-fits
-let_go-requires-clause-fits g c = omega (arith, one_more_fits c.loop-memory.invariant.way.3 c.in-Some.field-0-2 _ c.in-Some.ensures.chunk c.in-Some.ensures.first)
+pub release-requires-clause-fits : goal.release-requires-clause-fits
+release-requires-clause-fits g c = omega (arith, one_more_fits c.loop-memory.invariant.way.3 c.in-Some.field-0-2 _ c.in-Some.ensures.chunk c.in-Some.ensures.first)
 
 pub loop-memory-smaller : goal.loop-memory-smaller
 loop-memory-smaller g c =
@@ -36,7 +36,7 @@ loop-memory-preserved g c =
         way.0 ++ c.in-Some.field-0-2 ∷ [],
         way.1 ++ Deallocated (g.M.MemoryObject.object c.in-Some.memory) ∷ [],
         chain_more g.D.ObjectDevice.step way.1 _ _ _ _ way.2 c.deallocate_memory.ensures,
-        rw c.let_go.ensures.count (goes_on_as {from = account c.args.self.now c.args.heap.now c.args.allocations_remains.now} way.3 c.in-Some.field-0-2 _ c.in-Some.ensures.chunk c.in-Some.ensures.first _ _ _ c.in-Some.ensures.gone c.let_go.ensures.ledger (g.met.D.ObjectDevice.row _ _ _ c.deallocate_memory.ensures)),
+        rw c.release.ensures.count (goes_on_as {from = account c.args.self.now c.args.heap.now c.args.allocations_remains.now} way.3 c.in-Some.field-0-2 _ c.in-Some.ensures.chunk c.in-Some.ensures.first _ _ _ c.in-Some.ensures.gone c.release.ensures.ledger (g.met.D.ObjectDevice.row _ _ _ c.deallocate_memory.ensures)),
       );
       properties = g.met.D.ObjectDevice.keeps_properties _ _ _ c.deallocate_memory.ensures ∙ c.loop-memory.invariant.properties;
     }

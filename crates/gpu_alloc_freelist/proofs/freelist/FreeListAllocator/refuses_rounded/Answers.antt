@@ -5,7 +5,7 @@ use Rattle.gpu_alloc_base.specs.Accounts.{account}
 use Rattle.gpu_alloc_freelist.specs.FreeList.{HasPlace}
 use Rattle.gpu_alloc_freelist.specs.FreeListAllocator.{list_case}
 use Rattle.gpu_alloc_freelist.specs.FreeListInside.{listing_in}
-use Rattle.gpu_alloc_freelist.specs.FreeListState.{Listing}
+use Rattle.gpu_alloc_freelist.specs.FreeListState.{FreeListState}
 use Rattle.gpu_alloc_base.proofs.Unasked.{refuses_unasked}
 use Rattle.gpu_alloc_freelist.proofs.freelist.FreeListAllocator.refuses_rounded.Goals as goal
 
@@ -19,5 +19,5 @@ pub returns : goal.returns
 returns g c = λ flags.
     let none : HasPlace (listing_in c.self.inside.freelist.space c.self.inside.chunk_size c.self.inside.final_chunk_size c.self.inside.memory_type (property_bits c.self.inside.props) (c.self.inside.atom_mask + 1)).space c.args.size (c.args.align_mask + 1) → ⊥ =
     iff_false c.has_place.ensures c.if-has_place.false in
-    refuses_unasked (list_case (account c.args.self.now c.args.heap.now c.args.allocations_remains) c.args.size (c.args.align_mask + 1) flags) tt (subst (λ (x : Listing). HasPlace x.space c.args.size (c.args.align_mask + 1) → ⊥) c.self.view_is none)
+    refuses_unasked (list_case (account c.args.self.now c.args.heap.now c.args.allocations_remains) c.args.size (c.args.align_mask + 1) flags) tt (subst (λ (x : FreeListState). HasPlace x.space c.args.size (c.args.align_mask + 1) → ⊥) c.self.view_is none)
     c.in_ok-refusal.refusal (c.in_ok-refusal.ensures (c.args.align_mask + 1) flags)

@@ -9,8 +9,8 @@ use Rattle.gpu_alloc_base.proofs.Books.{object_more, refused_chunk}
 use Rattle.gpu_alloc_base.proofs.Maps.{own_inserted}
 use Rattle.gpu_alloc_freelist.proofs.Spaces.{next_is_new}
 use Rattle.gpu_alloc_freelist.specs.FreeListInside.{listing_in}
-use Rattle.gpu_alloc_freelist.specs.FreeListSound.{IsSoundListing}
-use Rattle.gpu_alloc_freelist.specs.FreeListState.{Listing, ListSpace}
+use Rattle.gpu_alloc_freelist.specs.FreeListSound.{IsSoundFreeList}
+use Rattle.gpu_alloc_freelist.specs.FreeListState.{FreeListState, ListSpace}
 use Rattle.gpu_alloc_base.specs.NewChunk.{ChunkQuestion, HasOneChunkMore, chunk_question, made}
 use Rattle.std.specs.FinMap as map
 use Rattle.gpu_alloc_base.specs.Chunks.{Chunk}
@@ -44,7 +44,7 @@ returns-in-Err-clause-answers g c =
 
 pub invariant_of-self-3 : goal.invariant_of-self-3
 invariant_of-self-3 g c =
-    let l : Listing = listing_in c.self.inside.freelist.space c.self.inside.chunk_size c.self.inside.final_chunk_size c.self.inside.memory_type (property_bits c.self.inside.props) (c.self.inside.atom_mask + 1) in
+    let l : FreeListState = listing_in c.self.inside.freelist.space c.self.inside.chunk_size c.self.inside.final_chunk_size c.self.inside.memory_type (property_bits c.self.inside.props) (c.self.inside.atom_mask + 1) in
     let object = (g.M.MemoryObject.object c.in-Ok.handles.0) in
     let rounded = rw (← c.self.view_is) at c.requires.fits in
     let agrees = rw (← c.self.view_is) at c.requires.agrees in
@@ -52,7 +52,7 @@ invariant_of-self-3 g c =
     let asked = askable l c.args.size c.args.align_mask rounded in
     let is = grown_is l c.reserve.new.self.space c.begin-block.new.self.space c.begin-block.result object c.chunk_size_for-chunk_size.result c.min-self-inside.result c.args.size (c.args.align_mask + 1)
     c.reserve.ensures.kept c.begin-block.ensures.block c.begin-block.ensures.chunk c.chunk_size_for-chunk_size.ensures.is c.min-self-inside.ensures in
-    subst IsSoundListing (sym is) (sound_in_new_chunk l object c.args.size (c.args.align_mask + 1) c.self.invariant other asked)
+    subst IsSoundFreeList (sym is) (sound_in_new_chunk l object c.args.size (c.args.align_mask + 1) c.self.invariant other asked)
 
 pub invariant_of-self : goal.invariant_of-self
 invariant_of-self g c = rw (c.reserve.ensures.kept) c.self.invariant
@@ -95,7 +95,7 @@ hold-requires-clause-remains g c =
     asks.has.remains.objects
 
 -- the answer where a block was cut from the new chunk
-grown_answers : (l : Listing) (heap now : Heap) (remaining size alignment flags object whole next : ℕ) (s grown : ListSpace) (slot : Slot) (es : List Event) (q : ChunkQuestion) → s ≡ l.space → slot ≡ first_tail s object whole size alignment
+grown_answers : (l : FreeListState) (heap now : Heap) (remaining size alignment flags object whole next : ℕ) (s grown : ListSpace) (slot : Slot) (es : List Event) (q : ChunkQuestion) → s ≡ l.space → slot ≡ first_tail s object whole size alignment
     → grown ≡ with_slot (with_numbered_chunk s object whole) slot → whole ≡ chunk_size l size → next ≡ next_size l whole → now ≡ record heap { used = heap.used + whole } → q ≡ question l size flags → es ≡ made q object
     → Asks (list_case (account l heap remaining) size alignment flags) → Answers (list_case (account l heap remaining) size alignment flags) es (Ok slot) (account (record l { space = grown; next_chunk = next }) now (remaining - 1))
 grown_answers l heap now remaining size alignment flags object whole next s grown slot es q s_is slot_is grown_to whole_is next_is now_is q_is es_is asks =
@@ -113,7 +113,7 @@ grown_answers l heap now remaining size alignment flags object whole next s grow
 
 pub returns-clause-answers : goal.returns-clause-answers
 returns-clause-answers g c =
-    let l : Listing = listing_in c.self.inside.freelist.space c.self.inside.chunk_size c.self.inside.final_chunk_size c.self.inside.memory_type (property_bits c.self.inside.props) (c.self.inside.atom_mask + 1) in
+    let l : FreeListState = listing_in c.self.inside.freelist.space c.self.inside.chunk_size c.self.inside.final_chunk_size c.self.inside.memory_type (property_bits c.self.inside.props) (c.self.inside.atom_mask + 1) in
     let asks = rw (← c.self.view_is) at c.requires.asks in
     let told = c.in-Ok.ensures.asks in
     let flags = allocation_bits c.args.flags in
@@ -130,7 +130,7 @@ returns-clause-answers g c =
     )
 
 -- and the device's objects
-grown_objects : (l : Listing) (size alignment flags object whole next : ℕ) (s grown : ListSpace) (slot : Slot) (q : ChunkQuestion) (f g : ℕ → Option Object) → IsSoundListing l → s ≡ l.space → slot ≡ first_tail s object whole size alignment
+grown_objects : (l : FreeListState) (size alignment flags object whole next : ℕ) (s grown : ListSpace) (slot : Slot) (q : ChunkQuestion) (f g : ℕ → Option Object) → IsSoundFreeList l → s ≡ l.space → slot ≡ first_tail s object whole size alignment
     → grown ≡ with_slot (with_numbered_chunk s object whole) slot → whole ≡ chunk_size l size → q ≡ question l size flags → HasOneChunkMore q object f g → ObjectsAfter l (Ok slot) (record l { space = grown; next_chunk = next }) f g
 grown_objects l size alignment flags object whole next s grown slot q f g sound s_is slot_is grown_is whole_is q_is more =
     let back : object ≡ slot.object = sym (ap (λ (x : Slot). x.object) slot_is) in
@@ -146,13 +146,13 @@ grown_objects l size alignment flags object whole next s grown slot q f g sound 
 
 pub returns-clause-objects : goal.returns-clause-objects
 returns-clause-objects g c =
-    let l : Listing = listing_in c.self.inside.freelist.space c.self.inside.chunk_size c.self.inside.final_chunk_size c.self.inside.memory_type (property_bits c.self.inside.props) (c.self.inside.atom_mask + 1) in
+    let l : FreeListState = listing_in c.self.inside.freelist.space c.self.inside.chunk_size c.self.inside.final_chunk_size c.self.inside.memory_type (property_bits c.self.inside.props) (c.self.inside.atom_mask + 1) in
     let flags = allocation_bits c.args.flags in
     let q : ChunkQuestion = chunk_question c.chunk_size_for-chunk_size.result c.self.inside.memory_type flags c.intersects-visible.result in
     let is = question_is l c.args.size c.chunk_size_for-chunk_size.result flags c.intersects-visible.result c.chunk_size_for-chunk_size.ensures.is c.intersects-visible.ensures in
     let before = g.D.ObjectDevice.objects c.args.device.now in
     let after = g.D.ObjectDevice.objects c.new_chunk_with_handle-made.new.device in
-    let new : Listing = record l { space = c.begin-block.new.self.space; next_chunk = c.min-self-inside.result } in
+    let new : FreeListState = record l { space = c.begin-block.new.self.space; next_chunk = c.min-self-inside.result } in
     subst (λ x. ObjectsAfter x (Ok c.begin-block.result) new before after) c.self.view_is
     (grown_objects l c.args.size (c.args.align_mask + 1) flags (g.M.MemoryObject.object c.in-Ok.handles.0) c.chunk_size_for-chunk_size.result c.min-self-inside.result c.reserve.new.self.space
     c.begin-block.new.self.space c.begin-block.result q before after c.self.invariant c.reserve.ensures.kept c.begin-block.ensures.block c.begin-block.ensures.chunk c.chunk_size_for-chunk_size.ensures.is is c.in-Ok.ensures.objects)

@@ -5,7 +5,7 @@ use Rattle.gpu_alloc_freelist.specs.Runs.{AreFewComparisons, StartsBefore}
 use Rattle.gpu_alloc_freelist.proofs.RunSearch.{IsHalved}
 use Rattle.gpu_alloc_freelist.proofs.freelist.runs.place_of.Given as goal
 
--- those before the window come before the block, those behind it do not, and it halves with each comparison
+-- those before the window come before the block, those after it do not, and it halves with each comparison
 abbrev pub invariant-loop-low : goal.invariant-loop-low
 invariant-loop-low g l = record {
   window : l.low ≤ l.high;

@@ -2,7 +2,7 @@ use Rattle.std.proofs.Common.{◌≡◌, ◌≤◌, length, vec_capacity}
 use Rattle.gpu_alloc_pairs.proofs.Empties.{AreEmpty}
 use Rattle.gpu_alloc_pairs.proofs.pairs.Pairs.new.Given as goal
 
--- so many lengths are there, of no pair, in room for all
+-- that many lengths are there, of no pair, in room for all
 abbrev pub invariant-loop : goal.invariant-loop
 invariant-loop g l = record {
   count : length l.lengths.items ≡ l.counter;

@@ -2,7 +2,7 @@ use Rattle.std.proofs.Common.{◌≡◌, ◌≤◌, length, map, take, vec_len, 
 use Rattle.gpu_alloc_pairs.specs.Store.{piece_range}
 use Rattle.gpu_alloc_pairs.proofs.pairs.Pairs.ranges.Given as goal
 
--- so many were listed, in room for all
+-- that many were listed, in room for all
 abbrev pub invariant-loop-piece : goal.invariant-loop-piece
 invariant-loop-piece g l =
     (l.ranges.items ≡ map (piece_range l.fn.self.space) (take l.piece-index l.piece-items))

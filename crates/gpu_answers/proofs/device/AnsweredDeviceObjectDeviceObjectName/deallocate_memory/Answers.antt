@@ -2,14 +2,14 @@ use Rattle.std.proofs.Common.{refl, subst, sym}
 use Rattle.std.specs.FinMap as map
 use Rattle.gpu_alloc_types.specs.Device.{IsHeld}
 use Rattle.gpu_answers.specs.Device.{objects_of}
-use Rattle.gpu_answers.proofs.Rows.{let_go_row, shown_is_there}
+use Rattle.gpu_answers.proofs.Rows.{release_row, shown_is_there}
 use Rattle.gpu_answers.proofs.device.AnsweredDeviceObjectDeviceObjectName.deallocate_memory.Goals as goal
 
 pub returns : goal.returns
 returns c =
-    let gone = c.let_go.ensures in
+    let gone = c.release.ensures in
     rw (← c.self.view_is) (record {
-      row = let_go_row c.self.inside.properties c.self.inside.held.objects c.args.memory.now c.let_go.new.self.objects
+      row = release_row c.self.inside.properties c.self.inside.held.objects c.args.memory.now c.release.new.self.objects
           gone.objects;
       offers = refl;
       answers = refl;

@@ -1,4 +1,4 @@
--- The tail of a run is cut off, or the run goes whole where it starts with the tail.
+-- The tail of a run is cut off, or the run is removed whole where it starts with the tail.
 use Rattle.std.proofs.Common.{◌≡◌, inl, inr, ℕ, ◌<◌, ◌≤◌, List, length, get_or, set, ◌∙◌, ap, refl, subst, arith}
 use Rattle.std.specs.List.{remove}
 use Rattle.std.proofs.lemmas.List.{get_or_default}

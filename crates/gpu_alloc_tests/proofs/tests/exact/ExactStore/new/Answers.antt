@@ -2,7 +2,7 @@ use Rattle.std.proofs.Common.{refl, subst, arith}
 use Rattle.std.specs.FinMap as map
 use Rattle.std.specs.Ordering.{nat_cmp}
 use Rattle.gpu_alloc.specs.Chunks.{Chunk}
-use Rattle.gpu_alloc_fit.specs.FitSound.{IsSoundFitting}
+use Rattle.gpu_alloc_fit.specs.FitSound.{IsSoundFit}
 use Rattle.gpu_alloc_tests.proofs.EmptyMaps.{nothing_added}
 use Rattle.gpu_alloc_tests.proofs.tests.exact.ExactStore.new.Goals as goal
 
@@ -15,5 +15,5 @@ invariant_of-result c =
         same = refl;
         holds = λ key. rw (map.get-empty {K = _} {X = Chunk} nat_cmp key) tt;
       },
-      (record { ledger = omega (arith, nothing_added (λ (chunk : Chunk). chunk.size)); objects = omega (arith, none) }, (omega (arith, none), (subst IsSoundFitting c.new-allocator.ensures.opened c.new-allocator.ensures.sound, refl))),
+      (record { ledger = omega (arith, nothing_added (λ (chunk : Chunk). chunk.size)); objects = omega (arith, none) }, (omega (arith, none), (subst IsSoundFit c.new-allocator.ensures.opened c.new-allocator.ensures.sound, refl))),
     )

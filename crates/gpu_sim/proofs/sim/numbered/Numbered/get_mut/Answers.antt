@@ -7,7 +7,7 @@ use Rattle.gpu_alloc_base.proofs.Names.{get_entries, put_by_name}
 use Rattle.gpu_sim.proofs.sim.numbered.Numbered.get_mut.Goals as goal
 use borrow.Follows.Closed.{read_of}
 
--- what a loan ends as is asked at a value that is lent, or else where none is
+-- two loans end alike if they agree on a value that is lent, and without one
 same_end : {D E : Type 0} (r : Option (MutBor E)) (F G : E → D) (v w : D) → (IsSome r → F ≡ G) → v ≡ w → read_of (ghost_name_of r) F v ≡ read_of (ghost_name_of r) G w
 same_end None F G v w lent kept = rw kept refl
 same_end (Some x) F G v w lent kept = rw (lent refl) refl

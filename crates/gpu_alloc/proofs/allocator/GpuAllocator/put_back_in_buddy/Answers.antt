@@ -3,8 +3,8 @@ use Rattle.gpu_alloc_base.specs.Accounts.{account}
 use Rattle.gpu_alloc.proofs.Linked.{consistent}
 use Rattle.gpu_alloc.proofs.Buddies.Returns.{Given, put_back_given, known_type, leaf_found, agrees_before, counted_first, IsReturned, back}
 use Rattle.gpu_alloc.proofs.Soundness.{sound_is}
-use Rattle.gpu_alloc.proofs.allocator.GpuAllocator.put_back_in_chunk.Given.{Over}
-use Rattle.gpu_alloc.proofs.allocator.GpuAllocator.put_back_in_chunk.Goals as goal
+use Rattle.gpu_alloc.proofs.allocator.GpuAllocator.put_back_in_buddy.Given.{Over}
+use Rattle.gpu_alloc.proofs.allocator.GpuAllocator.put_back_in_buddy.Goals as goal
 use Rattle.gpu_alloc.proofs.Wholes.{one_read}
 use Rattle.gpu_alloc.proofs.Consistency.{heap_there}
 use Rattle.gpu_alloc.proofs.HandedOn.{below}

@@ -1,7 +1,7 @@
 use Rattle.std.proofs.Common.{arith}
 use Rattle.gpu_alloc_base.proofs.Names.{len_removed}
-use Rattle.gpu_answers.proofs.Keeping.{held_in, kept-let_go}
-use Rattle.gpu_answers.proofs.held.HeldObjects.let_go.Goals as goal
+use Rattle.gpu_answers.proofs.Keeping.{held_in, kept-release}
+use Rattle.gpu_answers.proofs.held.HeldObjects.release.Goals as goal
 
 pub push_reserved-requires : goal.push_reserved-requires
 push_reserved-requires c =
@@ -14,4 +14,4 @@ pub invariant_of-self : goal.invariant_of-self
 invariant_of-self c =
     let there = held_in _ _ c.args.memory.now c.self.view_is c.requires in
     rw (c.push_reserved.ensures.items, c.push_reserved.ensures.len, c.push_reserved.ensures.capacity, c.remove.ensures.objects, c.object-name.ensures)
-    (kept-let_go _ _ _ _ _ c.self.invariant c.args.memory.now there.0 there.1)
+    (kept-release _ _ _ _ _ c.self.invariant c.args.memory.now there.0 there.1)

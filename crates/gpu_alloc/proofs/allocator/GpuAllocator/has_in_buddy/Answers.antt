@@ -1,5 +1,5 @@
 use Rattle.gpu_alloc.proofs.WholeOwned.{found_owned, unknown_unowned}
-use Rattle.gpu_alloc.proofs.allocator.GpuAllocator.has_in_chunk.Goals as goal
+use Rattle.gpu_alloc.proofs.allocator.GpuAllocator.has_in_buddy.Goals as goal
 
 pub returns-in-Some : goal.returns-in-Some
 returns-in-Some g c =
