@@ -68,8 +68,9 @@ case $(uname -s) in
         cp "$at"/bin/*.dll "$out"
         draws "$at/bin/wallthyme-picture.exe"
         if command -v cl > /dev/null; then
-            (cd "$out" && cl -nologo -std:c11 -I"$at/include" "$at/examples/example.c" "$at/lib/wallthyme.lib" -Fe:cl.exe &&
-                cl -nologo -std:c11 -DWT_DLL -I"$at/include" "$at/examples/example.c" "$at/lib/wallthyme.dll.lib" \
+            (cd "$out" && cl -nologo -std:c11 -I"$at/include" "$at/examples/first_use.c" "$at/lib/wallthyme.lib" \
+                -Fe:cl.exe &&
+                cl -nologo -std:c11 -DWT_DLL -I"$at/include" "$at/examples/first_use.c" "$at/lib/wallthyme.dll.lib" \
                     -Fe:cl_dll.exe)
             greets "built by cl" "$out/cl.exe"
             greets "built by cl with the DLL" "$out/cl_dll.exe"
@@ -88,16 +89,16 @@ case $(uname -s) in
             "DLLS=$at/bin/wallthyme.dll $at/bin/wallthyme-vulkan.dll" "$left"
         ;;
     Darwin)
-        cc -I"$at/include" "$at/examples/example.c" "$at/lib/libwallthyme.a" -o "$out/example"
-        greets "built by cc" "$out/example"
+        cc -I"$at/include" "$at/examples/first_use.c" "$at/lib/libwallthyme.a" -o "$out/first_use"
+        greets "built by cc" "$out/first_use"
         cc -O2 "$at/src/wallthyme_picture.c" -o "$out/wallthyme-picture"
         draws "$out/wallthyme-picture"
         tests static "$at/lib/libwallthyme.a" \
             'WITHOUT=scarce,misuse_vulkan:this linker replaces no calls;stack,memory,size:macOS does not say it so'
         ;;
     *)
-        cc -I"$at/include" "$at/examples/example.c" "$at/lib/libwallthyme.a" -o "$out/example"
-        greets "built by cc" "$out/example"
+        cc -I"$at/include" "$at/examples/first_use.c" "$at/lib/libwallthyme.a" -o "$out/first_use"
+        greets "built by cc" "$out/first_use"
         draws "$at/bin/wallthyme-picture"
         tests static "$at/lib/libwallthyme.a"
         ;;

@@ -51,6 +51,16 @@ static void create_for_host(wtv_allocator *memory, resources *r, blocks *b)
     MUST(wtv_create_buffer(memory, &read_back, &download, &r->read_back, &b->read_back, NULL));
 }
 
+/* What reports and their pictures call the blocks. */
+static void name_blocks(wtv_allocator *memory, const blocks *b)
+{
+    MUST(wtv_set_name(memory, b->vertices, "vertices"));
+    MUST(wtv_set_name(memory, b->texture, "texture"));
+    MUST(wtv_set_name(memory, b->target, "target"));
+    MUST(wtv_set_name(memory, b->staging, "staging"));
+    MUST(wtv_set_name(memory, b->read_back, "read back"));
+}
+
 static void write_staging(wtv_allocator *memory, wtv_allocation staging)
 {
     static unsigned char texels[TEXTURE_BYTES];
@@ -87,6 +97,7 @@ int main(void)
     wtv_allocator *memory = create_allocator(&d);
     create_for_device(memory, &r, &b);
     create_for_host(memory, &r, &b);
+    name_blocks(memory, &b);
     write_staging(memory, b.staging);
     draw(&d, &r);
     MUST(wtv_read(memory, b.read_back, 0, pixels, sizeof pixels));

@@ -20,15 +20,23 @@ static void draw_picture(device &d) {
     const Image target = memory.create_image(
         image_info(TARGET_SIDE, VK_IMAGE_USAGE_COLOR_ATTACHMENT_BIT | VK_IMAGE_USAGE_TRANSFER_SRC_BIT),
         request(WT_USAGE_FAST_DEVICE_ACCESS));
-    const Buffer staging =
-        memory.create_buffer(buffer_info(STAGED_VERTICES + sizeof VERTICES, VK_BUFFER_USAGE_TRANSFER_SRC_BIT),
-                             request(WT_USAGE_UPLOAD | WT_USAGE_TRANSIENT));
+    // An intent: the buffer's own usage and what the host does choose the memory. It stays mapped as long as it lives.
+    wtv_request written_in_order = request(WTV_USAGE_AUTO | WT_USAGE_TRANSIENT);
+    written_in_order.flags = WTV_HOST_ACCESS_SEQUENTIAL_WRITE | WTV_MAPPED;
+    const Buffer staging = memory.create_buffer(
+        buffer_info(STAGED_VERTICES + sizeof VERTICES, VK_BUFFER_USAGE_TRANSFER_SRC_BIT), written_in_order);
     const Buffer read_back = memory.create_buffer(buffer_info(TARGET_BYTES, VK_BUFFER_USAGE_TRANSFER_DST_BIT),
                                                   request(WT_USAGE_DOWNLOAD));
+    vertices.set_name("vertices");
+    texture.set_name("texture");
+    target.set_name("target");
+    staging.set_name("staging");
+    read_back.set_name("read back");
 
-    std::vector<unsigned char> texels(TEXTURE_BYTES), pixels(TARGET_BYTES);
-    fill_checkerboard(texels.data());
-    staging.write(0, texels.data(), texels.size());
+    std::vector<unsigned char> pixels(TARGET_BYTES);
+    fill_checkerboard(static_cast<unsigned char *>(staging.info().mapped));
+    const wtv_range texels = staging.range(0, TEXTURE_BYTES);
+    memory.flush(&texels, 1);
     staging.write(STAGED_VERTICES, VERTICES, sizeof VERTICES);
     const resources handles = {vertices.get(), texture.get(), target.get(), staging.get(), read_back.get()};
     draw(&d, &handles);

@@ -6,6 +6,10 @@
 #include <stdint.h>
 #include <vulkan/vulkan.h>
 
+#ifdef __cplusplus
+extern "C" {
+#endif
+
 typedef struct device {
     VkInstance instance;
     VkDebugUtilsMessengerEXT messenger;
@@ -27,4 +31,7 @@ void must(bool holds, const char *what);
 void device_open(device *d);
 void device_close(device *d);
 
+#ifdef __cplusplus
+}
+#endif
 #endif

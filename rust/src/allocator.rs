@@ -1,6 +1,7 @@
 //! The allocator: requests go in, blocks come out and are returned.
 
-use crate::block::{Memory, MemoryBlock, Parts, Shared, Start};
+use crate::asked::{no_import, refusal, Asked, Made};
+use crate::block::{Memory, MemoryBlock, Parts, Shared};
 use crate::config::{Config, Sharing};
 use crate::error::{AllocationError, NewError};
 use crate::ffi;
@@ -9,16 +10,12 @@ use crate::names::Names;
 use crate::objects::Objects;
 use crate::report::{report, Dropped, LiveBlock};
 use crate::request::{Dedicated, Request};
-use crate::types::{
-    AllocationFlags, DeviceMapError, DeviceProperties, MemoryDevice, MemoryPropertyFlags, MemoryType, OutOfMemory,
-};
+use crate::types::{DeviceProperties, MemoryDevice, MemoryPropertyFlags, MemoryType, OutOfMemory};
 use crate::usage::UsageFlags;
 use crate::vulkan::Resource;
 use std::fmt::{Debug, Formatter};
-use std::panic::{catch_unwind, AssertUnwindSafe};
 use std::sync::atomic::{AtomicU64, Ordering};
 use std::sync::Arc;
-use std::thread::panicking;
 
 /// Why a call panics over a heap.
 const NO_HEAP: &str = "`heap` has to be the index of one of the device's heaps";
@@ -31,6 +28,25 @@ static MADE: AtomicU64 = AtomicU64::new(0);
 /// The proved library decides which memory type serves a request and where the block lies. A [`MemoryDevice`] makes the
 /// memory objects. An allocator that is dropped while it holds memory objects is reported, with each live block
 /// ([`Dropped`]): first return each block, and call [`cleanup`](GpuAllocator::cleanup).
+///
+/// ```
+/// # use wallthyme::*;
+/// # unsafe fn show<M>(
+/// #     device: &impl MemoryDevice<M>,
+/// #     offered: DeviceProperties<'_>,
+/// # ) -> Result<(), Box<dyn std::error::Error>> {
+/// let mut allocator = GpuAllocator::try_new(Config::i_am_prototyping(), offered)?;
+/// let vertices = Request { size: 3000, align_mask: 255, usage: UsageFlags::FAST_DEVICE_ACCESS, memory_types: !0 };
+/// // SAFETY: `device` has what is `offered`, and is done with the block when it is returned.
+/// unsafe {
+///     let block = allocator.alloc(device, vertices)?;
+///     // Bind a buffer to `block.memory()` from `block.offset()` on, use it, and destroy it.
+///     allocator.dealloc(device, block);
+///     allocator.cleanup(device);
+/// }
+/// # Ok(())
+/// # }
+/// ```
 pub struct GpuAllocator<M> {
     library: Library,
     objects: Objects<M>,
@@ -93,6 +109,13 @@ impl<M> GpuAllocator<M> {
     /// As [`with_granularity`](GpuAllocator::with_granularity), with a choice how requests that are not
     /// [`UsageFlags::TRANSIENT`](crate::UsageFlags::TRANSIENT) share memory objects. (The other three share buddy
     /// chunks, as `gpu-alloc` does.)
+    ///
+    /// ```
+    /// # use wallthyme::*;
+    /// # fn show<M>(offered: DeviceProperties<'_>, granularity: u64) -> Result<GpuAllocator<M>, NewError> {
+    /// GpuAllocator::with_sharing(Config::i_am_prototyping(), offered, granularity, Sharing::Fit)
+    /// # }
+    /// ```
     ///
     /// # Errors
     ///
@@ -202,6 +225,19 @@ impl<M> GpuAllocator<M> {
     /// least. That size decides whether it gets an object of its own, but such an object has exactly the request's
     /// size. Where the granularity is 1, the block is the one that the other two calls give.
     ///
+    /// ```
+    /// # use wallthyme::*;
+    /// # unsafe fn show<M>(
+    /// #     allocator: &mut GpuAllocator<M>,
+    /// #     device: &impl MemoryDevice<M>,
+    /// # ) -> Result<MemoryBlock<M>, AllocationError> {
+    /// let usage = UsageFlags::FAST_DEVICE_ACCESS;
+    /// let texture = Request { size: 1 << 20, align_mask: 4095, usage, memory_types: !0 };
+    /// // SAFETY: `device` offers what the allocator was made with.
+    /// unsafe { allocator.alloc_optimal(device, texture, Some(Dedicated::Preferred)) }
+    /// # }
+    /// ```
+    ///
     /// # Errors
     ///
     /// As for `alloc`.
@@ -295,7 +331,7 @@ impl<M> GpuAllocator<M> {
         }
         self.own.extend(own);
         // SAFETY: the device is the objects', as the caller says, and done with the block.
-        unsafe { self.let_go(device) };
+        unsafe { self.release_gone(device) };
     }
 
     /// Sets the program's value of a block, which reports have ([`report`](GpuAllocator::report), [`Dropped`]): any
@@ -315,6 +351,16 @@ impl<M> GpuAllocator<M> {
 
     /// Gives a block a name in place of an earlier one, which reports have ([`report`](GpuAllocator::report),
     /// [`Dropped`]). It is copied, and kept until the block is returned. The empty text takes the name away.
+    ///
+    /// ```
+    /// # use wallthyme::*;
+    /// # fn show<M>(allocator: &mut GpuAllocator<M>, block: &mut MemoryBlock<M>) -> Result<(), OutOfMemory> {
+    /// allocator.set_name(block, "shadow map")?;
+    /// assert_eq!(block.name(), Some("shadow map"));
+    /// assert!(allocator.report()?.contains("shadow map"));
+    /// # Ok(())
+    /// # }
+    /// ```
     ///
     /// # Errors
     ///
@@ -373,6 +419,25 @@ impl<M> GpuAllocator<M> {
     /// A limit at or above the heap's size removes the limit. One below what is held refuses new objects and takes
     /// nothing away: blocks stay, and free bytes of held objects are given out. Imports count, and are never refused
     /// for it. When an object is made, and how large a shared one is, still depends on the heap's size.
+    ///
+    /// ```
+    /// # use std::borrow::Cow;
+    /// # use wallthyme::*;
+    /// # let offered = DeviceProperties {
+    /// #     memory_types: Cow::Borrowed(&[MemoryType { heap: 0, props: MemoryPropertyFlags::DEVICE_LOCAL }]),
+    /// #     memory_heaps: Cow::Borrowed(&[MemoryHeap { size: 8 << 30 }]),
+    /// #     max_memory_allocation_count: 4096,
+    /// #     max_memory_allocation_size: 1 << 30,
+    /// #     non_coherent_atom_size: 64,
+    /// #     buffer_device_address: false,
+    /// # };
+    /// // The device has one heap, of 8 GiB.
+    /// let mut allocator = GpuAllocator::<u64>::new(Config::i_am_prototyping(), offered);
+    /// allocator.set_heap_limit(0, 3 << 30);
+    /// assert_eq!(allocator.heap_limit(0), 3 << 30);
+    /// allocator.set_heap_limit(0, u64::MAX);
+    /// assert_eq!(allocator.heap_limit(0), 8 << 30);
+    /// ```
     ///
     /// # Panics
     ///
@@ -436,7 +501,7 @@ impl<M> GpuAllocator<M> {
     pub unsafe fn cleanup(&mut self, device: &impl MemoryDevice<M>) {
         self.library.cleanup();
         // SAFETY: the device is the objects', as the caller says, and no block is in them.
-        unsafe { self.let_go(device) };
+        unsafe { self.release_gone(device) };
     }
 
     /// # Safety
@@ -498,7 +563,7 @@ impl<M> GpuAllocator<M> {
     /// # Safety
     ///
     /// `device` is the objects', and done with them.
-    unsafe fn let_go(&mut self, device: &impl MemoryDevice<M>) {
+    unsafe fn release_gone(&mut self, device: &impl MemoryDevice<M>) {
         self.library.read_gone(&mut self.gone);
         if !self.gone.is_empty() {
             self.count();
@@ -557,151 +622,14 @@ fn place(block: &ffi::Block) -> LiveBlock {
     LiveBlock { key, user, name: None, size, object, offset, memory_type }
 }
 
-/// An object that was made for a request, where it is mapped, and whether it is for that request's block alone, and
-/// then for which resource.
-struct Made<M> {
-    memory: M,
-    start: Option<Start>,
-    own: bool,
-    made_for: Option<Resource>,
-}
-
-/// The device of a request. However the request ends, an object that was made for it and not taken is freed: after a
-/// refusal, and also where this crate or the device panics.
-struct Asked<'a, M, D: MemoryDevice<M>> {
-    /// The device of each question, which must be right for it.
-    device: &'a D,
-    made: Option<Made<M>>,
-}
-
-impl<M, D: MemoryDevice<M>> Drop for Asked<'_, M, D> {
-    fn drop(&mut self) {
-        if self.made.is_none() {
-            return;
-        }
-        // SAFETY: the request has ended, and the library has not taken the object that is still here.
-        let mut let_go = || unsafe { self.let_go() };
-        if panicking() {
-            // A second panic would end the process. There is nothing more to do with its cause.
-            drop(catch_unwind(AssertUnwindSafe(let_go)));
-        } else {
-            let_go();
-        }
-    }
-}
-
-impl<M, D: MemoryDevice<M>> Asked<'_, M, D> {
-    /// # Safety
-    ///
-    /// The question is the library's, of a device that offers what this one offers.
-    unsafe fn answer(&mut self, question: &ffi::Question) -> u32 {
-        match question.kind {
-            // SAFETY: as the caller says.
-            ffi::ALLOCATE => unsafe { self.allocate(question) },
-            // SAFETY: as the caller says.
-            ffi::MAP_MADE => unsafe { self.map_made(question) },
-            kind => unexpected("a question of wt_alloc", kind),
-        }
-    }
-
-    /// # Safety
-    ///
-    /// As for `answer`.
-    unsafe fn allocate(&mut self, question: &ffi::Question) -> u32 {
-        // SAFETY: the library goes on without what was made before, if something was.
-        unsafe { self.let_go() };
-        let mut flags = AllocationFlags::empty();
-        let own = question.flags & ffi::ALLOCATE_OWN != 0;
-        flags.set(AllocationFlags::DEVICE_ADDRESS, question.flags & ffi::ALLOCATE_DEVICE_ADDRESS != 0);
-        let (size, memory_type) = (question.size, question.memory_type);
-        // SAFETY: the memory type is the device's, and the size at least 1. `DEVICE_ADDRESS` is there if its feature is
-        // enabled.
-        let answer = unsafe {
-            match own {
-                true => self.device.allocate_own(size, memory_type, flags),
-                false => self.device.allocate_memory(size, memory_type, flags),
-            }
-        };
-        match answer {
-            Ok(memory) => {
-                let made_for = if own { self.device.made_for() } else { None };
-                self.made = Some(Made { memory, start: None, own, made_for });
-                ffi::GRANTED
-            }
-            Err(OutOfMemory::OutOfDeviceMemory) => ffi::NO_DEVICE_MEMORY,
-            Err(OutOfMemory::OutOfHostMemory) => ffi::NO_HOST_MEMORY,
-        }
-    }
-
-    /// # Safety
-    ///
-    /// As for `answer`.
-    unsafe fn map_made(&mut self, question: &ffi::Question) -> u32 {
-        let made = self.made.as_mut().expect("an object has to be made before it is mapped");
-        assert_eq!(question.offset, 0, "a shared object has to be mapped from its start on");
-        // SAFETY: the object is of a host-visible type and not mapped, and the range is all of it.
-        let error = match unsafe { self.device.map_memory(&mut made.memory, question.offset, question.size) } {
-            Ok(start) => {
-                made.start = Some(Start(start));
-                return ffi::GRANTED;
-            }
-            Err(error) => error,
-        };
-        // At once, and not when the request has ended: should the device panic over it, no block was granted yet.
-        // SAFETY: the library goes on without it, or refuses the request.
-        unsafe { self.let_go() };
-        match error {
-            DeviceMapError::OutOfDeviceMemory => ffi::NO_DEVICE_MEMORY,
-            DeviceMapError::OutOfHostMemory => ffi::NO_HOST_MEMORY,
-            DeviceMapError::MapFailed => ffi::DEVICE_MAP_FAILED,
-        }
-    }
-
-    /// Frees an object that was made, if there is one.
-    ///
-    /// # Safety
-    ///
-    /// The library has not taken it, and will not.
-    unsafe fn let_go(&mut self) {
-        if let Some(made) = self.made.take() {
-            // SAFETY: it was made here, and nothing but this has it.
-            unsafe { self.device.deallocate_memory(made.memory) };
-        }
-    }
-}
-
-/// Why a request was refused, or a panic where it is invalid.
-fn refusal(status: u32) -> AllocationError {
-    match status {
-        ffi::OUT_OF_DEVICE_MEMORY => AllocationError::OutOfDeviceMemory,
-        ffi::OUT_OF_HOST_MEMORY => AllocationError::OutOfHostMemory,
-        ffi::NO_COMPATIBLE_MEMORY_TYPES => AllocationError::NoCompatibleMemoryTypes,
-        ffi::TOO_MANY_OBJECTS => AllocationError::TooManyObjects,
-        ffi::BAD_ALIGNMENT => panic!("`align_mask` has to be one less than a power of two of at most 2^63"),
-        ffi::BAD_USAGE => panic!("each bit of `usage` has to have a name"),
-        ffi::NO_DEVICE_ADDRESS => panic!("`DEVICE_ADDRESS` needs the device's feature `buffer_device_address`"),
-        status => unexpected("wt_alloc", status),
-    }
-}
-
-#[track_caller]
-fn no_import(status: u32) -> ! {
-    match status {
-        ffi::NO_REMAINING => panic!("no memory objects remain: see `remaining_allocations` before an import"),
-        ffi::BAD_MEMORY_TYPE => panic!("an import's `memory_type` has to be one of the device's"),
-        ffi::BAD_SIZE => panic!("an import's `size` has to be at least 1"),
-        ffi::OUT_OF_HOST_MEMORY => panic!("too little host memory for an import"),
-        status => unexpected("wt_import", status),
-    }
-}
-
 #[cfg(test)]
 mod tests {
     use super::*;
-    use crate::types::{MappedMemoryRange, MemoryHeap};
+    use crate::types::{AllocationFlags, DeviceMapError, MappedMemoryRange, MemoryHeap};
     use crate::UsageFlags;
     use std::borrow::Cow;
     use std::cell::Cell;
+    use std::panic::{catch_unwind, AssertUnwindSafe};
     use std::ptr::NonNull;
 
     const PROPS: MemoryPropertyFlags = MemoryPropertyFlags::HOST_VISIBLE;

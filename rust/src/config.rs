@@ -64,13 +64,16 @@ impl Config {
 }
 
 /// How requests share objects if they are not of transient use
-/// ([`UsageFlags::TRANSIENT`](crate::UsageFlags::TRANSIENT)) and get no memory object of their own
-/// ([`GpuAllocator::with_sharing`](crate::GpuAllocator::with_sharing)).
+/// ([`UsageFlags::TRANSIENT`](crate::UsageFlags::TRANSIENT)) and get no memory object of their own.
+///
+/// [`GpuAllocator::with_sharing`](crate::GpuAllocator::with_sharing) and
+/// [`vulkan::Allocator::with_sharing`](crate::vulkan::Allocator::with_sharing) take the choice. The other constructors
+/// of `GpuAllocator` share buddy chunks, as `gpu-alloc` does; those of `vulkan::Allocator` share fit chunks, as
+/// `wtv_create` does without a configuration. The `Default` is `GpuAllocator`'s.
 #[derive(Clone, Copy, Debug, Default, PartialEq, Eq, Hash)]
 pub enum Sharing {
     /// In buddy chunks, as in `gpu-alloc`: each block has a power of two of bytes and starts at a multiple of its size.
-    /// For each memory type that it tries, a call looks at 63 lengths at most, however many blocks are live;
-    /// `alloc_held` looks twice at those of the type that serves.
+    /// For each memory type that it tries, a call looks at 63 lengths at most, however many blocks are live.
     #[default]
     Buddy,
 

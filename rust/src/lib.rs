@@ -20,6 +20,7 @@ compile_error!(concat!(
 ));
 
 mod allocator;
+mod asked;
 mod block;
 mod config;
 mod error;

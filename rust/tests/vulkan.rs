@@ -15,26 +15,31 @@ use std::sync::atomic::{AtomicI64, Ordering};
 use wallthyme::vulkan::{
     AllocationCallbacks, Allocator, Device, DeviceInfo, Enabled, Error, MemoryRequest, Resource, Tiling, VkResult,
 };
-use wallthyme::{Config, Dedicated, UsageFlags};
+use wallthyme::{Config, Dedicated, Sharing, UsageFlags};
 
-/// An allocator over this thread's plan.
-fn allocator(device: &vk::device::Device) -> Allocator {
+/// An allocator over this thread's plan, whose requests share memory objects so.
+fn allocator_with(device: &vk::device::Device, sharing: Sharing) -> Allocator {
     let mut info = DeviceInfo { get_instance_proc_addr: Some(pretend::over(device.get)), ..device.info() };
     info.enabled.set(Enabled::MEMORY_BUDGET, plan(|plan| plan.budget.is_some()));
     // SAFETY: the device outlives the allocator in each test, and offers what it says.
     let loaded = unsafe { Device::load(&info) }.expect("the driver has all functions");
-    Allocator::with_config(loaded, Config::i_am_potato()).expect("a driver has good properties")
+    Allocator::with_sharing(loaded, Config::i_am_potato(), sharing).expect("a driver has good properties")
+}
+
+fn allocator(device: &vk::device::Device) -> Allocator {
+    allocator_with(device, Sharing::Buddy)
 }
 
 #[test]
 fn drawn_resources() {
     let Some(device) = driver::open("drawn resources over Vulkan") else { return };
-    let mut world = World::new(&device, allocator(&device), 1);
-    world.run(300);
-    let counts = &world.counts;
-    assert!(counts.compared > 1 << 20 && counts.own > 10 && counts.refused == 0, "{counts:?}");
-    assert!(counts.intents > 50 && counts.mapped > 50 && counts.named > 50, "{counts:?}");
-    drop(world);
+    for sharing in [Sharing::Fit, Sharing::Buddy] {
+        let mut world = World::new(&device, allocator_with(&device, sharing), 1);
+        world.run(300);
+        let counts = &world.counts;
+        assert!(counts.compared > 1 << 20 && counts.own > 10 && counts.refused == 0, "{sharing:?} {counts:?}");
+        assert!(counts.intents > 50 && counts.mapped > 50 && counts.named > 50, "{sharing:?} {counts:?}");
+    }
     assert_eq!(device.close(), 0);
 }
 
@@ -42,15 +47,15 @@ fn drawn_resources() {
 #[test]
 fn drawn_resources_and_refusals() {
     let Some(device) = driver::open("drawn resources and refusals over Vulkan") else { return };
-    for percent in [5, 30] {
+    for (percent, sharing) in [(5, Sharing::Fit), (30, Sharing::Fit), (5, Sharing::Buddy), (30, Sharing::Buddy)] {
         plan(|plan| (plan.incoherent, plan.granularity, plan.percent) = (true, 1 << 16, percent));
         plan(|plan| plan.budget = Some([1 << 30, 0]));
-        let mut world = World::new(&device, allocator(&device), percent);
+        let mut world = World::new(&device, allocator_with(&device, sharing), percent);
         world.run(150);
         let counts = &world.counts;
-        assert!(counts.compared > 1 << 19 && counts.refused > 5 && counts.beside > 0, "{counts:?}");
-        assert!(counts.limits > 5 && counts.below > 5 && counts.limited > 5, "{counts:?}");
-        assert!(counts.intents > 20 && counts.mapped > 20 && counts.named > 20, "{counts:?}");
+        assert!(counts.compared > 1 << 19 && counts.refused > 5 && counts.beside > 0, "{sharing:?} {counts:?}");
+        assert!(counts.limits > 5 && counts.below > 5 && counts.limited > 5, "{sharing:?} {counts:?}");
+        assert!(counts.intents > 20 && counts.mapped > 20 && counts.named > 20, "{sharing:?} {counts:?}");
     }
     let refused = plan(|plan| plan.refused.clone());
     assert!(pretend::refusing_names().all(|call| refused.contains_key(call)), "{refused:?}");

@@ -95,12 +95,12 @@ def shortened(reasons):
 
 
 def judge_status(name):
-    """One check, which passes with status 0."""
+    """One check, which passes with status 0. Of one that fails its last lines are shown, which say why."""
 
     def judge(ran):
         if not ran.status:
             return Outcome(1, [])
-        return Outcome(0, [(name, [f"status {ran.status}", *f"{ran.out}{ran.said}".splitlines()])])
+        return Outcome(0, [(name, [f"status {ran.status}", *f"{ran.out}{ran.said}".splitlines()[1 - REASONS:]])])
     return judge
 
 

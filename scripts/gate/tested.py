@@ -17,7 +17,7 @@ from wine import windows
 
 # What is tested beside the library, and what makes and runs that.
 SCRIPTS = "inspected", "made", "platforms", "retargeted", "tested", "wine"
-FOLDERS = "c", "examples", *(f"scripts/gate/{name}.py" for name in SCRIPTS)
+FOLDERS = "c", "examples/first_use.c", "examples/triangle", "examples/vulkan", *(f"scripts/gate/{name}.py" for name in SCRIPTS)
 # Lines of `make check` that are not kept: what was made, and what another run would count otherwise.
 NOT_KEPT = "made ", "size: "
 # A line of the record for each file that was made, so that no other one takes its place.

@@ -92,7 +92,7 @@ class Trial:
     """An unpacked archive, with what it may find on this machine."""
 
     def __init__(self, given, stage, room):
-        self.given, self.stage, self.room, self.example = given, stage, room, stage / "examples/example.c"
+        self.given, self.stage, self.room, self.example = given, stage, room, stage / "examples/first_use.c"
         self.by_path, self.number = f"-I{stage}/include", stage.name.split("-")[1]
         home = room / "home"
         home.mkdir()
@@ -268,8 +268,9 @@ class Trial:
             return
         if self.given.is_windows:
             return self.over_vulkan_on_windows()
-        self.run("make", "-C", self.stage / "examples/vulkan", f"OUT={self.room}/vulkan")
-        say("the example over Vulkan builds; that it runs is for scripts/gate/vulkan")
+        plus = ["CXX=c++", "plus"] * self.has("the example over Vulkan in C++", "c++")
+        self.run("make", "-C", self.stage / "examples/vulkan", f"OUT={self.room}/vulkan", "all", *plus)
+        say(f"the example over Vulkan builds{', in C++ too' * bool(plus)}; that it runs is for scripts/gate/vulkan")
         if self.finds("libpng", "the triangle"):
             self.run("make", "-C", self.stage / "examples/triangle", f"OUT={self.room}/triangle")
             say("the triangle builds, in C and in C++")
@@ -294,9 +295,9 @@ class Trial:
     def over_vulkan_on_windows(self):
         """The examples, by vulkan-1.dll. They run where wine has a Vulkan driver."""
         given, headers = self.given, self.vulkan_headers()
-        for name in ("vulkan", "triangle"):
+        for name, *goals in (("vulkan", "all", "plus"), ("triangle",)):
             self.run("make", "-C", self.stage / f"examples/{name}", f"OUT={self.room}/{name}", f"CC={given.tool('CC')}",
-                     f"CXX={given.tool('CXX')}", f"CFLAGS=-O2 {headers}")
+                     f"CXX={given.tool('CXX')}", f"CFLAGS=-O2 {headers}", *goals)
         say("the example over Vulkan and the triangle, in C and in C++, build by mingw")
         if self.has("the example over Vulkan by CMake", "cmake"):
             self.build_over_vulkan(self.room / "vulkan/libvulkan-1.a", headers)
@@ -306,6 +307,7 @@ class Trial:
             if "vkCreateInstance" not in str(refusal):
                 raise
             return say("left out: that they run, since wine has no Vulkan driver here")
+        self.starts("vulkan/first_use_plus")
         for kind in ("static", "shared") if (self.room / "over").exists() else ():
             self.starts(f"over/built/over_{kind}")
         say("the example over Vulkan runs over wine's Vulkan driver")
@@ -342,6 +344,8 @@ class Trial:
         page = (crate / "README.md").read_text("utf-8")
         self.run("cargo", "test", "--offline", "--manifest-path", crate / "Cargo.toml", **target)
         say("the tests of the Rust crate pass; left out: that texts of errors are those of the proved program")
+        self.run("cargo", "run", "--offline", "--manifest-path", self.stage / "examples/rust/Cargo.toml", **target)
+        say("the first use in Rust runs from the archive's folder (on this machine)")
         self.write("project/Cargo.toml", CARGO.replace("CRATE", str(crate)))
         self.write("project/src/main.rs", re.search(r"^```rust\n(.*?)^```$", page, re.M | re.S)[1])
         self.run("cargo", "run", "--offline", "--manifest-path", "project/Cargo.toml", **target)

@@ -57,6 +57,25 @@ impl Drop for Created<'_> {
 /// One that is dropped frees each memory object that no block needs. Where blocks are live, their objects stay, and it
 /// is reported with each of them, as for a [`GpuAllocator`] ([`Dropped`](crate::Dropped)). Drop it before the
 /// `VkDevice` is destroyed (`vkDestroyDevice` wants each object of the device gone).
+///
+/// A buffer that stays mapped, which the host writes in order:
+///
+/// ```
+/// # use wallthyme::vulkan::{Allocator, BufferCreateInfo, Error, Intent, MemoryRequest};
+/// # unsafe fn show(allocator: &mut Allocator, info: &BufferCreateInfo, matrix: [f32; 16]) -> Result<(), Error> {
+/// let request = MemoryRequest { mapped: true, ..Intent::auto().sequential_write().into() };
+/// // SAFETY: the device allows such a buffer, and is done with it when it is destroyed.
+/// unsafe {
+///     let uniforms = allocator.create_buffer(info, request)?;
+///     let bytes = uniforms.block.mapped().expect("this intent wants host-visible memory");
+///     bytes.cast::<[f32; 16]>().write(matrix);
+///     let flushed = allocator.flush(&[(&uniforms.block, 0..64)]);
+///     // Commands read `uniforms.handle`.
+///     allocator.destroy_buffer(uniforms);
+///     flushed
+/// }
+/// # }
+/// ```
 #[derive(Debug)]
 pub struct Allocator {
     pub(super) device: Device,
@@ -64,27 +83,37 @@ pub struct Allocator {
 }
 
 impl Allocator {
-    /// Makes an allocator with the sizes of [`Device::default_config`], whose requests share fit chunks
-    /// ([`Sharing::Fit`]), as `wtv_create` does without a configuration.
+    /// Makes an allocator with the sizes of [`Device::default_config`]. Its requests share fit chunks
+    /// ([`Sharing::Fit`]), as those of `wtv_create` without a configuration.
     ///
     /// # Errors
     ///
     /// [`Error::New`]. Nothing is held then.
     pub fn new(device: Device) -> Result<Self, Error> {
         let config = device.default_config();
-        Allocator::with_sharing(device, config, Sharing::Fit)
+        Allocator::with_config(device, config)
     }
 
-    /// Makes an allocator with these sizes, whose requests share buddy chunks ([`Sharing::Buddy`]).
+    /// As [`new`](Allocator::new), with these sizes.
     ///
     /// # Errors
     ///
     /// [`Error::New`]. Nothing is held then.
     pub fn with_config(device: Device, config: Config) -> Result<Self, Error> {
-        Allocator::with_sharing(device, config, Sharing::Buddy)
+        Allocator::with_sharing(device, config, Sharing::Fit)
     }
 
-    /// Makes an allocator with these sizes, and this way to share memory objects.
+    /// As [`with_config`](Allocator::with_config), with a choice how requests share memory objects: [`Sharing::Fit`],
+    /// as the other two have it, or [`Sharing::Buddy`], as `gpu-alloc` does.
+    ///
+    /// ```
+    /// # use wallthyme::vulkan::{Allocator, Device, Error};
+    /// # use wallthyme::Sharing;
+    /// # fn show(device: Device) -> Result<Allocator, Error> {
+    /// let config = device.default_config();
+    /// Allocator::with_sharing(device, config, Sharing::Buddy)
+    /// # }
+    /// ```
     ///
     /// # Errors
     ///

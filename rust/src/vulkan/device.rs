@@ -154,8 +154,7 @@ impl Device {
     /// requests; free lists' chunks grow from U to 16 U. With [`Sharing::Fit`](crate::Sharing::Fit) there are fit
     /// chunks from U to 4 U, and objects of their own over U. With [`Sharing::Buddy`](crate::Sharing::Buddy) there are
     /// buddy chunks from U on, with blocks of at least 1 KiB, and objects of their own from 4 U on. From 8 GiB on this
-    /// is [`Config::i_am_prototyping`]. [`Allocator::new`](super::Allocator::new) takes fit chunks with it, and
-    /// [`Allocator::with_config`](super::Allocator::with_config) buddy chunks.
+    /// is [`Config::i_am_prototyping`].
     pub fn default_config(&self) -> Config {
         let local = self.memory_heaps().iter().filter(|heap| heap.flags & raw::HEAP_DEVICE_LOCAL != 0);
         let largest = local.map(|heap| heap.size).max();

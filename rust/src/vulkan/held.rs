@@ -77,6 +77,15 @@ impl Allocator {
     /// Gives a block a name in place of an earlier one, which reports have. The empty text takes it away. See
     /// [`GpuAllocator::set_name`](crate::GpuAllocator::set_name); [`MemoryBlock::name`] is its name.
     ///
+    /// ```
+    /// # use wallthyme::vulkan::{Allocator, Error, Image};
+    /// # fn show(allocator: &mut Allocator, target: &mut Image) -> Result<(), Error> {
+    /// allocator.set_name(&mut target.block, "shadow map")?;
+    /// assert!(allocator.report()?.contains("shadow map"));
+    /// # Ok(())
+    /// # }
+    /// ```
+    ///
     /// # Errors
     ///
     /// [`AllocationError::OutOfHostMemory`] in [`Error::Allocation`]. Nothing is changed then.

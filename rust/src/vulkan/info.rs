@@ -92,7 +92,14 @@ impl DeviceInfo {
 ///
 /// ```
 /// # use wallthyme::vulkan::{Intent, MemoryRequest};
+/// # use wallthyme::{Dedicated, MemoryPropertyFlags, UsageFlags};
 /// let staging = MemoryRequest { mapped: true, ..Intent::auto().sequential_write().into() };
+/// let target = MemoryRequest { dedicated: Some(Dedicated::Preferred), ..UsageFlags::FAST_DEVICE_ACCESS.into() };
+/// let read_back = MemoryRequest {
+///     required: MemoryPropertyFlags::HOST_VISIBLE,
+///     preferred: MemoryPropertyFlags::HOST_CACHED,
+///     ..MemoryRequest::default()
+/// };
 /// ```
 #[derive(Clone, Copy, Debug)]
 pub struct MemoryRequest {

@@ -12,6 +12,20 @@
 //! A [`UsageFlags`](crate::UsageFlags) or an [`Intent`] says what a block is for. A [`MemoryRequest`] says what else is
 //! asked of its memory.
 //!
+//! ```
+//! # use wallthyme::vulkan::{Allocator, Device, DeviceInfo, Error, ImageCreateInfo, Intent};
+//! # unsafe fn show(opened: &DeviceInfo, info: &ImageCreateInfo) -> Result<(), Error> {
+//! // SAFETY: `opened` has live handles. The device allows such an image, and is done with it when it is destroyed.
+//! unsafe {
+//!     let mut allocator = Allocator::new(Device::load(opened)?)?;
+//!     let texture = allocator.create_image(info, Intent::auto())?;
+//!     // Draw with `texture.handle`, and wait for the fence.
+//!     allocator.destroy_image(texture);
+//! }
+//! # Ok(())
+//! # }
+//! ```
+//!
 //! # Threads
 //!
 //! Vulkan lets each thread use a `VkDevice`. But only one thread at a time may use a memory object, a buffer or an

@@ -1,5 +1,5 @@
-"""The written scripts, of the files and families in tests/scripts: each with the replies that are wanted, and what is
-wrong with others."""
+"""The written scripts, of the files and families in tests/scripts and of examples/scripts: each with the replies that
+are wanted, and what is wrong with others."""
 import collections
 import glob
 import itertools
@@ -11,7 +11,7 @@ from language import COMMANDS, lines_of
 from promises import broken_by
 from proved import ROOT
 
-FOLDER = f"{ROOT}/tests/scripts"
+FOLDER, EXAMPLES = f"{ROOT}/tests/scripts", f"{ROOT}/examples/scripts"
 sys.path.append(FOLDER)
 import families
 
@@ -27,14 +27,20 @@ def read(path):
 
 def paths(ending):
     """The files with this ending, without it."""
-    return {path.removesuffix(ending) for path in glob.glob(f"{FOLDER}/**/*{ending}", recursive=True)}
+    found = [path for folder in (FOLDER, EXAMPLES) for path in glob.glob(f"{folder}/**/*{ending}", recursive=True)]
+    return {path.removesuffix(ending) for path in found}
+
+
+def name_of(stem):
+    """What a script is called, as bytes/coherent, or examples/scripts/first."""
+    return os.path.relpath(stem, FOLDER if stem.startswith(f"{FOLDER}/") else ROOT)
 
 
 def written(with_many):
     """The scripts by their names, each with the replies that are wanted; with the families of a thousand, if they are
     wanted too."""
     stems = sorted(paths(SCRIPT) & paths(REPLIES))
-    cases = {os.path.relpath(stem, FOLDER): (read(stem + SCRIPT), read(stem + REPLIES)) for stem in stems}
+    cases = {name_of(stem): (read(stem + SCRIPT), read(stem + REPLIES)) for stem in stems}
     for family in families.FAMILIES + (families.MANY if with_many else ()):
         for number, (script, replies) in enumerate(family(), 1):
             shown = f" {script!a}" if len(script) <= SHOWN else ""
@@ -63,10 +69,10 @@ def faults_of_files():
     """Which files lack the other one, or say nothing at their top."""
     for stem in sorted(paths(SCRIPT) ^ paths(REPLIES)):
         lacks = REPLIES if os.path.exists(stem + SCRIPT) else SCRIPT
-        yield f"{os.path.relpath(stem, FOLDER)}: it has no file {lacks}"
+        yield f"{name_of(stem)}: it has no file {lacks}"
     for stem in sorted(paths(SCRIPT)):
         if not re.match(rb"# \S", read(stem + SCRIPT)):
-            yield f"{os.path.relpath(stem, FOLDER)}: its first line is no comment that says why it stands"
+            yield f"{name_of(stem)}: its first line is no comment that says why it stands"
 
 
 def faults_of(script, wanted, came, status):

@@ -181,6 +181,35 @@ fn an_object_for_no_resource_takes_several() {
     }
 }
 
+/// Each constructor shares fit chunks, as `wtv_create` does without a configuration, unless buddy chunks are named.
+#[test]
+fn constructors_share_alike() {
+    let stub = stub!();
+    let device = stub.device();
+    let config = device.default_config();
+    for (made, size) in [
+        (Allocator::new(device.clone()), 256),
+        (Allocator::with_config(device.clone(), config), 256),
+        (Allocator::with_config(device.clone(), Config::i_am_potato()), 256),
+        (Allocator::with_sharing(device.clone(), config, Sharing::Fit), 256),
+        (Allocator::with_sharing(device.clone(), config, Sharing::Buddy), 1024),
+    ] {
+        let mut allocator = made.expect("the stub has good properties");
+        let first = buffer(&mut allocator, 100, LOCAL);
+        let second = buffer(&mut allocator, 3000, LOCAL);
+        let is_fit = size == 256;
+        assert_eq!((first.block.size(), second.block.size()), (size, if is_fit { 3072 } else { 4096 }));
+        // SAFETY: they are this allocator's, and no device uses them.
+        unsafe {
+            allocator.destroy_buffer(first);
+            allocator.destroy_buffer(second);
+        }
+        // One fit chunk stays, and no buddy chunk.
+        assert_eq!(stub.held().0, u64::from(is_fit));
+    }
+    stub.end();
+}
+
 /// A linear image lies beside buffers.
 #[test]
 fn a_linear_image_is_no_optimal_block() {
