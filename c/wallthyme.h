@@ -15,9 +15,9 @@
  * - Each live block is a range of a memory object, inside it, aligned as asked and at least as large. No two share a
  *   byte. In shared objects of memory that is not coherent, blocks begin and end at whole atoms, so none share one.
  * - A call that does not end in WT_OK changes nothing, and writes nothing to its pointers, but for *question at WT_ASK.
- * - Behind what a call writes to an array, the array stays as it is.
- * - WT_OK comes only where no misuse is. Each call but wt_open reports a misuse before WT_OUT_OF_HOST_MEMORY.
- * - Names of objects rise, and none comes twice. Each object is reported once to be freed, when no block needs it.
+ * - Past what a call writes to an array, the array stays as it is.
+ * - WT_OK comes only where there is no misuse. Each call but wt_open reports a misuse before WT_OUT_OF_HOST_MEMORY.
+ * - Names of objects rise, and no name comes twice. Each object is reported once to be freed, when no block needs it.
  * - After all blocks are freed and wt_cleanup, no object is held.
  * - The requested bytes of an optimal block share no page with a linear one (WT_OPTIMAL).
  * - No question exceeds a heap's limit. WT_ALLOCATE_OWN is set exactly where an object will hold one block, of its
@@ -51,7 +51,7 @@
  * - Sizes cost. A block in a buddy chunk is a power of two; one of a free list reaches from its start to the end of a
  *   free range, so a large alignment costs. With WT_CONFIG_PROTOTYPING 1,000 requests like a renderer's hold 1.5
  *   times what they ask, and 1.7 times after many exchanges; as WT_USAGE_TRANSIENT ones 1.0 to 1.1, and 1.5 times.
- *   In fit chunks (WT_FIT) a block is as long as asked, in whole grains: 1.13 to 1.14 times (doc/COSTS.md).
+ *   In fit chunks (WT_FIT) a block is as long as asked, in whole grains: 1.13 to 1.14 times (COSTS.md).
  * - WT_OUT_OF_DEVICE_MEMORY may come while memory is free, since a chunk is mostly larger than the request. Whoever
  *   writes a device asks once more then, unless the request has WT_REQUIRED or WT_HELD_ONLY: with no question so far,
  *   for an object of its own, of the memory types for which none was refused.
@@ -245,7 +245,7 @@ typedef struct wt_limits {
 enum { WT_BUDDY = 0, WT_FIT = 1 };
 
 /* The sizes that steer the allocator, in bytes, as in gpu-alloc's Config, and how requests share objects. Any sizes
-   serve. Zero it before you fill it, so that each field that you do not know is 0: sharing is then WT_BUDDY, as in an
+   will do. Zero it before you fill it, so that each field that you do not know is 0: sharing is then WT_BUDDY, as in an
    initialiser with seven numbers.
    A request gets an object of its own, a block of a buddy or fit chunk, or, with WT_USAGE_TRANSIENT, a block of a free
    list's chunk. From 1/32 of its heap on it always gets an object of its own. Sizes of chunks are cut to 1/32 of their
@@ -272,8 +272,8 @@ typedef struct wt_config {
     uint64_t sharing; /* WT_BUDDY or WT_FIT; any other number is refused (WT_BAD_PROPERTIES) */
 } wt_config;
 
-/* gpu-alloc's two configurations as initialisers, which share buddy chunks: one for little device memory, and one for a
-   start. */
+/* gpu-alloc's two configurations as initialisers, which share buddy chunks: one for little device memory, and one to
+   start with. */
 #define WT_CONFIG_POTATO { 32768, 1024, 131072, 8192, 131072, 1, 8192, WT_BUDDY }
 #define WT_CONFIG_PROTOTYPING { 33554432, 1048576, 134217728, 8388608, 134217728, 1024, 8388608, WT_BUDDY }
 
@@ -480,8 +480,8 @@ WT_API uint32_t wt_free_ranges(wt_allocator *a, uint32_t memory_type, size_t fir
 WT_API uint32_t wt_statistics(wt_allocator *a, uint32_t memory_type, wt_type_statistics *statistics);
 
 /* A report of all that is held, as JSON: heaps, memory types, sums by type and kind, and each object with its live
-   blocks (by key, with user and asked) and free ranges. wallthyme-picture draws it. At most room bytes
-   are written, from the start of the text, without a terminating 0. *length is the length of the whole text, so a call with room 0
+   blocks (by key, with user and asked) and free ranges. wallthyme-picture draws it. At most room bytes are written,
+   from the start of the text, without a terminating 0. *length is the length of the whole text, so a call with room 0
    returns how much room is needed. WT_NOT_OPEN, WT_OUT_OF_HOST_MEMORY. */
 WT_API uint32_t wt_report(wt_allocator *a, char *text, size_t room, size_t *length);
 

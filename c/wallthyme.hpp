@@ -14,7 +14,7 @@
  * Ownership. Each object can be moved, and not copied. One that was moved from is empty, like one that was created
  * without arguments: it may be assigned, reset or destroyed. Objects may end in any order: each keeps the C
  * allocator alive, which ends with the last one. That costs 8 bytes per object, and an atomic operation at its start
- * and its end. The program must ensure:
+ * and its end. The program must make sure of this:
  * - The VkDevice ends after all of them.
  * - The device is done with a buffer, image or block before it ends; what was bound to a Block is destroyed first.
  * - What it makes by calls of wallthyme_vulkan.h with get(), or takes by release(), it frees before the last object
@@ -101,7 +101,7 @@ inline wtv_create_info create_info(VkInstance instance, VkPhysicalDevice physica
     return made;
 }
 
-/* What is called where the last object over an allocator ends and blocks of it are live, as many as live says. The C
+/* What is called where the last object over an allocator ends while blocks of it are live: live is their number. The C
    allocator is the handler's then, with these blocks: it may look at them (wtv_blocks), free them and destroy the
    allocator (wtv_destroy), at once or later. It must not throw, and each thread may call it. */
 using LiveHandler = void (*)(wtv_allocator *allocator, std::size_t live);
@@ -128,7 +128,7 @@ inline void print_live(wtv_allocator *allocator, std::size_t live) {
     } while (count == room);
 }
 
-/* Where the handler of all allocators is: null, or what is called. */
+/* Where the handler of all allocators is kept: null, or what is called. */
 inline std::atomic<LiveHandler> &live_handler() noexcept {
 #ifdef NDEBUG
     static std::atomic<LiveHandler> handler(nullptr);

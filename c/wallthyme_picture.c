@@ -1,6 +1,6 @@
 /* Draws a report of a program's memory, as wtv_report_text and wt_report write it, as an SVG.
  *
- *     wallthyme-picture REPORT.json > picture.svg      (- or no word reads standard input)
+ *     wallthyme-picture REPORT.json > picture.svg      (- or no argument reads standard input)
  *
  * The picture is that of scripts/picture in Wallthyme's repository, byte for byte. The status is
  *
@@ -8,7 +8,7 @@
  *     1   a read or a write failed
  *     2   the text is no report: standard output has the cause, the line and the column, from 1 on, in bytes
  *     3   out of memory
- *     64  wrong words
+ *     64  wrong arguments
  *     66  the file cannot be opened
  *
  * One file of C99, which needs no other: cc -O2 wallthyme_picture.c -o wallthyme-picture. */

@@ -472,6 +472,11 @@ static bool is_served_alone(wtv_allocator *a, const wt_request *request, work *w
 static SELDOM VkResult serve_otherwise(wtv_allocator *a, const wt_request *request, uint32_t status,
                                        const wt_question *first, work *w, wt_block *block)
 {
+    work begun;
+    if (w == NULL) {
+        begun = (work){.result = VK_SUCCESS};
+        w = &begun;
+    }
     if (status == WT_ASK)
         status = ask_driver(a, request, first, w, block);
     VkResult result = ended(w, status);
@@ -479,7 +484,7 @@ static SELDOM VkResult serve_otherwise(wtv_allocator *a, const wt_request *reque
     return is_served ? VK_SUCCESS : result;
 }
 
-/* Serves a request, under the lock. Most ask nothing. */
+/* Serves a request, under the lock. Most ask nothing. One that is for no resource may come without work. */
 static inline VkResult serve(wtv_allocator *a, const wt_request *request, work *w, wt_block *block)
 {
     wt_question first;
@@ -714,13 +719,14 @@ static SELDOM VkResult serve_more(wtv_allocator *a, wt_request request, const wt
 
 /* ---- Allocations. ---- */
 
-static VkResult allocate(wtv_allocator *a, const VkMemoryRequirements *needs, const wtv_request *wish, work *w,
-                         wtv_allocation *allocation, wtv_block *told)
+/* A plain request that is for no resource may come without work. */
+static inline VkResult allocate(wtv_allocator *a, const VkMemoryRequirements *needs, const wtv_request *wish, work *w,
+                                bool is_plain, wtv_allocation *allocation, wtv_block *told)
 {
     wt_request request = request_of(a, needs, wish);
     wt_block block;
     enter(a);
-    VkResult result = w->is_plain ? serve(a, &request, w, &block) : serve_more(a, request, wish, w, &block);
+    VkResult result = is_plain ? serve(a, &request, w, &block) : serve_more(a, request, wish, w, &block);
     if (result == VK_SUCCESS) {
         *allocation = block.key;
         if (told != NULL)
@@ -737,17 +743,16 @@ static SELDOM VkResult allocate_more(wtv_allocator *a, const VkMemoryRequirement
 {
     work w = {.result = VK_SUCCESS};
     VkResult result = begin(&w, wish, OF_REQUEST | WT_OPTIMAL, false);
-    return result == VK_SUCCESS ? allocate(a, needs, wish, &w, allocation, told) : result;
+    return result == VK_SUCCESS ? allocate(a, needs, wish, &w, w.is_plain, allocation, told) : result;
 }
 
 VkResult wtv_allocate(wtv_allocator *a, const VkMemoryRequirements *requirements, const wtv_request *request,
                       wtv_allocation *allocation, wtv_block *block)
 {
     const wtv_request *wish = request != NULL ? request : &NO_WISH;
-    work w = {.is_plain = true};
     if (!is_plain(wish, OF_CORE))
         return allocate_more(a, requirements, wish, allocation, block);
-    return allocate(a, requirements, wish, &w, allocation, block);
+    return allocate(a, requirements, wish, NULL, true, allocation, block);
 }
 
 /* The requirements of the resource that a request is for, and the wish, raised to what the driver asks for. */
@@ -787,7 +792,7 @@ static VkResult allocate_and_bind(wtv_allocator *a, work *w, wtv_request wish, w
     wtv_block block;
     wtv_allocation key;
     VkMemoryRequirements needs = requirements_of(a, w, &wish);
-    VkResult result = allocate(a, &needs, &wish, w, &key, &block);
+    VkResult result = allocate(a, &needs, &wish, w, w->is_plain, &key, &block);
     if (result != VK_SUCCESS)
         return result;
     if ((wish.flags & WTV_DONT_BIND) == 0)

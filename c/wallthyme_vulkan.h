@@ -29,7 +29,7 @@
  * bytes are copied without it. WTV_CREATE_NO_LOCK leaves the lock out; the program then makes one call at a time. No
  * other call may run during wtv_destroy. VkAllocationCallbacks must not call the allocator that they serve.
  *
- * Memory. It takes its own memory from malloc. The most blocks and objects that were held at once bound how much.
+ * Memory. It takes its own memory from malloc. The most blocks and objects ever held at once bound how much.
  *
  * What the host writes and reads. Two rules of Vulkan concern every program:
  * - The host's writes reach the device once they are flushed, where the memory is not coherent, and commands are
@@ -240,14 +240,14 @@ WTV_API void wtv_default_config(const VkPhysicalDeviceMemoryProperties *memory, 
    Where the driver refuses an object with VK_ERROR_OUT_OF_DEVICE_MEMORY or VK_ERROR_TOO_MANY_OBJECTS, the next memory
    type is tried. Any other error ends the request. Where no memory type is left, the request is tried once more as with
    WT_REQUIRED, under the same hold of the lock, over the memory types for which no object of its own was refused. So
-   every memory type is tried shared before any is tried alone, and each block that is served so costs a memory object
+   every memory type is tried shared before any is tried alone, and each block served that way costs a memory object
    (maxMemoryAllocationCount). Where the second try fails too, for whatever cause, the result is that of the first one.
    There is no second try with WT_REQUIRED or WT_HELD_ONLY.
    With an intent, or preferred properties, each memory type is asked alone, and the second try comes before the next
    type. Where all are refused, the result is that of the first type asked.
    With WTV_MAPPED a refused mapping of a dedicated object counts as a refused object, for that memory type.
    After an error whatever was made is destroyed. Where the bind is refused, the block is freed as by wtv_free: an
-   unused chunk of transient blocks, or an unused fit chunk, may stay, or go that was held before. */
+   unused chunk of transient blocks, or an unused fit chunk, may stay, or one that was held before may go. */
 WTV_API VkResult wtv_create_buffer(wtv_allocator *a, const VkBufferCreateInfo *info, const wtv_request *request,
                                    VkBuffer *buffer, wtv_allocation *allocation, wtv_block *block);
 
@@ -275,21 +275,21 @@ WTV_API VkResult wtv_allocate(wtv_allocator *a, const VkMemoryRequirements *requ
    request has WT_OPTIMAL, and for a buffer whose address is used WT_USAGE_DEVICE_ADDRESS. What cannot be served, and
    which errors end a request, is as for wtv_create_buffer and wtv_create_image, but that no flag of the resource is
    checked. Where the bind is refused, the block is freed as by wtv_free: an unused chunk of transient blocks, or an
-   unused fit chunk, may stay, or go that was held before. The resource stays the program's. */
+   unused fit chunk, may stay, or one that was held before may go. The resource stays the program's. */
 WTV_API VkResult wtv_allocate_for_buffer(wtv_allocator *a, VkBuffer buffer, const wtv_request *request,
                                          wtv_allocation *allocation, wtv_block *block);
 WTV_API VkResult wtv_allocate_for_image(wtv_allocator *a, VkImage image, const wtv_request *request,
                                         wtv_allocation *allocation, wtv_block *block);
 
-/* Binds a buffer or an image to a block, from offset on. An image whose tiling is not linear wants a block with
+/* Binds a buffer or an image to a block, from offset on. An image whose tiling is not linear needs a block with
    WT_OPTIMAL, and any other resource one without. Several resources may lie in a block, one after the other or at once.
    But an object that was made for one resource (VkMemoryDedicatedAllocateInfo) keeps it, so its block takes no other
    one, and that one at offset 0 (VUID-vkBindBufferMemory-memory-01508, VUID-vkBindImageMemory-memory-02628). The calls
    above that allocate for a resource make such an object where wtv_block.dedicated is 1, with
    WTV_CREATE_DEDICATED_ALLOCATION; wtv_allocate makes none. Whether an imported object is one, only the program knows,
    and nothing checks.
-   VK_ERROR_VALIDATION_FAILED_EXT: offset is at or behind the requested bytes (wtv_block.asked), or the object was made
-   for another resource, or for this one and offset is not 0. Any other error is the driver's. */
+   VK_ERROR_VALIDATION_FAILED_EXT: offset is at or past the end of the requested bytes (wtv_block.asked), or the object
+   was made for another resource, or for this one and offset is not 0. Any other error is the driver's. */
 WTV_API VkResult wtv_bind_buffer(wtv_allocator *a, wtv_allocation allocation, VkDeviceSize offset, VkBuffer buffer);
 WTV_API VkResult wtv_bind_image(wtv_allocator *a, wtv_allocation allocation, VkDeviceSize offset, VkImage image);
 
@@ -311,8 +311,8 @@ WTV_API VkResult wtv_candidates(wtv_allocator *a, uint32_t usage, uint32_t memor
 WTV_API VkResult wtv_block_of(wtv_allocator *a, wtv_allocation allocation, wtv_block *block);
 
 /* Writes the live blocks, in the order of their places, as many as fit in room. *count is how many it wrote; where that
-   is less than room, there are no more. after is 0, or the allocation of the last block that the call before wrote. How
-   many are live in all says wtv_count. */
+   is less than room, there are no more. after is 0, or the allocation of the last block that the call before wrote.
+   wtv_count says how many are live in all. */
 WTV_API VkResult wtv_blocks(wtv_allocator *a, wtv_allocation after, wtv_block *blocks, size_t room, size_t *count);
 
 /* Sets the program's own value of a block. */
@@ -366,7 +366,7 @@ WTV_API VkResult wtv_count(wtv_allocator *a, wt_counts *counts);
 WTV_API VkResult wtv_statistics(wtv_allocator *a, uint32_t memory_type, wt_type_statistics *statistics);
 
 /* All that is held, as JSON that ends in a 0: the sums of each heap and memory type, or a report that also has each
-   object, which wallthyme-picture draws. Their members are told in doc/REPORTS.md. A named block has its name there.
+   object, which wallthyme-picture draws. doc/REPORTS.md describes their members. A named block has its name there.
    *text is the program's, which frees it with wtv_free_text. */
 WTV_API VkResult wtv_statistics_text(wtv_allocator *a, char **text);
 WTV_API VkResult wtv_report_text(wtv_allocator *a, char **text);
