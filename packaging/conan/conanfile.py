@@ -1,7 +1,7 @@
-"""A recipe for Conan 2 over a released archive. UNTRIED: Conan cannot be had where this was written.
+"""A recipe for Conan 2 over a released archive. UNTRIED: Conan was not available where this was written.
 
-Lay the archives for your platforms beside this file, and: conan create packaging/conan
-Programs find it by find_package(wallthyme), as without Conan.
+Put the archives for your platforms beside this file, then run: conan create packaging/conan
+Programs find it with find_package(wallthyme), as without Conan.
 """
 import os
 

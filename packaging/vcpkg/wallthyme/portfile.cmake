@@ -1,7 +1,7 @@
-# An overlay port over a released archive. UNTRIED: vcpkg cannot be had where this was written.
+# An overlay port over a released archive. UNTRIED: vcpkg was not available where this was written.
 #
-# Lay the archive for your triplet beside this file, and: vcpkg install wallthyme --overlay-ports=packaging/vcpkg
-# Programs find it by find_package(wallthyme), as without vcpkg.
+# Put the archive for your triplet beside this file, then run: vcpkg install wallthyme --overlay-ports=packaging/vcpkg
+# Programs find it with find_package(wallthyme), as without vcpkg.
 if(VCPKG_TARGET_ARCHITECTURE STREQUAL "x64")
     set(platform "x86_64")
 elseif(VCPKG_TARGET_ARCHITECTURE STREQUAL "arm64")
@@ -22,12 +22,12 @@ else()
 endif()
 set(archive "${CMAKE_CURRENT_LIST_DIR}/wallthyme-${VERSION}-${platform}.${ending}")
 if(NOT EXISTS "${archive}")
-    message(FATAL_ERROR "Lay the released archive beside the port: ${archive}")
+    message(FATAL_ERROR "Put the released archive beside the port: ${archive}")
 endif()
 vcpkg_extract_source_archive(unpacked ARCHIVE "${archive}")
 
 # One build serves both configurations, and has both kinds of libraries. Its files for CMake find the others from where
-# they lie, so they stay there.
+# they are, so they stay there.
 set(VCPKG_POLICY_DLLS_IN_STATIC_LIBRARY enabled)
 set(VCPKG_POLICY_SKIP_MISPLACED_CMAKE_FILES_CHECK enabled)
 set(VCPKG_POLICY_SKIP_LIB_CMAKE_MERGE_CHECK enabled)
