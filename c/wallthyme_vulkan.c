@@ -353,13 +353,13 @@ static VkResult make_object(wtv_allocator *a, work *w, const wt_question *questi
         address.pNext = info.pNext;
         info.pNext = &address;
     }
-    object *made = calloc(1, sizeof *made);
+    object *made = malloc(sizeof *made); /* (calloc of glibc has no fast path) */
     if (made == NULL || !has_room(&a->objects)) {
         free(made);
         return VK_ERROR_OUT_OF_HOST_MEMORY;
     }
+    *made = (object){.is_dedicated = is_dedicated};
     VkResult result = a->call.allocate_memory(a->device, &info, a->callbacks, &made->memory);
-    made->is_dedicated = is_dedicated;
     if (has_owner) {
         made->buffer = w->buffer;
         made->image = w->image;
