@@ -482,7 +482,7 @@ impl<M> GpuAllocator<M> {
     }
 
     /// A report of all that is held, as JSON: heaps, memory types, sums by type and kind, and each object with its live
-    /// blocks and free ranges. `scripts/picture` of Wallthyme's repository draws it. A named block has its name there.
+    /// blocks and free ranges. `wallthyme-picture` draws it. A named block has its name there.
     ///
     /// # Errors
     ///
