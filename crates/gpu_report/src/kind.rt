@@ -34,16 +34,15 @@ pub(crate) fn kind_report<M: MemoryObject, A: Allocator>(
     ensures sums { IfOk result (AreSums allocator.now (mapped held_entry_of held.now) live.now) }
     ensures of { IfOk result (λ k. part_told k ≡ part) }
 {
-    let live_sizes = part.live_sizes(alloc, held, live)?;
-    let asked_sizes = part.asked_sizes(alloc, held, live)?;
+    let sums = part.live_sums(held, live);
     let free_sizes = part.free_sizes(alloc, held, free)?;
     Ok(KindReport {
         memory_type: part.memory_type,
         kind: part.kind,
         objects: part.count(held),
-        live_blocks: live_sizes.len() as u64,
-        live_bytes: total(&live_sizes),
-        asked_bytes: total(&asked_sizes),
+        live_blocks: sums.blocks,
+        live_bytes: sums.bytes,
+        asked_bytes: sums.asked,
         free_bytes: total(&free_sizes),
         largest_free: greatest(&free_sizes),
         scattered: scattered(&free_sizes),

@@ -1,6 +1,6 @@
 //! Held objects by memory type and kind.
 
-ghost use Rattle.std.specs.Prelude.{◌≡◌, IfOk, length, map as mapped, nat_eq};
+ghost use Rattle.std.specs.Prelude.{◌≡◌, IfOk, length, map as mapped, nat_eq, sum};
 ghost use Rattle.std.specs.List.{IsDistinct};
 ghost use Rattle.std.specs.List.Sorted.{IsNonDecreasing};
 ghost use Rattle.std.specs.Map.{keys_of};
@@ -12,6 +12,7 @@ ghost use Rattle.gpu_report.specs.Live.{asked_sizes, live_sizes};
 ghost use Rattle.gpu_report.specs.Report.{is_chunk};
 
 use crate::held::find;
+use crate::sums::widened;
 use crate::{LiveBlock, ObjectKind};
 use gpu_alloc::spans::HeldRow;
 use gpu_alloc::{FreeRange, Kind};
@@ -62,6 +63,14 @@ pub(crate) struct Part {
     pub(crate) kind: ObjectKind,
 }
 
+/// What live blocks sum up to: how many they are, their sizes, and the bytes requested for them.
+#[derive(Clone, Copy)]
+pub(crate) struct LiveSums {
+    pub blocks: u64,
+    pub bytes: u128,
+    pub asked: u128,
+}
+
 impl Part {
     /// Whether an object is held as this.
     pub(crate) fn has(&self, row: &HeldRow) -> bool
@@ -93,44 +102,29 @@ impl Part {
         count
     }
 
-    /// The sizes of the live blocks in the held objects that are held as this, by name.
-    pub(crate) fn live_sizes(
-        &self,
-        alloc: Global,
-        held: &[(u64, HeldRow)],
-        live: &[LiveBlock],
-    ) -> Result<Vec<u64>, AllocError>
+    /// What the live blocks in the held objects that are held as this, by name, sum up to.
+    pub(crate) fn live_sums(&self, held: &[(u64, HeldRow)], live: &[LiveBlock]) -> LiveSums
         requires once { IsDistinct nat_eq (keys_of (mapped held_entry_of held.now)) }
         requires rising { IsNonDecreasing (keys_of (mapped held_entry_of held.now)) }
-        ensures { IfOk result (λ sizes. sizes.items ≡ live_sizes (mapped held_entry_of held.now) self.now live.now) }
+        ensures blocks { result.blocks ≡ length (live_sizes (mapped held_entry_of held.now) self.now live.now) }
+        ensures bytes { result.bytes ≡ sum (live_sizes (mapped held_entry_of held.now) self.now live.now) }
+        ensures asked { result.asked ≡ sum (asked_sizes (mapped held_entry_of held.now) self.now live.now) }
     {
-        let mut sizes = Vec::new(alloc);
+        let mut blocks = 0;
+        let mut bytes: u128 = 0;
+        let mut asked: u128 = 0;
         for block in live {
             if self.is_of(find(held, block.object)) {
-                sizes.push(block.size)?;
+                blocks += 1;
+                bytes += widened(block.size);
+                asked += widened(block.asked);
             }
         }
-        Ok(sizes)
-    }
-
-    /// How many bytes were requested for each live block in the held objects that are held as this, by name.
-    pub(crate) fn asked_sizes(
-        &self,
-        alloc: Global,
-        held: &[(u64, HeldRow)],
-        live: &[LiveBlock],
-    ) -> Result<Vec<u64>, AllocError>
-        requires once { IsDistinct nat_eq (keys_of (mapped held_entry_of held.now)) }
-        requires rising { IsNonDecreasing (keys_of (mapped held_entry_of held.now)) }
-        ensures { IfOk result (λ sizes. sizes.items ≡ asked_sizes (mapped held_entry_of held.now) self.now live.now) }
-    {
-        let mut sizes = Vec::new(alloc);
-        for block in live {
-            if self.is_of(find(held, block.object)) {
-                sizes.push(block.asked)?;
-            }
+        LiveSums {
+            blocks,
+            bytes,
+            asked,
         }
-        Ok(sizes)
     }
 
     /// The lengths of the free ranges in the held objects that are held as this, by name.

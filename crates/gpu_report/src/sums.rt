@@ -3,6 +3,14 @@
 ghost use Rattle.std.specs.Prelude.{◌≡◌, ◌≤◌, ◌*◌, ◌+◌, ◌<◌, ◌^◌, sum, length};
 ghost use Rattle.gpu_report.specs.Free.{largest, scattered, shorter, thousandths};
 
+/// A size as a summand, with what bounds a sum of such.
+pub(crate) fn widened(size: u64) -> u128
+    ensures is { result ≡ size }
+    ensures bound { result < 2 ^ 64 }
+{
+    u128::from(size)
+}
+
 /// The sum of sizes.
 pub(crate) fn total(sizes: &[u64]) -> u128
     ensures is { result ≡ sum sizes.now }
