@@ -1,17 +1,23 @@
 -- How many free runs are looked at for a request.
-use Rattle.std.proofs.Common.{◌≡◌, ◌≢◌, inl, inr, ℕ, ◌+◌, ◌-◌, ◌%◌, ◌<◌, ◌≤◌, sym, subst, arith}
+use Rattle.std.proofs.Common.{◌≡◌, ◌≢◌, inl, inr, ℕ, ◌+◌, ◌-◌, ◌%◌, ◌<◌, ◌≤◌, Result, Ok, Err, sym, subst, arith}
 use Rattle.std.specs.Prelude.{max}
 use Rattle.std.proofs.lemmas.Bool.{cases_eq, cases_lt}
+use Rattle.gpu_alloc_base.specs.Accounts.{account}
 use Rattle.gpu_alloc_base.specs.FreeSpace.{IsMultipleOf}
+use Rattle.gpu_alloc_base.specs.declared.free_list_block.Slot.{Slot}
+use Rattle.gpu_alloc_base.specs.declared.heap.Heap.{Heap}
 use Rattle.gpu_alloc_base.specs.declared.region.FreeListRegion.{FreeListRegion}
 use Rattle.gpu_alloc_base.proofs.Multiples.{mod_from_multiple, multiple_from_mod}
 use Rattle.gpu_alloc_fit.specs.Fit.{FitState}
+use Rattle.gpu_alloc_fit.specs.FitRule.{Looks, fit_rule}
 use Rattle.gpu_alloc_fit.specs.FitSound.{IsSoundFit}
 use Rattle.gpu_alloc_fits.specs.Choice.{AreFewLooks, BeginsClass, IsRun}
 use Rattle.gpu_alloc_fits.specs.Space.{FitSpace, IsFreeIn, LooksAtFew}
+use Rattle.gpu_alloc_shared.specs.Shared.{Counted, CountsRefusing}
+use Rattle.gpu_alloc_shared.specs.declared.store.Ask.{Ask}
 
 -- where nothing is looked for, nothing is looked at
-pub none_looked_at : (s : FitSpace) (size alignment looks : ℕ) → LooksAtFew s size alignment looks looks
+none_looked_at : (s : FitSpace) (size alignment looks : ℕ) → LooksAtFew s size alignment looks looks
 none_looked_at s size alignment looks = (
   0,
   (
@@ -30,6 +36,19 @@ none_looked_at s size alignment looks = (
     },
   ),
 )
+
+-- The looks of a request and of a test for its refusal, by the rule.
+
+module _ (f : FitState) (ask : Ask) (looks now : ℕ) where
+  pub looks_so : {E : Type 0} (whole splits after : ℕ) (answer : Result Slot E) → Counted fit_rule f ask whole answer looks now splits after → Looks f ask looks now
+  looks_so whole splits after (Ok slot) (inl took) = took
+  looks_so whole splits after (Ok slot) (inr made) = made.1.0
+  looks_so whole splits after (Err e) (inl unfit) = absurd (unfit.0 tt)
+  looks_so whole splits after (Err e) (inr tried) = tried.1
+
+  pub refusing_so : (heap : Heap) (remaining : ℕ) → CountsRefusing fit_rule (account f heap remaining) ask looks now → LooksAtFew f.space ask.size (ask.align_mask + 1) looks now
+  refusing_so heap remaining (inl looked) = looked.1.0
+  refusing_so heap remaining (inr none) = subst (LooksAtFew f.space ask.size (ask.align_mask + 1) looks) (sym none.1) (none_looked_at f.space ask.size (ask.align_mask + 1) looks)
 
 -- a free run starts with its chunk, or where a block ends
 starts_at_atom : (f : FitState) → IsSoundFit f → (r : FreeListRegion) → IsRun (IsFreeIn f.space) r → r.start % f.atom ≢ 0 → ⊥

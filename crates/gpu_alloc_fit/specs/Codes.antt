@@ -1,7 +1,8 @@
 -- How contracts see these values.
 use Rattle.std.specs.Prelude.{ℕ, refl}
 use Rattle.std.specs.Coded.{Coded, code_by, coded×, coded_ℕ}
-use Rattle.gpu_alloc_fit.specs.Fit.{FitState}
+use Rattle.gpu_alloc_fit.specs.FitState.{FitState}
+use Rattle.gpu_alloc_fit.specs.FitRule.{Stored}
 use Rattle.gpu_alloc_fits.specs.Codes.{fit_space_code}
 use Rattle.gpu_alloc_fits.specs.Space.{FitSpace}
 
@@ -18,4 +19,11 @@ fitting_code =
       props = c.1.1.1.0;
       atom = c.1.1.1.1;
     })
+    (λ _. refl)
+
+abbrev pub stored_code : Coded Stored
+stored_code =
+    code_by (FitState × (ℕ × ℕ)) (coded× fitting_code (coded× coded_ℕ coded_ℕ))
+    (λ s. (s.state, (s.chunk_room, s.tile_room)))
+    (λ c. record { state = c.0; chunk_room = c.1.0; tile_room = c.1.1 })
     (λ _. refl)

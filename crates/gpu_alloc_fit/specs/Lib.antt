@@ -1,3 +1,5 @@
 pub mod Codes
 pub mod Fit
+pub mod FitRule
 pub mod FitSound
+pub mod FitState

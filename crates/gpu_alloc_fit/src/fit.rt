@@ -9,35 +9,35 @@ ghost use Rattle.gpu_alloc_types.specs.Device.{Asked};
 ghost use Rattle.gpu_alloc_types.specs.declared.types.FreeRange.{FreeRange as Range};
 ghost use Rattle.gpu_alloc_base.specs.Accounts.{account, IsCounted, chunks_and_remaining};
 ghost use Rattle.gpu_alloc_base.specs.AlignMasks.{IsAlignMask};
-ghost use Rattle.gpu_alloc_base.specs.Case.{Asks, RefusesFirst, RefusesQuestion};
+ghost use Rattle.gpu_alloc_base.specs.Case.{RefusesFirst};
 ghost use Rattle.gpu_alloc_base.specs.FreeSpace.{IsMultipleOf};
 ghost use Rattle.gpu_alloc_base.specs.RangeOrder.{AreInOrder};
 ghost use Rattle.gpu_alloc_base.specs.Sizes.{up};
 ghost use Rattle.gpu_alloc_base.specs.Wanted.{requested, wanted};
 ghost use Rattle.gpu_alloc_base.specs.declared.free_list_block.Slot.{Slot as LiveSlot};
-ghost use Rattle.gpu_alloc_fit.specs.Fit.{Adds, Agrees, CallAllocates, CallAnswers, Cleans, Frees, HoldsNothing};
+ghost use Rattle.gpu_alloc_fit.specs.Fit.{Adds, Agrees, CallAllocates, Cleans, Frees, HoldsNothing};
 ghost use Rattle.gpu_alloc_fit.specs.Fit.{IsGranted, KeepsSettings, Leaves, LeavesNoRest, ObjectsAfter, ObjectsCleaned};
-ghost use Rattle.gpu_alloc_fit.specs.Fit.{ObjectsFreed, Removes, case_of, chunk_size, fit_case, opened};
-ghost use Rattle.gpu_alloc_fit.specs.FitSound.{FitsAChunk, IsSoundFit};
+ghost use Rattle.gpu_alloc_fit.specs.Fit.{ObjectsFreed, Removes, case_of, opened};
+ghost use Rattle.gpu_alloc_fit.specs.FitSound.{IsSoundFit};
 ghost use Rattle.gpu_alloc_fits.specs.Choice.{BeginsClass};
 ghost use Rattle.gpu_alloc_fits.specs.Listed.{AddsSlots, ListsChunks};
 ghost use Rattle.gpu_alloc_fits.specs.Space.{HasPlace, IsFitRunOf, IsLiveFitSpan, IsLiveSlot, IsNoLiveFitSpan, LooksAtFew, neighbours};
 
+use crate::chunks::FitChunks;
+use gpu_alloc_base::AllocationError;
 use gpu_alloc_base::buddy_block::Leaf;
 use gpu_alloc_base::free_list_block::Slot;
 use gpu_alloc_base::heap::Heap;
-use gpu_alloc_base::new_chunk::new_chunk_with_handle;
-use gpu_alloc_base::sizes::next_power_of_two;
 use gpu_alloc_base::steps::Steps;
-use gpu_alloc_base::{AllocationError, booking};
 use gpu_alloc_fits::{Chunk, FitBlock, Fits, into_parts};
+use gpu_alloc_shared::{BlockSpan, Store, returning, serving};
 use gpu_alloc_types::{
     AllocationFlags, FreeRange, MemoryObject, MemoryPropertyFlags, ObjectDevice,
 };
 use slab::Iter;
 use std::alloc::{AllocError, Allocator, Global};
-use std::marker::Model;
-use std::sync::ledger::Ledger;
+use std::marker::{Brand, Model};
+use std::sync::ledger::{Blank, Ledger};
 
 /// Gives out blocks of shared chunks of one memory type. It cannot be dropped: [`close`](FitAllocator::close) ends it.
 ///
@@ -45,31 +45,18 @@ use std::sync::ledger::Ledger;
 /// free. Each live block lies inside its chunk, and no two of them share a byte. Chunks and blocks begin and end at
 /// multiples of the atom.
 pub struct FitAllocator<M: MemoryObject, A: Allocator = Global> {
-    fits: Fits<M, A>,
-    chunk_size: u64,
-    final_chunk_size: u64,
-    memory_type: u32,
-    props: MemoryPropertyFlags,
-    atom_mask: u64,
+    store: FitChunks<M, A>,
 }
 
 impl<M: MemoryObject, A: Allocator> Model for FitAllocator<M, A> {
-    ghost use Rattle.gpu_alloc_fit.specs.Fit.{FitState};
+    ghost use Rattle.gpu_alloc_fit.specs.FitState.{FitState};
     ghost use Rattle.gpu_alloc_fit.specs.Codes.{fitting_code};
 
     ghost Value = { FitState };
 
     ghost coded = { fitting_code };
 
-    ghost use Rattle.std.specs.Prelude.{◌+◌};
-    ghost use Rattle.gpu_alloc_types.specs.Flags.{property_bits};
-    ghost use Rattle.gpu_alloc_fit.specs.FitSound.{IsSoundFit, fitting_in};
-
-    ghost view = { λ a. fitting_in (a.fits).space a.chunk_size a.final_chunk_size a.memory_type
-        (property_bits a.props) (a.atom_mask + 1) };
-
-    ghost invariant = { λ a. IsSoundFit (fitting_in (a.fits).space a.chunk_size a.final_chunk_size a.memory_type
-        (property_bits a.props) (a.atom_mask + 1)) };
+    ghost view = { λ a. (a.store).state };
 }
 
 impl<M: MemoryObject, A: Allocator + Copy> FitAllocator<M, A> {
@@ -104,12 +91,14 @@ impl<M: MemoryObject, A: Allocator + Copy> FitAllocator<M, A> {
         let fits = Fits::new(alloc);
         fits.keeps_sound();
         FitAllocator {
-            fits,
-            chunk_size: starting_chunk_size,
-            final_chunk_size,
-            memory_type,
-            props,
-            atom_mask,
+            store: FitChunks {
+                fits,
+                chunk_size: starting_chunk_size,
+                final_chunk_size,
+                memory_type,
+                props,
+                atom_mask,
+            },
         }
     }
 
@@ -122,7 +111,7 @@ impl<M: MemoryObject, A: Allocator + Copy> FitAllocator<M, A> {
         ensures runs { IfOk result (λ ranges. (r : Range) → Contains ranges.items r ↔ IsFitRunOf (self.now).space r) }
         ensures order { IfOk result (λ ranges. AreInOrder ranges.items) }
     {
-        self.fits.free_ranges(alloc)
+        self.store.fits.free_ranges(alloc)
     }
 }
 
@@ -215,9 +204,7 @@ impl<M: MemoryObject, A: Allocator> FitAllocator<M, A> {
         ensures some { HasPlace (self.old).space (up size (self.old).atom) (max (align_mask + 1) (self.old).atom)
             → looks.old < looks.new }
     {
-        let size = self.rounded_size(size);
-        let align_mask = align_mask.max(self.atom_mask);
-        self.alloc_rounded(
+        self.store.alloc::<D, L, Brand>(
             device,
             size,
             align_mask,
@@ -225,6 +212,7 @@ impl<M: MemoryObject, A: Allocator> FitAllocator<M, A> {
             heap,
             allocations_remains,
             looks,
+            Blank::new(1),
         )
     }
 
@@ -254,9 +242,15 @@ impl<M: MemoryObject, A: Allocator> FitAllocator<M, A> {
         ensures one { align_mask + 1 ≤ (self.now).atom → BeginsClass (up size (self.now).atom)
             → looks.new ≤ looks.old + 1 }
     {
-        let size = self.rounded_size(size);
-        let used_mask = align_mask.max(self.atom_mask);
-        self.refuses_rounded(size, used_mask, heap, allocations_remains, looks)
+        self.store.keeps_sound();
+        serving::refuses(
+            &self.store,
+            size,
+            align_mask,
+            heap,
+            allocations_remains,
+            looks,
+        )
     }
 
     /// Returns a block, and joins it with the free runs next to it. Where its chunk is then wholly free and another
@@ -352,13 +346,20 @@ impl<M: MemoryObject, A: Allocator> FitAllocator<M, A> {
         ensures looks { (slot : LiveSlot) → IsLiveFitSpan (self.old).space (M.object memory) offset size slot
             → looks.new ≡ looks.old + neighbours (self.old).space slot }
     {
-        let gone = self.fits.put_back_span(memory, key, offset, size, looks);
-        self.fits.keeps_sound();
-        let Some((memory, size)) = gone else {
-            return;
+        let returned = BlockSpan {
+            memory,
+            key,
+            offset,
+            size,
         };
-        device.deallocate_memory(&memory);
-        booking::release(heap, allocations_remains, size);
+        returning::dealloc(
+            &mut self.store,
+            device,
+            returned,
+            heap,
+            allocations_remains,
+            looks,
+        );
     }
 
     /// Releases the wholly free chunk, if there is one: `heap` is lowered by its size, and one more object may be held.
@@ -395,13 +396,7 @@ impl<M: MemoryObject, A: Allocator> FitAllocator<M, A> {
         ensures total { chunks_and_remaining (self.new).space.chunks allocations_remains.new ≡ chunks_and_remaining
             (self.old).space.chunks allocations_remains.old }
     {
-        let gone = self.fits.take_whole();
-        self.fits.keeps_sound();
-        let Some((memory, bytes, _)) = gone else {
-            return;
-        };
-        device.deallocate_memory(&memory);
-        booking::release(heap, allocations_remains, bytes);
+        let _ = returning::release_next(&mut self.store, device, false, heap, allocations_remains);
     }
 
     /// The live block of this span of an object and the key under which it stands, or `None` where there is none.
@@ -416,14 +411,14 @@ impl<M: MemoryObject, A: Allocator> FitAllocator<M, A> {
         ensures exact { (slot : LiveSlot) → IsLiveFitSpan (self.now).space object offset size slot
             → IfSome result (λ found. found.0 ≡ slot) }
     {
-        self.fits.find(key, object, offset, size)
+        self.store.fits.find(key, object, offset, size)
     }
 
     /// The held chunks, each once, by rising key.
     pub fn chunks(&self) -> Iter<'_, Chunk<M>>
         ensures { ListsChunks M.object (self.now).space.chunks result }
     {
-        self.fits.chunks()
+        self.store.fits.chunks()
     }
 
     /// Adds each live block to a list, once, in no particular order, in the form of a buddy allocator's: with its
@@ -433,34 +428,35 @@ impl<M: MemoryObject, A: Allocator> FitAllocator<M, A> {
     pub fn list_live<B: Allocator>(&self, rows: &mut Vec<Leaf, B>) -> Result<(), AllocError>
         ensures { OnOk result (AddsSlots ((self.now).space).live rows.old.items rows.new.items) }
     {
-        self.fits.list_live(rows)
+        self.store.fits.list_live(rows)
     }
 
     /// How many times all live blocks and free runs were searched, modulo 2^64: once for each block that was returned
     /// with another key than its own. Tests read it; no contract mentions it.
     pub fn searches(&self) -> u64 {
-        self.fits.searches()
+        self.store.fits.searches()
     }
 
     /// Whether it holds no chunk, so that it may be closed.
     pub fn is_empty(&self) -> bool
         ensures { IsTrue result ↔ (map.len ((self.now).space.chunks) ≡ 0) }
     {
-        self.fits.is_empty()
+        self.store.fits.is_empty()
     }
 
     /// Ends an allocator that holds no chunk (see [`is_empty`](FitAllocator::is_empty)).
     pub fn close(self)
         requires { map.len ((self.space).chunks) ≡ 0 }
     {
-        let FitAllocator {
+        let FitAllocator { store } = self;
+        let FitChunks {
             fits,
             chunk_size: _,
             final_chunk_size: _,
             memory_type: _,
             props: _,
             atom_mask: _,
-        } = self;
+        } = store;
         fits.close();
     }
 
@@ -471,163 +467,6 @@ impl<M: MemoryObject, A: Allocator> FitAllocator<M, A> {
         ensures { result ≡ nat_le (up size (self.now).atom) (self.now).final_chunk }
     {
         // (the largest chunk has whole atoms already)
-        size <= self.final_chunk_size
-    }
-
-    /// A size in whole atoms.
-    #[inline(always)]
-    fn rounded_size(&self, size: u64) -> u64
-        requires nonempty { 0 < size }
-        requires fits { up size (self.now).atom ≤ (self.now).final_chunk }
-        ensures is { result ≡ up size (self.now).atom }
-        ensures nonempty { 0 < result }
-        ensures whole { IsMultipleOf (self.now).atom result }
-    {
-        let last = size - 1;
-        last - (last & self.atom_mask) + (self.atom_mask + 1)
-    }
-
-    /// Allocates a block of whole atoms at a multiple of the atom.
-    fn alloc_rounded<D: ObjectDevice<M>, L: Ledger>(
-        &mut self,
-        device: &mut D,
-        size: u64,
-        align_mask: u64,
-        flags: AllocationFlags,
-        heap: &mut Heap,
-        allocations_remains: &mut u32,
-        looks: &mut Steps<L>,
-    ) -> Result<FitBlock<M>, AllocationError>
-        requires fits { FitsAChunk self.old size align_mask }
-        requires address { IsTrue (has_bit (allocation_bits flags) with_device_address)
-            → IsTrue (D.properties device.old).buffer_device_address }
-        requires agrees { Agrees self.old (D.properties device.old) (D.objects device.old) }
-        requires counted { IsCounted (self.old).space.chunks heap.old allocations_remains.old }
-        ensures answers { Asked D.step device.old device.new
-            (CallAnswers self.old heap.old allocations_remains.old size (align_mask + 1) flags result
-            self.new heap.new allocations_remains.new) }
-        ensures objects { ObjectsAfter self.old result self.new (D.objects device.old) (D.objects device.new) }
-        ensures properties { D.properties device.new ≡ D.properties device.old }
-        ensures was { IsSoundFit self.old }
-        ensures sound { IsSoundFit self.new }
-        ensures looks { LooksAtFew (self.old).space size (align_mask + 1) looks.old looks.new }
-        ensures some { HasPlace (self.old).space size (align_mask + 1) → looks.old < looks.new }
-    {
-        let taken = self.fits.take(size, align_mask, looks);
-        self.fits.keeps_sound();
-        match taken {
-            Ok(Some(block)) => return Ok(block),
-            Ok(None) => {}
-            Err(_) => return Err(AllocationError::OutOfHostMemory),
-        }
-        match self.refuses_chunk(size, heap, *allocations_remains) {
-            Some(refusal) => Err(refusal),
-            None => self.take_chunk(device, size, align_mask, flags, heap, allocations_remains),
-        }
-    }
-
-    /// The error that `alloc_rounded` would give first.
-    fn refuses_rounded<L: Ledger>(
-        &self,
-        size: u64,
-        align_mask: u64,
-        heap: &Heap,
-        allocations_remains: u32,
-        looks: &mut Steps<L>,
-    ) -> Option<AllocationError>
-        requires nonempty { 0 < size }
-        requires fits { size ≤ (self.now).final_chunk }
-        requires alignment { IsAlignMask align_mask }
-        ensures refuses { (flags : ℕ) → RefusesFirst
-            (fit_case (account self.now heap.now allocations_remains) size (align_mask + 1) flags) result }
-        ensures looks { LooksAtFew (self.now).space size (align_mask + 1) looks.old looks.new }
-    {
-        let refusal = self.refuses_chunk(size, heap, allocations_remains)?;
-        if self.fits.has_place(size, align_mask, looks) {
-            return None;
-        }
-        Some(refusal)
-    }
-
-    /// Why the device may not be asked for a chunk with a block of this size, or `None` where it may: no more objects
-    /// may be held, or the heap has no room for it.
-    fn refuses_chunk(
-        &self,
-        size: u64,
-        heap: &Heap,
-        allocations_remains: u32,
-    ) -> Option<AllocationError>
-        requires nonempty { 0 < size }
-        requires fits { size ≤ (self.now).final_chunk }
-        ensures { (alignment flags : ℕ)
-            → RefusesQuestion (fit_case (account self.now heap.now allocations_remains) size alignment flags) result }
-    {
-        if allocations_remains == 0 {
-            return Some(AllocationError::TooManyObjects);
-        }
-        if !heap.fits(self.chunk_size_for(size)) {
-            return Some(AllocationError::OutOfDeviceMemory);
-        }
-        None
-    }
-
-    /// Takes the front of a new chunk, where there is no place. Room is made before the device is asked.
-    fn take_chunk<D: ObjectDevice<M>>(
-        &mut self,
-        device: &mut D,
-        size: u64,
-        align_mask: u64,
-        flags: AllocationFlags,
-        heap: &mut Heap,
-        allocations_remains: &mut u32,
-    ) -> Result<FitBlock<M>, AllocationError>
-        requires fits { FitsAChunk self.old size align_mask }
-        requires asks { Asks (fit_case (account self.old heap.old allocations_remains.old) size (align_mask + 1)
-            (allocation_bits flags)) }
-        requires address { IsTrue (has_bit (allocation_bits flags) with_device_address)
-            → IsTrue (D.properties device.old).buffer_device_address }
-        requires agrees { Agrees self.old (D.properties device.old) (D.objects device.old) }
-        requires counted { IsCounted (self.old).space.chunks heap.old allocations_remains.old }
-        ensures answers { Asked D.step device.old device.new
-            (CallAnswers self.old heap.old allocations_remains.old size (align_mask + 1) flags result
-            self.new heap.new allocations_remains.new) }
-        ensures objects { ObjectsAfter self.old result self.new (D.objects device.old) (D.objects device.new) }
-        ensures properties { D.properties device.new ≡ D.properties device.old }
-        ensures sound { IsSoundFit self.new }
-    {
-        if self.fits.reserve().is_err() {
-            return Err(AllocationError::OutOfHostMemory);
-        }
-        let chunk_size = self.chunk_size_for(size);
-        let visible = self.props.intersects(MemoryPropertyFlags::HOST_VISIBLE);
-        let made = new_chunk_with_handle(device, chunk_size, self.memory_type, flags, visible);
-        let (memory, handle) = match made {
-            Ok(handles) => handles,
-            Err(refusal) => return Err(refusal),
-        };
-        let block = self.fits.begin(memory, handle, chunk_size, size);
-        self.fits.keeps_sound();
-        self.chunk_size = (2 * chunk_size).min(self.final_chunk_size);
-        // (the heap's limit is a u64, so a ledger that stays within it does not overflow)
-        let _ = heap.limit();
-        booking::hold(heap, allocations_remains, chunk_size);
-        Ok(block)
-    }
-
-    /// The size of a new chunk with a block of this size.
-    fn chunk_size_for(&self, size: u64) -> u64
-        requires nonempty { 0 < size }
-        requires fits { size ≤ (self.now).final_chunk }
-        ensures is { result ≡ chunk_size self.now size }
-        ensures enough { size ≤ result }
-        ensures bound { result ≤ 2 ^ 62 }
-    {
-        if size <= self.chunk_size {
-            return self.chunk_size;
-        }
-        let multiple = next_power_of_two((size - 1) / self.chunk_size + 1);
-        self.chunk_size
-            .saturating_mul(multiple)
-            .min(self.final_chunk_size)
+        size <= self.store.final_chunk_size
     }
 }
