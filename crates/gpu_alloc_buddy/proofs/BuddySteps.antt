@@ -1,102 +1,76 @@
 -- How many steps a call takes, and how many pieces are free.
-use Rattle.std.proofs.Common.{◌≡◌, ◌⊎◌, inl, inr, ℕ, ◌+◌, ◌*◌, ◌-◌, ◌^◌, ◌<◌, ◌≤◌, ◌==◌, Bool, cond, Some, None, List, [], ◌∷◌, map, Result, Ok, Err, IfOk, refl, sym, ◌∙◌, ap, subst, arith, count_by}
-use Rattle.std.proofs.lemmas.Bool.{cases_lt}
+use Rattle.std.proofs.Common.{◌≡◌, inl, inr, ℕ, ◌+◌, ◌*◌, ◌-◌, ◌^◌, ◌<◌, ◌≤◌, ◌==◌, Bool, cond, List, [], ◌∷◌, map, Result, Ok, Err, IfOk, refl, sym, ◌∙◌, ap, subst, arith, count_by}
 use Rattle.std.proofs.lemmas.Bool.Decides.{Decides-eqb, same_from_decides}
 use Rattle.std.proofs.lemmas.List.Sums.{sum_by-cons}
-use Rattle.std.proofs.lemmas.Nat.{pow-add}
+use Rattle.std.proofs.lemmas.Nat.{pow-add, pow_pos}
 use Rattle.std.specs.FinSet as set
 use Rattle.gpu_alloc_base.specs.Accounts.{Account}
-use Rattle.gpu_alloc_base.specs.Case.{RefusesQuestion}
 use Rattle.gpu_alloc_base.specs.FreeSpace.{IsFreePiece, IsIn}
 use Rattle.gpu_alloc_base.specs.declared.buddy_block.Leaf.{Leaf}
+use Rattle.gpu_alloc_base.specs.declared.error.AllocationError.{AllocationError}
 use Rattle.gpu_alloc_base.specs.declared.piece.Piece.{Piece}
 use Rattle.gpu_alloc_base.proofs.AlignedPowers.{order-le, pow-le}
-use Rattle.gpu_alloc_base.specs.declared.error.AllocationError.{AllocationError}
-use Rattle.gpu_alloc_base.specs.declared.error.AllocationError.TheVariants.{OutOfDeviceMemory, OutOfHostMemory, NoCompatibleMemoryTypes, TooManyObjects}
-use Rattle.gpu_alloc_buddy.specs.Buddy.{BeginsBuddyChunk, Fits, IsBuddyFront, buddy_case, chunk_size}
-use Rattle.gpu_alloc_buddy.specs.BuddyState.{Buddy, IsFreeInBuddy, IsLiveBuddyLeaf, space_of}
-use Rattle.gpu_alloc_buddy.specs.BuddySteps.{AreFewRanges, AreFewReleases, CountsBeginning, CountsHalving, CountsRefusing, CountsSteps, LooksFirst}
+use Rattle.gpu_alloc_base.proofs.ExactPieces.{one_free_piece}
+use Rattle.gpu_alloc_base.proofs.Multiples.{multiple_of_lower}
+use Rattle.gpu_alloc_buddy.specs.BuddyRule.{buddy_rule}
+use Rattle.gpu_alloc_buddy.specs.BuddyState.{Buddy, HasPlace, IsFreeInBuddy, IsLiveBuddyLeaf, chunk_size, space_of}
+use Rattle.gpu_alloc_buddy.specs.BuddySteps.{AreFewRanges, AreFewReleases, CountsBeginning, CountsRefusing, CountsSteps}
 use Rattle.gpu_alloc_pairs.specs.Space.{IsSoundBuddySpace}
-use Rattle.gpu_alloc_pairs.specs.Store.{CountsFront, CountsSearch, piece_range}
-use Rattle.gpu_alloc_buddy.proofs.BuddyAnswers.{fits, fits_not}
+use Rattle.gpu_alloc_pairs.specs.Store.{piece_range}
+use Rattle.gpu_alloc_shared.specs.Shared as shared
+use Rattle.gpu_alloc_shared.specs.Shared.{Counted}
+use Rattle.gpu_alloc_buddy.proofs.BuddyAnswers.{same_order}
 
 -- A grant.
 
--- two free pieces that start at one byte are as long
-one_length : (F : ℕ → ℕ → Type 0) (chunk start a b : ℕ) → IsFreePiece F chunk start a → IsFreePiece F chunk start b → a ≡ b
-one_length F chunk start a b p q = elim (cases_lt a b) [
-  | inl lt ↦ let le = p.longest start b q.place (omega arith) (omega arith) in omega (arith, le, lt)
-  | inr ge ↦ let le = q.longest start a p.place (omega arith) (omega (arith, ge)) in omega (arith, le, ge)
-]
-
--- the power is determined by its size
-one_power : (order k l : ℕ) → 2 ^ order * 2 ^ k ≡ 2 ^ order * 2 ^ l → k ≡ l
-one_power order k l same =
-    let is : 2 ^ (order + k) ≡ 2 ^ (order + l) = pow-add 2 order k ∙ same ∙ sym (pow-add 2 order l) in
-    omega (arith, order-le (order + k) (order + l) (omega (arith, is)), order-le (order + l) (order + k) (omega (arith, is)))
-
--- the block's piece is the one that the store has reported
-pub front_counts : (b : Buddy) (order : ℕ) (leaf : Leaf) (looks now splits after : ℕ) → leaf.size ≡ 2 ^ order → CountsFront (space_of b) leaf looks now splits after → CountsSteps b looks now splits after leaf
-front_counts b order leaf looks now splits after size c k piece =
-    let lengths = one_length (IsFreeInBuddy b) leaf.chunk leaf.offset (leaf.size * 2 ^ k) (leaf.size * 2 ^ c.doublings) piece c.piece in
-    let same = one_power order k c.doublings (subst (λ n. n * 2 ^ k ≡ n * 2 ^ c.doublings) size lengths) in
-    (omega (arith, c.looked, same), omega (arith, c.split, same))
-
--- a block of a chunk that was not held is the front of no free piece
-new_counts : (b : Buddy) (order : ℕ) (leaf : Leaf) (looks now splits after : ℕ) → BeginsBuddyChunk b (2 ^ order) leaf → CountsSteps b looks now splits after leaf
-new_counts b order leaf looks now splits after begins k piece =
-    let some : 2 ^ 0 ≤ 2 ^ (order + k) = pow-le 0 (order + k) (omega arith) in
-    let long : leaf.size * 2 ^ k ≡ 2 ^ (order + k) = ap (λ n. n * 2 ^ k) begins.of_size ∙ sym (pow-add 2 order k) in
-    let first : IsIn leaf.offset (leaf.size * 2 ^ k) leaf.offset = record { from = omega arith; to = omega (arith, some, long) } in
-    let held = piece.place.free leaf.offset first in
-    let is = held.is in
-    let none = begins.free_key in
-    absurd (cc)
-
-pub granted_counts : (b : Buddy) (order : ℕ) (answer : Result Leaf AllocationError) (looks now splits after : ℕ) → IfOk answer (BeginsBuddyChunk b (2 ^ order)) → IfOk answer (CountsSteps b looks now splits after)
-granted_counts b order (Ok leaf) looks now splits after begins = new_counts b order leaf looks now splits after begins
-granted_counts b order (Err e) looks now splits after begins = tt
-
--- a block in a place begins no chunk
-pub front_begins_none : (b : Buddy) (order : ℕ) (leaf : Leaf) (looks now splits after : ℕ) → IsBuddyFront b (2 ^ order) leaf → CountsBeginning b looks now splits after leaf
-front_begins_none b order leaf looks now splits after front none k is = let held = front.held in absurd (cc)
-
-new_begins : (b : Buddy) (order : ℕ) (leaf : Leaf) (looks now splits after : ℕ) → BeginsBuddyChunk b (2 ^ order) leaf → CountsSearch (space_of b) (2 ^ order) looks now → CountsHalving b order splits after → CountsBeginning b looks now splits after leaf
-new_begins b order leaf looks now splits after begins search (n, size, split) none k is =
-    let long : 2 ^ n ≡ 2 ^ (order + k) = sym size ∙ ap (chunk_size b) (sym begins.of_size) ∙ is ∙ ap (λ x. x * 2 ^ k) begins.of_size ∙ sym (pow-add 2 order k) in (
-      rw (begins.of_size) search,
-      omega (arith, split, order-le n (order + k) (omega (arith, long)), order-le (order + k) n (omega (arith, long))),
+-- a free piece that is long enough is a place
+has_place : (b : Buddy) (order k : ℕ) (leaf : Leaf) → leaf.size ≡ 2 ^ order → IsFreePiece (IsFreeInBuddy b) leaf.chunk leaf.offset (leaf.size * 2 ^ k) → HasPlace b (2 ^ order)
+has_place b order k leaf size piece =
+    let long : leaf.size * 2 ^ k ≡ 2 ^ (order + k) = ap (λ n. n * 2 ^ k) size ∙ sym (pow-add 2 order k) in
+    let le : 2 ^ order ≤ leaf.size * 2 ^ k = omega (arith, long, pow-le order (order + k) (omega arith)) in (
+      leaf.chunk,
+      leaf.offset,
+      record {
+        power = (order, refl);
+        aligned = multiple_of_lower (2 ^ order) (leaf.size * 2 ^ k) leaf.offset (order, refl) piece.place.power le piece.place.aligned;
+        free = λ at is. piece.place.free at (record { from = is.from; to = omega (arith, is.to, le) });
+      },
     )
 
-pub granted_begins : (b : Buddy) (order : ℕ) (answer : Result Leaf AllocationError) (looks now splits after : ℕ) → IfOk answer (BeginsBuddyChunk b (2 ^ order)) → CountsSearch (space_of b) (2 ^ order) looks now → IfOk answer (λ _. CountsHalving b order splits after)
-    → IfOk answer (CountsBeginning b looks now splits after)
-granted_begins b order (Ok leaf) looks now splits after begins search halved = new_begins b order leaf looks now splits after begins search halved
-granted_begins b order (Err e) looks now splits after begins search halved = tt
+-- the first byte of a free piece is one of it
+first_in : (b : Buddy) (chunk start length : ℕ) → IsFreePiece (IsFreeInBuddy b) chunk start length → IsIn start length start
+first_in b chunk start length piece = record { from = omega arith; to = omega (arith, piece.place.power.1, pow_pos piece.place.power.0) }
 
--- A refusal that is reported.
+module _ (b : Buddy) (order looks now splits after : ℕ) where
+  -- a block in a place is the front of the one piece that the pairs tell
+  grant_counts : (leaf : Leaf) → leaf.size ≡ 2 ^ order → Counted buddy_rule {E = AllocationError} b order (chunk_size b (2 ^ order)) (Ok leaf) looks now splits after → CountsSteps b looks now splits after leaf
+  grant_counts leaf size (inl front) k piece =
+      let long = (one_free_piece (IsFreeInBuddy b) leaf.chunk leaf.offset _ leaf.offset _ leaf.offset piece front.piece (first_in b _ _ _ piece) (first_in b _ _ _ front.piece)).1 in
+      let powers = pow-add 2 order k ∙ subst (λ n. n * 2 ^ k ≡ n * 2 ^ front.doublings) size long ∙ sym (pow-add 2 order front.doublings) in
+      let same = same_order (order + k) (order + front.doublings) powers in
+      (omega (arith, front.looked, same), omega (arith, front.split, same))
+  grant_counts leaf size (inr begun) k piece = absurd (begun.1.0.0 (has_place b order k leaf size piece))
 
--- a chunk would be too large
-pub too_long : (a : Account Buddy) (order size looks now : ℕ) → size ≡ 2 ^ order → 62 < order → now ≡ looks → CountsRefusing a size looks now
-too_long a order size looks now is long same = inr ((λ (first, _). fits_not order long (subst Fits is first)), same)
+  -- and one that begins a chunk is of no such piece
+  grant_begins : (leaf : Leaf) → leaf.size ≡ 2 ^ order → Counted buddy_rule {E = AllocationError} b order (chunk_size b (2 ^ order)) (Ok leaf) looks now splits after → CountsBeginning b looks now splits after leaf
+  grant_begins leaf size (inl front) none k is = let there = (front.piece.place.free leaf.offset (first_in b _ _ _ front.piece)).is in absurd (cc)
+  grant_begins leaf size (inr begun) none k is =
+      let halves = begun.1.1 in
+      let long : 2 ^ halves.chunk_order ≡ 2 ^ (order + k) = sym halves.is ∙ ap (chunk_size b) (sym size) ∙ is ∙ ap (λ x. x * 2 ^ k) size ∙ sym (pow-add 2 order k) in
+      (rw size begun.1.0.1.0, omega (arith, halves.split, begun.1.0.1.1, same_order halves.chunk_order (order + k) long))
 
--- a chunk may be asked for
-pub may_be_asked : (a : Account Buddy) (order flags size looks now : ℕ) → size ≡ 2 ^ order → RefusesQuestion (buddy_case a (2 ^ order) flags) None → now ≡ looks → CountsRefusing a size looks now
-may_be_asked a order flags size looks now is asks same = inr ((λ first. not_first (subst (LooksFirst a) is first)), same)
-  where
-    not_first : LooksFirst a (2 ^ order) → ⊥
-    not_first (fits, inl none) = absurd (omega (arith, none, asks.0.objects))
-    not_first (fits, inr over) = absurd (omega (arith, over, asks.1))
+  pub granted_counts : (answer : Result Leaf AllocationError) → IfOk answer (λ leaf. leaf.size ≡ 2 ^ order) → Counted buddy_rule b order (chunk_size b (2 ^ order)) answer looks now splits after
+      → IfOk answer (CountsSteps b looks now splits after) × IfOk answer (CountsBeginning b looks now splits after)
+  granted_counts (Ok leaf) size counted = (grant_counts leaf size counted, grant_begins leaf size counted)
+  granted_counts (Err e) size counted = (tt, tt)
 
--- none may be asked for, so a place was looked for
-pub looked_first : (a : Account Buddy) (order flags size looks now : ℕ) → size ≡ 2 ^ order → order ≤ 62 → (e : AllocationError) → RefusesQuestion (buddy_case a (2 ^ order) flags) (Some e) → CountsSearch (space_of a.allocator) (2 ^ order) looks now → CountsRefusing a size looks now
-looked_first a order flags size looks now is short e refuses search = rw is (inl ((fits order short, first e refuses), search))
-  where
-    first : (e : AllocationError) → RefusesQuestion (buddy_case a (2 ^ order) flags) (Some e) → (a.remaining ≡ 0) ⊎ (a.heap.limit < a.heap.used + chunk_size a.allocator (2 ^ order))
-    first TooManyObjects (inl none) = inl none
-    first TooManyObjects (inr spent) = absurd (spent tt)
-    first OutOfDeviceMemory over = inr over.1
-    first OutOfHostMemory refuses = absurd refuses
-    first NoCompatibleMemoryTypes refuses = absurd refuses
+-- A test for a refusal.
+
+pub refusing_so : (a : Account Buddy) (order looks now : ℕ) → shared.CountsRefusing buddy_rule a order looks now → CountsRefusing a (2 ^ order) looks now
+refusing_so a order looks now (inl ((fits, inl (inl none)), search)) = inl ((fits, inl none), search)
+refusing_so a order looks now (inl ((fits, inl (inr spent)), search)) = absurd (spent tt)
+refusing_so a order looks now (inl ((fits, inr over), search)) = inl ((fits, inr over), search)
+refusing_so a order looks now (inr (never, same)) = inr ((λ (fits, first). never (fits, elim first [ inl none ↦ inl (inl none) | inr over ↦ inr over ])), same)
 
 -- A return.
 
@@ -122,7 +96,7 @@ count_ranges f p q same (x ∷ xs) =
 as_long : (start n order : ℕ) → (start + 2 ^ n == start + 2 ^ order) ≡ (n == order)
 as_long start n order = same_from_decides _ _ (Decides-eqb (start + 2 ^ n) (start + 2 ^ order)) (
   (λ t. let is = (Decides-eqb n order).0 t in ap (λ k. start + 2 ^ k) is),
-  (λ e. (Decides-eqb n order).1 (omega (arith, order-le n order (omega (arith, e)), order-le order n (omega (arith, e))))),
+  (λ e. (Decides-eqb n order).1 (same_order n order (omega (arith, e)))),
 )
 
 pub few_ranges : (b : Buddy) (pieces : List Piece) → ((order : ℕ) → count_by (λ p. p.order == order) pieces ≤ set.len b.live) → AreFewRanges b (map (piece_range (space_of b)) pieces)

@@ -1,6 +1,4 @@
 pub mod BuddyAnswers
-pub mod BuddyGrants
+pub mod BuddyChunks
 pub mod BuddyRanges
-pub mod BuddyReturns
 pub mod BuddySteps
-pub mod InHand

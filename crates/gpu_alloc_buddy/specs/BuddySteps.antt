@@ -8,8 +8,7 @@ use Rattle.gpu_alloc_base.specs.Accounts.{Account}
 use Rattle.gpu_alloc_base.specs.Chunks.{Chunk}
 use Rattle.gpu_alloc_base.specs.FreeSpace.{IsFreePiece}
 use Rattle.gpu_alloc_base.specs.declared.buddy_block.Leaf.{Leaf}
-use Rattle.gpu_alloc_buddy.specs.Buddy.{Fits, chunk_size}
-use Rattle.gpu_alloc_buddy.specs.BuddyState.{Buddy, IsFreeInBuddy, space_of}
+use Rattle.gpu_alloc_buddy.specs.BuddyState.{Buddy, Fits, IsFreeInBuddy, chunk_size, space_of}
 use Rattle.gpu_alloc_pairs.specs.Store.{CountsSearch}
 
 -- at most 62 pieces are split
@@ -28,10 +27,6 @@ abbrev pub CountsBeginning : Buddy → ℕ → ℕ → ℕ → ℕ → Leaf → 
 CountsBeginning b looks now splits after leaf =
     map.get b.chunks leaf.chunk ≡ None → (k : ℕ) → chunk_size b leaf.size ≡ leaf.size * 2 ^ k
     → CountsSearch (space_of b) leaf.size looks now × (after + 1 ≡ splits + k)
-
--- the same for a block of 2^order bytes in a chunk of 2^n bytes
-abbrev pub CountsHalving : Buddy → ℕ → ℕ → ℕ → Type 0
-CountsHalving b order splits after = (n : ℕ) × (chunk_size b (2 ^ order) ≡ 2 ^ n) × (after + order + 1 ≡ splits + n)
 
 -- a place is looked for first where a chunk for the block is below 2^64 bytes and may not be asked for. Then no more
 -- objects may be held, or the heap's limit leaves too few bytes

@@ -5,7 +5,10 @@ use Rattle.std.specs.FinMap as map
 use Rattle.std.specs.FinSet as set
 use Rattle.std.specs.Ordering.{nat_cmp}
 use Rattle.gpu_alloc_base.specs.Codes.{chunk_code, leaf_code}
+use Rattle.gpu_alloc_buddy.specs.BuddyRule.{Stored}
 use Rattle.gpu_alloc_buddy.specs.BuddyState.{Buddy}
+use Rattle.gpu_alloc_pairs.specs.Codes.{buddy_store_code}
+use Rattle.gpu_alloc_pairs.specs.Store.{BuddyStore}
 use Rattle.gpu_alloc_base.specs.Chunks.{Chunk}
 use Rattle.gpu_alloc_base.specs.Leaves.{leaf_cmp}
 
@@ -25,3 +28,8 @@ buddy_code =
       atom = c.1.1.1.1.1;
     })
     (λ _. refl)
+
+abbrev pub stored_code : Coded Stored
+stored_code =
+    code_by (Buddy × BuddyStore) (coded× buddy_code buddy_store_code) (λ s. (s.state, s.pairs))
+    (λ c. record { state = c.0; pairs = c.1 }) (λ _. refl)

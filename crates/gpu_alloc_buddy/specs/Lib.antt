@@ -1,5 +1,5 @@
 pub mod Buddy
-pub mod BuddyInside
+pub mod BuddyRule
 pub mod BuddySound
 pub mod BuddyState
 pub mod BuddySteps

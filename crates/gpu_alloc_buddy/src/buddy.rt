@@ -1,37 +1,37 @@
 //! The buddy allocator: shared chunks of one memory type, whose blocks are aligned powers of two.
 
-ghost use Rattle.std.specs.Prelude.{◌≡◌, ℕ, ◌+◌, ◌≤◌, ◌<◌, ◌↔◌, ◌^◌, IfOk, IfErr, OnErr, IfSome, Contains, IsSome, IsTrue};
-ghost use Rattle.std.specs.Prelude.{MatchOption, OnOk, Some, None, max};
+ghost use Rattle.std.specs.Prelude.{◌≡◌, ℕ, ◌+◌, ◌≤◌, ◌<◌, ◌↔◌, ◌^◌, IfOk, IfErr, OnErr, Contains, IsTrue, MatchOption};
+ghost use Rattle.std.specs.Prelude.{OnOk, Some, max};
 ghost use Rattle.std.specs.FinMap as map;
+ghost use Rattle.std.specs.Int.{is_power_of_two};
 ghost use Rattle.gpu_alloc_types.specs.Flags.{allocation_bits, property_bits, has_bit, with_device_address};
 ghost use Rattle.gpu_alloc_types.specs.Device.{Asked};
 ghost use Rattle.gpu_alloc_types.specs.declared.types.FreeRange.{FreeRange as Range};
-ghost use Rattle.std.specs.Int.{is_power_of_two};
-ghost use Rattle.gpu_alloc_buddy.specs.Buddy.{Agrees, BeginsBuddyChunk, buddy_case, CallAllocates, CallAnswers, case_of};
-ghost use Rattle.gpu_alloc_buddy.specs.Buddy.{chunk_size, Frees, HasPlace, IsGranted, ObjectsAfter, ObjectsFreed};
-ghost use Rattle.gpu_alloc_buddy.specs.Buddy.{buddy_without_leaf, opened, rounded, TakesBuddyFront};
-ghost use Rattle.gpu_alloc_buddy.specs.Buddy.{Adds, HoldsNothing, IsPieceOf, Leaves, LeavesNoRest, Removes};
 ghost use Rattle.gpu_alloc_base.specs.Accounts.{account, IsCounted, chunks_and_remaining};
-ghost use Rattle.gpu_alloc_base.specs.Case.{Asks, RefusesFirst, RefusesQuestion};
-ghost use Rattle.gpu_alloc_base.specs.RangeOrder.{AreInOrder};
-ghost use Rattle.gpu_alloc_base.specs.declared.buddy_block.Leaf.{Leaf as LiveLeaf};
-ghost use Rattle.gpu_alloc_base.specs.Wanted.{requested, wanted};
-ghost use Rattle.gpu_alloc_buddy.specs.BuddySound.{IsSoundBuddy};
-ghost use Rattle.gpu_alloc_buddy.specs.BuddyState.{IsLiveBuddyLeaf, IsLiveBuddySpan, IsNoLiveBuddySpan, space_of};
-ghost use Rattle.gpu_alloc_buddy.specs.BuddySteps.{AreFewRanges, AreFewReleases, CountsBeginning, CountsHalving};
-ghost use Rattle.gpu_alloc_buddy.specs.BuddySteps.{CountsRefusing, CountsSplits, CountsSteps};
-ghost use Rattle.gpu_alloc_pairs.specs.HeldLists.{AddsLeaves, ListsChunks};
-ghost use Rattle.gpu_alloc_pairs.specs.Store.{CountsLooks, CountsTaking};
 ghost use Rattle.gpu_alloc_base.specs.AlignMasks.{IsAlignMask};
+ghost use Rattle.gpu_alloc_base.specs.Case.{RefusesFirst};
+ghost use Rattle.gpu_alloc_base.specs.RangeOrder.{AreInOrder};
+ghost use Rattle.gpu_alloc_base.specs.Wanted.{requested, wanted};
+ghost use Rattle.gpu_alloc_base.specs.declared.buddy_block.Leaf.{Leaf as LiveLeaf};
+ghost use Rattle.gpu_alloc_buddy.specs.Buddy.{Adds, Agrees, CallAllocates, Frees, HoldsNothing, IsGranted, IsPieceOf};
+ghost use Rattle.gpu_alloc_buddy.specs.Buddy.{Leaves, LeavesNoRest, ObjectsAfter, ObjectsFreed, Removes, case_of};
+ghost use Rattle.gpu_alloc_buddy.specs.Buddy.{opened, rounded};
+ghost use Rattle.gpu_alloc_buddy.specs.BuddySound.{IsSoundBuddy};
+ghost use Rattle.gpu_alloc_buddy.specs.BuddyState.{IsLiveBuddyLeaf, IsLiveBuddySpan, IsNoLiveBuddySpan};
+ghost use Rattle.gpu_alloc_buddy.specs.BuddySteps.{AreFewRanges, AreFewReleases, CountsBeginning, CountsRefusing};
+ghost use Rattle.gpu_alloc_buddy.specs.BuddySteps.{CountsSplits, CountsSteps};
+ghost use Rattle.gpu_alloc_pairs.specs.HeldLists.{AddsLeaves, ListsChunks};
+ghost use Rattle.gpu_alloc_pairs.specs.Store.{CountsLooks};
 
-use gpu_alloc_base::buddy_block::{Leaf, into_parts};
+use crate::chunks::BuddyChunks;
+use gpu_alloc_base::buddy_block::Leaf;
 use gpu_alloc_base::heap::Heap;
-use gpu_alloc_base::new_chunk::new_chunk_with_handle;
 use gpu_alloc_base::range_order::put_in_order;
 use gpu_alloc_base::sizes::next_order;
 use gpu_alloc_base::steps::Steps;
-use gpu_alloc_base::{AllocationError, BuddyBlock, booking};
-use gpu_alloc_pairs::{Chunk, Pairs, bytes};
+use gpu_alloc_base::{AllocationError, BuddyBlock};
+use gpu_alloc_pairs::{Chunk, Pairs};
+use gpu_alloc_shared::{Store, returning, serving};
 use gpu_alloc_types::{
     AllocationFlags, FreeRange, MemoryObject, MemoryPropertyFlags, ObjectDevice,
 };
@@ -46,12 +46,7 @@ use std::sync::ledger::Ledger;
 /// Between calls each held chunk has an object of its own, whose size is a power of two of at most 2^63 bytes, and a
 /// live block in it. Each live block lies inside its chunk, at a multiple of its size, and no two of them share a byte.
 pub struct BuddyAllocator<M: MemoryObject, A: Allocator = Global> {
-    pairs: Pairs<M, A>,
-    next_order: u32,
-    minimal_size: u64,
-    memory_type: u32,
-    props: MemoryPropertyFlags,
-    atom: u64,
+    store: BuddyChunks<M, A>,
 }
 
 impl<M: MemoryObject, A: Allocator> Model for BuddyAllocator<M, A> {
@@ -62,14 +57,7 @@ impl<M: MemoryObject, A: Allocator> Model for BuddyAllocator<M, A> {
 
     ghost coded = { buddy_code };
 
-    ghost use Rattle.gpu_alloc_types.specs.Flags.{property_bits};
-    ghost use Rattle.gpu_alloc_buddy.specs.BuddyInside.{buddy_in};
-    ghost use Rattle.gpu_alloc_buddy.specs.BuddySound.{IsSoundBuddy};
-
-    ghost view = { λ a. buddy_in (a.pairs).space a.next_order a.minimal_size a.memory_type (property_bits a.props) a.atom };
-
-    ghost invariant = { λ a. IsSoundBuddy
-        (buddy_in (a.pairs).space a.next_order a.minimal_size a.memory_type (property_bits a.props) a.atom) };
+    ghost view = { λ a. (a.store).state };
 }
 
 impl<M: MemoryObject, A: Allocator + Copy> BuddyAllocator<M, A> {
@@ -105,12 +93,14 @@ impl<M: MemoryObject, A: Allocator + Copy> BuddyAllocator<M, A> {
         };
         pairs.keeps_exact();
         Ok(BuddyAllocator {
-            pairs,
-            next_order: next_order(initial_dedicated_size.max(minimal_size)),
-            minimal_size,
-            memory_type,
-            props,
-            atom: atom_mask + 1,
+            store: BuddyChunks {
+                pairs,
+                next_order: next_order(initial_dedicated_size.max(minimal_size)),
+                minimal_size,
+                memory_type,
+                props,
+                atom: atom_mask + 1,
+            },
         })
     }
 
@@ -124,8 +114,8 @@ impl<M: MemoryObject, A: Allocator + Copy> BuddyAllocator<M, A> {
         ensures order { IfOk result (λ ranges. AreInOrder ranges.items) }
         ensures few { IfOk result (λ ranges. AreFewRanges self.now ranges.items) }
     {
-        self.pairs.keeps_exact();
-        let mut ranges = self.pairs.ranges()?;
+        self.store.pairs.keeps_exact();
+        let mut ranges = self.store.pairs.ranges()?;
         put_in_order(&mut ranges);
         Ok(ranges)
     }
@@ -212,18 +202,17 @@ impl<M: MemoryObject, A: Allocator> BuddyAllocator<M, A> {
         ensures steps { IfOk result (CountsSteps self.old looks.old looks.new splits.old splits.new) }
         ensures begun { IfOk result (CountsBeginning self.old looks.old looks.new splits.old splits.new) }
     {
-        let order = self.rounded_order(size, align_mask);
-        let answer = self.alloc_rounded(
+        serving::alloc(
+            &mut self.store,
             device,
-            order,
+            size,
+            align_mask,
             flags,
             heap,
             allocations_remains,
             looks,
             splits,
-        );
-        self.keeps_sound();
-        answer
+        )
     }
 
     /// The error that `alloc` gives such a request before it takes any memory or calls the device, or `None` where
@@ -255,15 +244,15 @@ impl<M: MemoryObject, A: Allocator> BuddyAllocator<M, A> {
             → CountsRefusing (account self.now heap.now allocations_remains)
             (rounded self.now (wanted size align_mask flags)) looks.old looks.new }
     {
-        let order = self.rounded_order(size, align_mask);
-        if order > 62 {
-            return Some(AllocationError::OutOfDeviceMemory);
-        }
-        let refusal = self.refuses_chunk(order, heap, allocations_remains)?;
-        if self.pairs.has_place(order, looks) {
-            return None;
-        }
-        Some(refusal)
+        self.store.keeps_sound();
+        serving::refuses(
+            &self.store,
+            size,
+            align_mask,
+            heap,
+            allocations_remains,
+            looks,
+        )
     }
 
     /// Returns a block. Free halves are joined, and a chunk in which no other block is live is released at once: then
@@ -308,15 +297,15 @@ impl<M: MemoryObject, A: Allocator> BuddyAllocator<M, A> {
         ensures few { AreFewReleases self.old block releases.old releases.new }
         ensures at_most { releases.new ≤ releases.old + 63 }
     {
-        let (_, leaf) = into_parts(block);
-        self.pairs.keeps_exact();
-        let gone = self.pairs.put_back(leaf, releases);
-        self.pairs.keeps_exact();
-        let Some((memory, size)) = gone else {
-            return;
-        };
-        device.deallocate_memory(&memory);
-        booking::release(heap, allocations_remains, size);
+        self.store.keeps_sound();
+        returning::dealloc(
+            &mut self.store,
+            device,
+            block,
+            heap,
+            allocations_remains,
+            releases,
+        );
     }
 
     /// The live block of this span of an object, or `None` where there is none. `offset` is where it starts in the
@@ -332,14 +321,14 @@ impl<M: MemoryObject, A: Allocator> BuddyAllocator<M, A> {
             (IsLiveBuddySpan self.now object offset size) }
         ensures exact { (leaf : LiveLeaf) → IsLiveBuddySpan self.now object offset size leaf → result ≡ Some leaf }
     {
-        self.pairs.find(key, object, offset, size)
+        self.store.pairs.find(key, object, offset, size)
     }
 
     /// The held chunks, each once, by rising key. It is public for `gpu_alloc`.
     pub fn chunks(&self) -> Iter<'_, Chunk<M>>
         ensures { ListsChunks M.object self.now.chunks result }
     {
-        self.pairs.chunks()
+        self.store.pairs.chunks()
     }
 
     /// Adds each live block to a list, once, in no particular order. It is public for `gpu_alloc`. It takes time linear
@@ -349,174 +338,22 @@ impl<M: MemoryObject, A: Allocator> BuddyAllocator<M, A> {
     pub fn list_live<B: Allocator>(&self, leaves: &mut Vec<Leaf, B>) -> Result<(), AllocError>
         ensures { OnOk result (AddsLeaves self.now.live leaves.old.items leaves.new.items) }
     {
-        self.pairs.list_live(leaves)
+        self.store.pairs.list_live(leaves)
     }
 
     /// Ends an allocator that holds no chunk.
     pub fn close(self)
         requires { map.len self.chunks ≡ 0 }
     {
-        let BuddyAllocator {
+        let BuddyAllocator { store } = self;
+        let BuddyChunks {
             pairs,
             next_order: _,
             minimal_size: _,
             memory_type: _,
             props: _,
             atom: _,
-        } = self;
+        } = store;
         pairs.close();
-    }
-
-    /// A lemma about every allocator: does nothing at run time.
-    fn keeps_sound(&self)
-        ensures { IsSoundBuddy self.now }
-    {
-        let _ = &self.pairs;
-    }
-
-    /// The size of a block for a request, as the exponent of a power of two.
-    fn rounded_order(&self, size: u64, align_mask: u64) -> u32
-        requires { IsAlignMask align_mask }
-        ensures least { (flags : ℕ) → rounded self.now (wanted size align_mask flags) ≡ 2 ^ result }
-        ensures bound { result ≤ 64 }
-        ensures sound { IsSoundBuddy self.now }
-    {
-        let aligned = size.max(align_mask + 1);
-        let least = self.atom.max(self.minimal_size);
-        next_order(aligned.max(least))
-    }
-
-    /// The size of a chunk for a block of 2^order bytes, as the exponent of a power of two.
-    fn chunk_order(&self, order: u32) -> u32
-        requires { order ≤ 62 }
-        ensures is { chunk_size self.now (2 ^ order) ≡ 2 ^ result }
-        ensures longer { order < result }
-        ensures bound { result ≤ 63 }
-    {
-        self.next_order.max(order + 1)
-    }
-
-    /// Why the device may not be asked for a chunk for a block of 2^order bytes, or `None` where it may: no more
-    /// objects may be held, or the heap has no room for it.
-    fn refuses_chunk(
-        &self,
-        order: u32,
-        heap: &Heap,
-        allocations_remains: u32,
-    ) -> Option<AllocationError>
-        requires { order ≤ 62 }
-        ensures { (flags : ℕ)
-            → RefusesQuestion (buddy_case (account self.now heap.now allocations_remains) (2 ^ order) flags) result }
-    {
-        if allocations_remains == 0 {
-            return Some(AllocationError::TooManyObjects);
-        }
-        if !heap.fits(bytes(self.chunk_order(order))) {
-            return Some(AllocationError::OutOfDeviceMemory);
-        }
-        None
-    }
-
-    /// Allocates a block of 2^order bytes.
-    fn alloc_rounded<D: ObjectDevice<M>, L: Ledger, K: Ledger>(
-        &mut self,
-        device: &mut D,
-        order: u32,
-        flags: AllocationFlags,
-        heap: &mut Heap,
-        allocations_remains: &mut u32,
-        looks: &mut Steps<L>,
-        splits: &mut Steps<K>,
-    ) -> Result<BuddyBlock<M>, AllocationError>
-        requires address { IsTrue (has_bit (allocation_bits flags) with_device_address)
-            → IsTrue (D.properties device.old).buffer_device_address }
-        requires agrees { Agrees self.old (D.properties device.old) (D.objects device.old) }
-        requires counted { IsCounted self.old.chunks heap.old allocations_remains.old }
-        ensures answers { Asked D.step device.old device.new
-            (CallAnswers self.old heap.old allocations_remains.old (2 ^ order) flags result
-            self.new heap.new allocations_remains.new) }
-        ensures objects { ObjectsAfter self.old result self.new (D.objects device.old) (D.objects device.new) }
-        ensures properties { D.properties device.new ≡ D.properties device.old }
-        ensures looked { CountsLooks looks.old looks.new }
-        ensures split { CountsSplits splits.old splits.new }
-        ensures steps { IfOk result (CountsSteps self.old looks.old looks.new splits.old splits.new) }
-        ensures begun { IfOk result (CountsBeginning self.old looks.old looks.new splits.old splits.new) }
-    {
-        if order > 62 {
-            return Err(AllocationError::OutOfDeviceMemory);
-        }
-        match self.take_place(order, looks, splits) {
-            Ok(Some(block)) => return Ok(block),
-            Ok(None) => {}
-            Err(_) => return Err(AllocationError::OutOfHostMemory),
-        }
-        match self.refuses_chunk(order, heap, *allocations_remains) {
-            Some(refusal) => Err(refusal),
-            None => self.take_chunk(device, order, flags, heap, allocations_remains, splits),
-        }
-    }
-
-    /// Takes the front of a shortest free piece that is long enough, or returns `None` where there is no such piece. It
-    /// fails only for want of host memory.
-    #[inline(always)]
-    fn take_place<L: Ledger, K: Ledger>(
-        &mut self,
-        order: u32,
-        looks: &mut Steps<L>,
-        splits: &mut Steps<K>,
-    ) -> Result<Option<BuddyBlock<M>>, AllocError>
-        requires { order ≤ 62 }
-        ensures takes { TakesBuddyFront self.old (2 ^ order) result self.new }
-        ensures counted { CountsTaking (space_of self.old) (2 ^ order) result looks.old looks.new splits.old splits.new }
-    {
-        let taken = self.pairs.take(order, looks, splits);
-        self.pairs.keeps_exact();
-        taken
-    }
-
-    /// Takes the front of a new chunk, where there is no place. Room is made before the device is asked.
-    fn take_chunk<D: ObjectDevice<M>, K: Ledger>(
-        &mut self,
-        device: &mut D,
-        order: u32,
-        flags: AllocationFlags,
-        heap: &mut Heap,
-        allocations_remains: &mut u32,
-        splits: &mut Steps<K>,
-    ) -> Result<BuddyBlock<M>, AllocationError>
-        requires short { order ≤ 62 }
-        requires asks { Asks (buddy_case (account self.old heap.old allocations_remains.old) (2 ^ order)
-            (allocation_bits flags)) }
-        requires address { IsTrue (has_bit (allocation_bits flags) with_device_address)
-            → IsTrue (D.properties device.old).buffer_device_address }
-        requires agrees { Agrees self.old (D.properties device.old) (D.objects device.old) }
-        requires counted { IsCounted self.old.chunks heap.old allocations_remains.old }
-        ensures answers { Asked D.step device.old device.new
-            (CallAnswers self.old heap.old allocations_remains.old (2 ^ order) flags result
-            self.new heap.new allocations_remains.new) }
-        ensures objects { ObjectsAfter self.old result self.new (D.objects device.old) (D.objects device.new) }
-        ensures properties { D.properties device.new ≡ D.properties device.old }
-        ensures split { CountsSplits splits.old splits.new }
-        ensures begins { IfOk result (BeginsBuddyChunk self.old (2 ^ order)) }
-        ensures halved { IfOk result (λ _. CountsHalving self.old order splits.old splits.new) }
-    {
-        let chunk_order = self.chunk_order(order);
-        if self.pairs.reserve(order, chunk_order).is_err() {
-            return Err(AllocationError::OutOfHostMemory);
-        }
-        let size = bytes(chunk_order);
-        let visible = self.props.intersects(MemoryPropertyFlags::HOST_VISIBLE);
-        let made = new_chunk_with_handle(device, size, self.memory_type, flags, visible);
-        let (memory, handle) = match made {
-            Ok(handles) => handles,
-            Err(refusal) => return Err(refusal),
-        };
-        let leaf = self.pairs.begin(memory, chunk_order, order, splits);
-        self.pairs.keeps_exact();
-        self.next_order = chunk_order;
-        // (the heap's limit is a u64, so a ledger that stays within it does not overflow)
-        let _ = heap.limit();
-        booking::hold(heap, allocations_remains, size);
-        Ok(BuddyBlock::new(handle, leaf))
     }
 }

@@ -2,6 +2,7 @@
 #![tactic(auto)]
 
 mod buddy;
+mod chunks;
 pub mod laws;
 
 pub use buddy::BuddyAllocator;
