@@ -81,19 +81,16 @@ module _ {X : Type 0} (Before : X → X → Type 0) where
         ]
       ]
 
--- the runs of the same bytes are one list
-pub same_runs : (F : ℕ → ℕ → Type 0) (xs ys : List FreeListRegion) → AreRuns xs F → AreRuns ys F → xs ≡ ys
-same_runs F xs ys runs_x runs_y =
-    risen_same IsBefore xs ys (λ a b has_a has_b. not_both a b (runs_x.spaced.nonempty a has_a) (runs_x.spaced.nonempty b has_b)) runs_x.rising runs_y.rising
-    (λ r has. run_is_region F (Contains ys) runs_y.spaced r (region_is_run F (Contains xs) runs_x.spaced r has))
-    (λ r has. run_is_region F (Contains xs) runs_x.spaced r (region_is_run F (Contains ys) runs_y.spaced r has))
-
--- and one list with these runs in their order is that of the runs
+-- one list with these runs in their order is that of the runs
 pub one_list : (F : ℕ → ℕ → Type 0) (xs ys : List FreeListRegion) → ((r : FreeListRegion) → Contains xs r ↔ IsFreeRun F r.chunk r.start r.end) → AreRising xs → AreRuns ys F → xs ≡ ys
 one_list F xs ys are rising runs =
     risen_same IsBefore xs ys (λ a b has_a has_b. not_both a b ((are a).0 has_a).nonempty ((are b).0 has_b).nonempty) rising runs.rising
     (λ r has. run_is_region F (Contains ys) runs.spaced r ((are r).0 has))
     (λ r has. (are r).1 (region_is_run F (Contains ys) runs.spaced r has))
+
+-- and the runs of the same bytes are one list
+same_runs : (F : ℕ → ℕ → Type 0) (xs ys : List FreeListRegion) → AreRuns xs F → AreRuns ys F → xs ≡ ys
+same_runs F xs ys runs_x runs_y = one_list F xs ys (λ r. (region_is_run F (Contains xs) runs_x.spaced r, run_is_region F (Contains xs) runs_x.spaced r)) runs_x.rising runs_y
 
 -- what was found in one list of runs is found in another of the same bytes
 pub found_again : (s t : ListSpace) (xs ys : List FreeListRegion) (size alignment i : ℕ) → s ≡ t → AreRuns xs (IsFreeIn s) → AreRuns ys (IsFreeIn t) → IsFoundAt ys size alignment i → IsFoundAt xs size alignment i

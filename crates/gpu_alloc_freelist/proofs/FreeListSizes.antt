@@ -4,9 +4,8 @@ use Rattle.std.specs.Prelude.{min}
 use Rattle.std.proofs.lemmas.Bool.{cases_lt}
 use Rattle.std.proofs.Math.Nat.{mul-le-mul_left, mul_comm}
 use Rattle.gpu_alloc_base.specs.FreeSpace.{IsMultipleOf}
-use Rattle.gpu_alloc_freelist.specs.FreeListAllocator.{chunk_size, next_size}
 use Rattle.gpu_alloc_freelist.specs.FreeListSound.{IsSoundFreeList}
-use Rattle.gpu_alloc_freelist.specs.FreeListState.{FreeListState}
+use Rattle.gpu_alloc_freelist.specs.FreeListState.{FreeListState, chunk_size, next_size}
 use Rattle.gpu_alloc_base.specs.Sizes.{next_power_of_two}
 use Rattle.gpu_alloc_base.proofs.PowersOfTwo.{is_next_power_of_two}
 use Rattle.gpu_alloc_base.proofs.Multiples.{multiple_times, multiple_min}

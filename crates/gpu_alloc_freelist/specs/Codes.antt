@@ -9,7 +9,7 @@ use Rattle.gpu_alloc_base.specs.Accounts.{HeldChunks}
 use Rattle.gpu_alloc_base.specs.Chunks.{Chunk}
 use Rattle.gpu_alloc_base.specs.declared.region.FreeListRegion.{FreeListRegion}
 use Rattle.gpu_alloc_freelist.specs.Chunks.{NumberedChunks}
-use Rattle.gpu_alloc_freelist.specs.FreeListState.{FreeListState, ListSpace, ListStore}
+use Rattle.gpu_alloc_freelist.specs.FreeListState.{FreeListState, ListSpace, ListStore, SizedList}
 use Rattle.gpu_alloc_freelist.specs.Live.{LiveBlocks}
 use Rattle.gpu_alloc_freelist.specs.Runs.{Runs}
 use Rattle.gpu_alloc_base.specs.Slots.{slot_cmp}
@@ -39,6 +39,11 @@ listing_code =
       props = c.1.1.1.0;
       atom = c.1.1.1.1;
     })
+    (λ _. refl)
+
+abbrev pub sized_list_code : Coded SizedList
+sized_list_code =
+    code_by (FreeListState × ℕ) (coded× listing_code coded_ℕ) (λ s. (s.state, s.room)) (λ c. record { state = c.0; room = c.1 })
     (λ _. refl)
 
 abbrev pub region_code : Coded FreeListRegion

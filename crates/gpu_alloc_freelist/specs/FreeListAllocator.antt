@@ -12,7 +12,6 @@ use Rattle.gpu_alloc_types.specs.Device.{Asked, Object, Event, put}
 use Rattle.gpu_alloc_types.specs.declared.allocation_flags.AllocationFlags.{AllocationFlags}
 use Rattle.gpu_alloc_types.specs.Device.Event.{Deallocated}
 use Rattle.gpu_alloc_types.specs.declared.types.FreeRange.{FreeRange}
-use Rattle.gpu_alloc_base.specs.Accounts as accounts
 use Rattle.gpu_alloc_base.specs.Accounts.{Account, account}
 use Rattle.gpu_alloc_base.specs.Case.{Case, Answers}
 use Rattle.gpu_alloc_base.specs.Wanted.{Wanted}
@@ -22,28 +21,15 @@ use Rattle.gpu_alloc_base.specs.InHand as in_hand
 use Rattle.gpu_alloc_base.specs.InHand.{Bytes}
 use Rattle.gpu_alloc_freelist.specs.FreeList.{HasPlace, IsTail, HasNumber, MayGo, with_slot, without_slot}
 use Rattle.gpu_alloc_freelist.specs.FreeList.{with_numbered_chunk, first_tail, no_list_space}
+use Rattle.gpu_alloc_freelist.specs.FreeListRule.{list_rule}
+pub use Rattle.gpu_alloc_freelist.specs.FreeListState.{alignment, bytes_of, chunk_size, next_size, rounded}
 use Rattle.gpu_alloc_freelist.specs.FreeListState.{ListSpace, FreeListState, IsLiveSlot, IsFreeIn}
+use Rattle.gpu_alloc_shared.specs.Shared as shared
 use Rattle.gpu_alloc_base.specs.FreeRuns.{IsFreeRun}
 use Rattle.gpu_alloc_base.specs.NewChunk.{ChunkQuestion}
-use Rattle.gpu_alloc_base.specs.Sizes.{up, grown_chunk, doubled_chunk}
 use Rattle.gpu_alloc_base.specs.declared.free_list_block.Slot.{Slot}
 use Rattle.gpu_alloc_base.specs.declared.error.AllocationError.{AllocationError}
 use Rattle.gpu_alloc_base.specs.declared.heap.Heap.{Heap}
-
--- the size of a block for a request, in whole atoms
-abbrev pub rounded : FreeListState → Wanted → ℕ
-rounded l w = up w.size l.atom
-
--- the alignment of a block: the greater of the request's and the atom
-abbrev pub alignment : FreeListState → Wanted → ℕ
-alignment l w = max (w.align_mask + 1) l.atom
-
--- the size of a chunk for a block of this size, and the next one's once it was made
-abbrev pub chunk_size : FreeListState → ℕ → ℕ
-chunk_size l size = grown_chunk l.next_chunk l.final_chunk size
-
-abbrev pub next_size : FreeListState → ℕ → ℕ
-next_size l size = doubled_chunk l.final_chunk size
 
 -- whether the chunks are host-visible
 abbrev pub sees_chunks : FreeListState → Bool
@@ -154,7 +140,7 @@ without_objects_of s objects (number ∷ numbers) = without_objects_of s (put ob
 
 -- the block is no longer live
 abbrev pub account_without : Account FreeListState → Slot → Account FreeListState
-account_without a slot = record a { allocator = record a.allocator { space = without_slot a.allocator.space slot } }
+account_without = shared.account_without list_rule
 
 -- A block is returned, and then every wholly free chunk is released except that of the last run.
 abbrev pub Frees : Account FreeListState → Slot → List Event → Account FreeListState → Type 0
@@ -192,14 +178,12 @@ pub record IsGranted (old : FreeListState) (w : Wanted) (new : FreeListState) (s
 
 -- the device has the memory type with its properties, and holds each chunk
 abbrev pub Agrees : FreeListState → Properties → (ℕ → Option Object) → Type 0
-Agrees l p objects = accounts.Agrees l.memory_type l.props l.space.chunks p objects
+Agrees = shared.Agrees list_rule
 
 -- how a request changes the device's objects
 abbrev pub ObjectsAfter : FreeListState → Result Slot AllocationError → FreeListState → (ℕ → Option Object) → (ℕ → Option Object)
     → Type 0
-ObjectsAfter l answer after old new =
-    accounts.ObjectsAfter (λ slot. slot.chunk) (λ slot. slot.object) l.memory_type l.props l.space.chunks answer
-    after.space.chunks old new
+ObjectsAfter = shared.ObjectsAfter list_rule
 
 -- how a return changes them: by the chunks that are released with it
 abbrev pub ObjectsFreed : FreeListState → Slot → (ℕ → Option Object) → (ℕ → Option Object) → Type 0
@@ -236,10 +220,6 @@ pub record IsRunOf (s : ListSpace) (r : FreeRange) : Type 0 where
 
 -- Blocks in hand.
 
--- the bytes of a block
-abbrev pub bytes_of : Slot → Bytes
-bytes_of slot = record { object = slot.object; offset = slot.offset; size = slot.size }
-
 -- what was given to `new` and decides which requests are valid, which no call changes
 pub record KeepsSettings (l new : FreeListState) : Type 0 where
   pub final_chunk : new.final_chunk ≡ l.final_chunk
@@ -249,15 +229,15 @@ pub record KeepsSettings (l new : FreeListState) : Type 0 where
 
 -- a call that takes no block keeps each block that was in hand
 abbrev pub Leaves : FreeListState → FreeListState → Type 0
-Leaves l new = in_hand.Leaves bytes_of l.space.live new.space.live
+Leaves = shared.Leaves list_rule
 
 -- a grant adds its block
 abbrev pub Adds : FreeListState → FreeListState → Slot → Type 0
-Adds l new slot = in_hand.Adds bytes_of l.space.live new.space.live slot
+Adds = shared.Adds list_rule
 
 -- a return removes its block, and no other
 abbrev pub Removes : FreeListState → Slot → FreeListState → Type 0
-Removes l slot new = in_hand.Removes bytes_of l.space.live slot new.space.live
+Removes = shared.Removes list_rule
 
 -- nothing is held: so it agrees with every device that offers this memory type
 abbrev pub HoldsNothing : ℕ → ℕ → FreeListState → Type 0

@@ -6,7 +6,6 @@ use Rattle.gpu_alloc_freelist.specs.FreeListState.{ListSpace, ListStore, FreeLis
 use Rattle.gpu_alloc_freelist.specs.Chunks.{IsWholeChunk}
 use Rattle.gpu_alloc_base.specs.Slots.{slot_cmp}
 use Rattle.gpu_alloc_freelist.specs.FreeListSound.{IsSoundListSpace}
-use Rattle.gpu_alloc_base.specs.AlignMasks.{IsAlignMask}
 use Rattle.gpu_alloc_base.specs.FreeRuns.{AreRuns}
 use Rattle.gpu_alloc_freelist.specs.Wholes.{wholes}
 use Rattle.gpu_alloc_base.specs.declared.region.FreeListRegion.{FreeListRegion}
@@ -39,13 +38,6 @@ listing_in space next_chunk final_chunk memory_type props atom = record {
   props = props;
   atom = atom;
 }
-
--- the largest chunk has room for the request: some bytes, no more than its own, at an alignment no less than the atom
-pub record FitsAListChunk (l : FreeListState) (size align_mask : ℕ) : Type 0 where
-  pub nonempty : 0 < size
-  pub fits : size ≤ l.final_chunk
-  pub alignment : IsAlignMask align_mask
-  pub aligned : l.atom ≤ align_mask + 1
 
 -- How a chunk to release is found.
 

@@ -3,6 +3,7 @@ pub mod Codes
 pub mod FreeList
 pub mod FreeListAllocator
 pub mod FreeListInside
+pub mod FreeListRule
 pub mod FreeListSound
 pub mod FreeListState
 pub mod Live

@@ -1,7 +1,7 @@
 //! The free-list allocator: shared chunks of one memory type, whose blocks are the tails of free runs.
 
 ghost use Rattle.std.specs.Prelude.{◌≡◌, ℕ, ◌+◌, ◌≤◌, ◌<◌, ◌^◌, ◌↔◌, Contains, IfOk, IfSome, OnErr};
-ghost use Rattle.std.specs.Prelude.{IsSome, IsTrue, Some, None, length, max, nat_le, true, false};
+ghost use Rattle.std.specs.Prelude.{IsTrue, length, max, nat_le, true, false};
 ghost use Rattle.std.specs.FinMap as map;
 ghost use Rattle.std.specs.FinSet as set;
 ghost use Rattle.std.specs.Int.{is_power_of_two};
@@ -9,39 +9,36 @@ ghost use Rattle.gpu_alloc_types.specs.Flags.{allocation_bits, property_bits, ha
 ghost use Rattle.gpu_alloc_types.specs.Device.{Asked};
 ghost use Rattle.gpu_alloc_types.specs.declared.types.FreeRange.{FreeRange as Range};
 ghost use Rattle.gpu_alloc_base.specs.Wanted.{requested, wanted};
-ghost use Rattle.gpu_alloc_freelist.specs.FreeList.{without_slot};
-ghost use Rattle.gpu_alloc_freelist.specs.FreeListAllocator.{account_without, Agrees, CallAllocates, CallAnswers, case_of};
-ghost use Rattle.gpu_alloc_freelist.specs.FreeListAllocator.{CallReleases, chunk_size, Cleans, Frees};
-ghost use Rattle.gpu_alloc_freelist.specs.FreeListAllocator.{IsGranted, IsRunOf, list_case};
+ghost use Rattle.gpu_alloc_freelist.specs.FreeList.{MayGo};
+ghost use Rattle.gpu_alloc_freelist.specs.FreeListAllocator.{account_without, Agrees, CallAllocates, case_of};
+ghost use Rattle.gpu_alloc_freelist.specs.FreeListAllocator.{CallReleases, Cleans, Frees};
+ghost use Rattle.gpu_alloc_freelist.specs.FreeListAllocator.{IsGranted, IsRunOf};
 ghost use Rattle.gpu_alloc_freelist.specs.FreeListAllocator.{ObjectsAfter, ObjectsCleaned, ObjectsFreed, opened};
 ghost use Rattle.gpu_alloc_freelist.specs.FreeListAllocator.{Adds, HoldsNothing, KeepsSettings, Leaves, LeavesNoRest};
 ghost use Rattle.gpu_alloc_freelist.specs.FreeListAllocator.{Removes};
 ghost use Rattle.gpu_alloc_base.specs.Accounts.{account, IsCounted, chunks_and_remaining};
-ghost use Rattle.gpu_alloc_base.specs.Case.{Asks, RefusesFirst, RefusesQuestion};
+ghost use Rattle.gpu_alloc_base.specs.Case.{RefusesFirst};
 ghost use Rattle.gpu_alloc_freelist.specs.Chunks.{ListsChunks};
-ghost use Rattle.gpu_alloc_freelist.specs.FreeListInside.{FitsAListChunk};
 ghost use Rattle.gpu_alloc_freelist.specs.Live.{ListsSlots};
-ghost use Rattle.gpu_alloc_freelist.specs.FreeListSound.{IsSoundFreeList, IsSoundListSpace};
+ghost use Rattle.gpu_alloc_freelist.specs.FreeListSound.{IsSoundFreeList};
 ghost use Rattle.gpu_alloc_freelist.specs.FreeListState.{FreeListState, IsLiveSlot};
 ghost use Rattle.gpu_alloc_base.specs.FreeSpace.{IsMultipleOf};
 ghost use Rattle.gpu_alloc_base.specs.AlignMasks.{IsAlignMask};
 ghost use Rattle.gpu_alloc_base.specs.RangeOrder.{AreInOrder};
 ghost use Rattle.gpu_alloc_base.specs.Sizes.{up};
-ghost use Rattle.gpu_alloc_base.specs.Steps.{Begins};
 
 mod chunks;
 mod list;
 mod live;
 mod runs;
+mod store;
 
 pub use chunks::NumberedChunk;
 use gpu_alloc_base::free_list_block::Slot;
 use gpu_alloc_base::heap::Heap;
-use gpu_alloc_base::new_chunk::new_chunk_with_handle;
 use gpu_alloc_base::range_order::put_in_order;
-use gpu_alloc_base::sizes::next_power_of_two;
-use gpu_alloc_base::steps::Steps;
-use gpu_alloc_base::{AllocationError, FreeListBlock, booking};
+use gpu_alloc_base::{AllocationError, FreeListBlock};
+use gpu_alloc_shared::{Store, returning};
 use gpu_alloc_types::{
     AllocationFlags, FreeRange, MemoryObject, MemoryPropertyFlags, ObjectDevice,
 };
@@ -49,7 +46,8 @@ pub use list::FreeList;
 use slab::Iter;
 use std::alloc::{AllocError, Allocator, Global};
 use std::marker::{Brand, Model};
-use std::sync::ledger::{Blank, Ledger};
+use std::sync::ledger::Blank;
+use store::FreeListChunks;
 
 /// Gives out blocks of shared chunks of one memory type. It cannot be dropped: [`close`](FreeListAllocator::close) ends
 /// it.
@@ -57,12 +55,7 @@ use std::sync::ledger::{Blank, Ledger};
 /// Between calls each held chunk has an object of its own, of at most 2^62 bytes. Each live block lies inside its
 /// chunk, and no two of them share a byte. Chunks and blocks begin and end at multiples of the atom.
 pub struct FreeListAllocator<M: MemoryObject, A: Allocator = Global> {
-    freelist: FreeList<M, A>,
-    chunk_size: u64,
-    final_chunk_size: u64,
-    memory_type: u32,
-    props: MemoryPropertyFlags,
-    atom_mask: u64,
+    store: FreeListChunks<M, A>,
 }
 
 impl<M: MemoryObject, A: Allocator> Model for FreeListAllocator<M, A> {
@@ -73,16 +66,7 @@ impl<M: MemoryObject, A: Allocator> Model for FreeListAllocator<M, A> {
 
     ghost coded = { listing_code };
 
-    ghost use Rattle.std.specs.Prelude.{◌+◌};
-    ghost use Rattle.gpu_alloc_types.specs.Flags.{property_bits};
-    ghost use Rattle.gpu_alloc_freelist.specs.FreeListInside.{listing_in};
-    ghost use Rattle.gpu_alloc_freelist.specs.FreeListSound.{IsSoundFreeList};
-
-    ghost view = { λ a. listing_in (a.freelist).space a.chunk_size a.final_chunk_size a.memory_type
-        (property_bits a.props) (a.atom_mask + 1) };
-
-    ghost invariant = { λ a. IsSoundFreeList (listing_in (a.freelist).space a.chunk_size a.final_chunk_size a.memory_type
-        (property_bits a.props) (a.atom_mask + 1)) };
+    ghost view = { λ a. (a.store).state };
 }
 
 impl<M: MemoryObject, A: Allocator + Copy> FreeListAllocator<M, A> {
@@ -116,12 +100,14 @@ impl<M: MemoryObject, A: Allocator + Copy> FreeListAllocator<M, A> {
         ensures sound { IsSoundFreeList result }
     {
         FreeListAllocator {
-            freelist: FreeList::new(alloc),
-            chunk_size: starting_chunk_size,
-            final_chunk_size,
-            memory_type,
-            props,
-            atom_mask,
+            store: FreeListChunks {
+                freelist: FreeList::new(alloc),
+                chunk_size: starting_chunk_size,
+                final_chunk_size,
+                memory_type,
+                props,
+                atom_mask,
+            },
         }
     }
 
@@ -136,11 +122,12 @@ impl<M: MemoryObject, A: Allocator + Copy> FreeListAllocator<M, A> {
         ensures few { IfOk result (λ ranges. length ranges.items
             ≤ set.len ((self.now).space).live + map.len ((self.now).space).chunks) }
     {
-        let regions = self.freelist.regions();
-        let mut ranges = Vec::with_capacity(self.freelist.allocator(), regions.len())?;
+        let freelist = &self.store.freelist;
+        let regions = freelist.regions();
+        let mut ranges = Vec::with_capacity(freelist.allocator(), regions.len())?;
         for region in regions {
             ranges.push_reserved(FreeRange {
-                object: self.freelist.chunk(region.chunk).memory.object(),
+                object: freelist.chunk(region.chunk).memory.object(),
                 start: region.start,
                 end: region.end,
             });
@@ -221,9 +208,16 @@ impl<M: MemoryObject, A: Allocator> FreeListAllocator<M, A> {
         ensures total { chunks_and_remaining (self.new).space.chunks allocations_remains.new ≡ chunks_and_remaining
             (self.old).space.chunks allocations_remains.old }
     {
-        let size = self.rounded_size(size);
-        let align_mask = align_mask.max(self.atom_mask);
-        self.alloc_rounded(device, size, align_mask, flags, heap, allocations_remains)
+        self.store.alloc::<D, Brand, Brand>(
+            device,
+            size,
+            align_mask,
+            flags,
+            heap,
+            allocations_remains,
+            Blank::new(1),
+            Blank::new(1),
+        )
     }
 
     /// The error that `alloc` gives such a request before it takes any memory or calls the device, or `None` where
@@ -247,16 +241,8 @@ impl<M: MemoryObject, A: Allocator> FreeListAllocator<M, A> {
             → RefusesFirst (case_of (account self.now heap.now allocations_remains) (wanted size align_mask flags))
             result }
     {
-        // (a heap with room for the largest chunk has room for any: most requests need no more than this test)
-        if allocations_remains > 0
-            && self.freelist.has_number()
-            && heap.fits(self.final_chunk_size)
-        {
-            return None;
-        }
-        let size = self.rounded_size(size);
-        let used_mask = align_mask.max(self.atom_mask);
-        self.refuses_rounded(size, used_mask, heap, allocations_remains)
+        self.store
+            .refuses::<Brand>(size, align_mask, heap, allocations_remains, Blank::new(1))
     }
 
     /// Returns a block, and joins it with the free runs next to it. Then each chunk without a live block is released,
@@ -299,7 +285,8 @@ impl<M: MemoryObject, A: Allocator> FreeListAllocator<M, A> {
         ensures total { chunks_and_remaining (self.new).space.chunks allocations_remains.new ≡ chunks_and_remaining
             (self.old).space.chunks allocations_remains.old }
     {
-        insert_uncounted::<M, A, Brand>(&mut self.freelist, block, Blank::new(1));
+        self.store
+            .dealloc::<D, Brand>(device, block, heap, allocations_remains, Blank::new(1));
         self.let_chunks_go(device, true, heap, allocations_remains);
     }
 
@@ -347,7 +334,7 @@ impl<M: MemoryObject, A: Allocator> FreeListAllocator<M, A> {
     pub fn chunks(&self) -> Iter<'_, NumberedChunk<M>>
         ensures { ListsChunks M.object (self.now).space.chunks result }
     {
-        self.freelist.chunks()
+        self.store.freelist.chunks()
     }
 
     /// The live blocks, each once, in no particular order, with their keys, which no contract mentions. It is public
@@ -355,7 +342,7 @@ impl<M: MemoryObject, A: Allocator> FreeListAllocator<M, A> {
     pub fn slots(&self) -> Iter<'_, Slot>
         ensures { ListsSlots (self.now).space.live result }
     {
-        self.freelist.slots()
+        self.store.freelist.slots()
     }
 
     /// Whether a block is live here: by its object, chunk, offset and size. It is public for `gpu_alloc`.
@@ -365,21 +352,22 @@ impl<M: MemoryObject, A: Allocator> FreeListAllocator<M, A> {
     pub fn is_live(&self, key: usize, slot: Slot) -> bool
         ensures { IsTrue result ↔ IsLiveSlot (self.now).space slot }
     {
-        self.freelist.is_live(key, slot)
+        self.store.freelist.is_live(key, slot)
     }
 
     /// Ends an allocator that holds no chunk.
     pub fn close(self)
         requires { map.len ((self.space).chunks) ≡ 0 }
     {
-        let FreeListAllocator {
+        let FreeListAllocator { store } = self;
+        let FreeListChunks {
             freelist,
             chunk_size: _,
             final_chunk_size: _,
             memory_type: _,
             props: _,
             atom_mask: _,
-        } = self;
+        } = store;
         freelist.close();
     }
 
@@ -390,157 +378,7 @@ impl<M: MemoryObject, A: Allocator> FreeListAllocator<M, A> {
         ensures { result ≡ nat_le (up size (self.now).atom) (self.now).final_chunk }
     {
         // (the largest chunk has whole atoms already)
-        size <= self.final_chunk_size
-    }
-
-    /// A size in whole atoms.
-    fn rounded_size(&self, size: u64) -> u64
-        requires nonempty { 0 < size }
-        requires fits { up size (self.now).atom ≤ (self.now).final_chunk }
-        ensures is { result ≡ up size (self.now).atom }
-        ensures nonempty { 0 < result }
-    {
-        let atom = self.atom_mask + 1;
-        (size - 1) / atom * atom + atom
-    }
-
-    /// Allocates a block of whole atoms at a multiple of the atom.
-    fn alloc_rounded<D: ObjectDevice<M>>(
-        &mut self,
-        device: &mut D,
-        size: u64,
-        align_mask: u64,
-        flags: AllocationFlags,
-        heap: &mut Heap,
-        allocations_remains: &mut u32,
-    ) -> Result<FreeListBlock<M>, AllocationError>
-        requires fits { FitsAListChunk self.old size align_mask }
-        requires address { IsTrue (has_bit (allocation_bits flags) with_device_address)
-            → IsTrue (D.properties device.old).buffer_device_address }
-        requires agrees { Agrees self.old (D.properties device.old) (D.objects device.old) }
-        requires counted { IsCounted (self.old).space.chunks heap.old allocations_remains.old }
-        ensures answers { Asked D.step device.old device.new
-            (CallAnswers self.old heap.old allocations_remains.old size (align_mask + 1) flags result
-            self.new heap.new allocations_remains.new) }
-        ensures objects { ObjectsAfter self.old result self.new (D.objects device.old) (D.objects device.new) }
-        ensures properties { D.properties device.new ≡ D.properties device.old }
-        ensures sound { IsSoundFreeList self.old }
-    {
-        match self.freelist.get_block(align_mask, size) {
-            Ok(Some(block)) => return Ok(block),
-            Ok(None) => {}
-            Err(_) => return Err(AllocationError::OutOfHostMemory),
-        }
-        match self.refuses_chunk(size, heap, *allocations_remains) {
-            Some(refusal) => Err(refusal),
-            None => self.take_chunk(device, size, align_mask, flags, heap, allocations_remains),
-        }
-    }
-
-    /// The error that `alloc_rounded` would give first. (It stands apart, since most requests need no more than the
-    /// test of the largest chunk.)
-    #[cold]
-    #[inline(never)]
-    fn refuses_rounded(
-        &self,
-        size: u64,
-        align_mask: u64,
-        heap: &Heap,
-        allocations_remains: u32,
-    ) -> Option<AllocationError>
-        requires nonempty { 0 < size }
-        requires fits { size ≤ (self.now).final_chunk }
-        requires alignment { IsAlignMask align_mask }
-        ensures { (flags : ℕ) → RefusesFirst
-            (list_case (account self.now heap.now allocations_remains) size (align_mask + 1) flags) result }
-    {
-        let refusal = self.refuses_chunk(size, heap, allocations_remains)?;
-        if self.freelist.has_place(align_mask, size) {
-            return None;
-        }
-        Some(refusal)
-    }
-
-    /// Why the device may not be asked for a chunk with a block of this size, or `None` where it may. No more objects
-    /// may be held, no number is left, or the heap has no room for the chunk.
-    fn refuses_chunk(
-        &self,
-        size: u64,
-        heap: &Heap,
-        allocations_remains: u32,
-    ) -> Option<AllocationError>
-        requires nonempty { 0 < size }
-        requires fits { size ≤ (self.now).final_chunk }
-        ensures { (alignment flags : ℕ)
-            → RefusesQuestion (list_case (account self.now heap.now allocations_remains) size alignment flags) result }
-    {
-        if allocations_remains == 0 || !self.freelist.has_number() {
-            return Some(AllocationError::TooManyObjects);
-        }
-        if !heap.fits(self.chunk_size_for(size)) {
-            return Some(AllocationError::OutOfDeviceMemory);
-        }
-        None
-    }
-
-    /// Takes the tail of a new chunk, where there is no place. Room is made before the device is asked.
-    fn take_chunk<D: ObjectDevice<M>>(
-        &mut self,
-        device: &mut D,
-        size: u64,
-        align_mask: u64,
-        flags: AllocationFlags,
-        heap: &mut Heap,
-        allocations_remains: &mut u32,
-    ) -> Result<FreeListBlock<M>, AllocationError>
-        requires fits { FitsAListChunk self.old size align_mask }
-        requires asks { Asks (list_case (account self.old heap.old allocations_remains.old) size (align_mask + 1)
-            (allocation_bits flags)) }
-        requires address { IsTrue (has_bit (allocation_bits flags) with_device_address)
-            → IsTrue (D.properties device.old).buffer_device_address }
-        requires agrees { Agrees self.old (D.properties device.old) (D.objects device.old) }
-        requires counted { IsCounted (self.old).space.chunks heap.old allocations_remains.old }
-        ensures answers { Asked D.step device.old device.new
-            (CallAnswers self.old heap.old allocations_remains.old size (align_mask + 1) flags result
-            self.new heap.new allocations_remains.new) }
-        ensures objects { ObjectsAfter self.old result self.new (D.objects device.old) (D.objects device.new) }
-        ensures properties { D.properties device.new ≡ D.properties device.old }
-    {
-        if self.freelist.reserve().is_err() {
-            return Err(AllocationError::OutOfHostMemory);
-        }
-        let chunk_size = self.chunk_size_for(size);
-        let visible = self.props.intersects(MemoryPropertyFlags::HOST_VISIBLE);
-        let made = new_chunk_with_handle(device, chunk_size, self.memory_type, flags, visible);
-        let (memory, handle) = match made {
-            Ok(handles) => handles,
-            Err(refusal) => return Err(refusal),
-        };
-        let block = self
-            .freelist
-            .begin(memory, handle, chunk_size, align_mask, size);
-        self.chunk_size = (2 * chunk_size).min(self.final_chunk_size);
-        // (the heap's limit is a u64, so a ledger that stays within it does not overflow)
-        let _ = heap.limit();
-        booking::hold(heap, allocations_remains, chunk_size);
-        Ok(block)
-    }
-
-    /// The size of a new chunk with a block of this size.
-    fn chunk_size_for(&self, size: u64) -> u64
-        requires nonempty { 0 < size }
-        requires fits { size ≤ (self.now).final_chunk }
-        ensures is { result ≡ chunk_size self.now size }
-        ensures enough { size ≤ result }
-        ensures bound { result ≤ 2 ^ 62 }
-    {
-        if size <= self.chunk_size {
-            return self.chunk_size;
-        }
-        let multiple = next_power_of_two((size - 1) / self.chunk_size + 1);
-        self.chunk_size
-            .saturating_mul(multiple)
-            .min(self.final_chunk_size)
+        size <= self.store.final_chunk_size
     }
 
     /// Releases wholly free chunks, except that of the last run if it is to be kept. (Most returns leave no such chunk,
@@ -560,31 +398,22 @@ impl<M: MemoryObject, A: Allocator> FreeListAllocator<M, A> {
             (account self.new heap.new allocations_remains.new) }
         ensures agrees { Agrees self.new (D.properties device.new) (D.objects device.new) }
         ensures properties { D.properties device.new ≡ D.properties device.old }
+        ensures left { (number : ℕ) → MayGo (self.new).space keep_last number → ⊥ }
         ensures sound { IsSoundFreeList self.new }
         ensures counted { IsCounted (self.new).space.chunks heap.new allocations_remains.new }
         ensures total { chunks_and_remaining (self.new).space.chunks allocations_remains.new ≡ chunks_and_remaining
             (self.old).space.chunks allocations_remains.old }
     {
-        if self.freelist.keeps_all(keep_last) {
+        self.store.keeps_sound();
+        if self.store.keeps_all(keep_last) {
             return;
         }
-        while let Some((memory, size, _)) = self.freelist.take_whole(keep_last) {
-            device.deallocate_memory(&memory);
-            booking::release(heap, allocations_remains, size);
-        }
+        while returning::release_next(
+            &mut self.store,
+            device,
+            keep_last,
+            heap,
+            allocations_remains,
+        ) {}
     }
-}
-
-/// Returns a block to a list, and counts nothing.
-fn insert_uncounted<M: MemoryObject, A: Allocator, L: Ledger>(
-    freelist: &mut FreeList<M, A>,
-    block: FreeListBlock<M>,
-    blank: Blank,
-)
-    requires begins { Begins blank L.name L.parts }
-    requires live { IsLiveSlot (freelist.old).space block }
-    ensures back { freelist.new.space ≡ without_slot (freelist.old).space block }
-    ensures sound { IsSoundListSpace freelist.new.space }
-{
-    freelist.insert_block(block, &mut Steps::<L>::new(blank));
 }

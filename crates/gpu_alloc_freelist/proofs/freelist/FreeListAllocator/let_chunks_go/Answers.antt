@@ -1,47 +1,37 @@
-use Rattle.std.proofs.Common.{◌∙◌, [], ◌∷◌, ◌++◌, refl, arith}
-use Rattle.gpu_alloc_types.specs.Chains.{chain_more}
-use Rattle.gpu_alloc_types.specs.Device.Event.{Deallocated}
+use Rattle.std.proofs.Common.{◌∙◌, [], refl}
 use Rattle.gpu_alloc_base.specs.Accounts.{account}
-use Rattle.gpu_alloc_freelist.proofs.ForCallers.{begins, ends, is_counted, one_more_fits, fewer, goes_on_as}
+use Rattle.gpu_alloc_freelist.proofs.ForCallers.{goes_on, none_left}
 use Rattle.gpu_alloc_freelist.proofs.freelist.FreeListAllocator.let_chunks_go.Goals as goal
 
 -- no chunk goes, as a count shows
 pub returns-then-keeps_all-clause-gives : goal.returns-then-keeps_all-clause-gives
 returns-then-keeps_all-clause-gives g c =
-    let agreed = rw (← c.self.view_is) at c.requires.agrees in
-    let counted = rw (← c.self.view_is) at c.requires.counted in
-    rw (← c.self.view_is) ([], ([], refl, ends (begins c.self.invariant agreed counted) (c.keeps_all.ensures c.if-keeps_all.true)))
+    rw (← c.self.view_is) ([], ([], refl, none_left c.args.keep_last (account c.self.inside.store.state c.args.heap.now c.args.allocations_remains.now) (g.D.ObjectDevice.objects c.args.device.now) (c.keeps_all.ensures c.if-keeps_all.true)))
 
-pub loop-memory-init : goal.loop-memory-init
-loop-memory-init g c =
-    let agreed = rw (← c.self.view_is) at c.requires.agrees in
-    let counted = rw (← c.self.view_is) at c.requires.counted in
-    record { way = ([], [], refl, rw (← c.self.view_is) (begins c.self.invariant agreed counted)); properties = refl }
+pub loop-self-init : goal.loop-self-init
+loop-self-init g c = rw (← c.self.view_is) (record {
+  way = λ end new gives. gives;
+  agrees = rw (← c.self.view_is) at c.requires.agrees;
+  properties = refl;
+  sound = c.keeps_sound.ensures;
+  counted = rw (← c.self.view_is) at c.requires.counted;
+  total = refl;
+})
 
-pub release-requires-clause-counted : goal.release-requires-clause-counted
-release-requires-clause-counted g c = is_counted c.loop-memory.invariant.way.3 c.in-Some.field-0-2 _ c.in-Some.ensures.chunk c.in-Some.ensures.first
-
-pub release-requires-clause-fits : goal.release-requires-clause-fits
-release-requires-clause-fits g c = omega (arith, one_more_fits c.loop-memory.invariant.way.3 c.in-Some.field-0-2 _ c.in-Some.ensures.chunk c.in-Some.ensures.first)
-
-pub loop-memory-smaller : goal.loop-memory-smaller
-loop-memory-smaller g c =
-    rw (c.in-Some.ensures.gone) (fewer c.loop-memory.invariant.way.3 c.in-Some.field-0-2 _ c.in-Some.ensures.chunk c.in-Some.ensures.first)
-
-pub loop-memory-preserved : goal.loop-memory-preserved
-loop-memory-preserved g c =
-    let way = c.loop-memory.invariant.way in
+pub loop-self-preserved : goal.loop-self-preserved
+loop-self-preserved g c =
+    let was = c.loop-self.invariant in
     record {
-      way = (
-        way.0 ++ c.in-Some.field-0-2 ∷ [],
-        way.1 ++ Deallocated (g.M.MemoryObject.object c.in-Some.memory) ∷ [],
-        chain_more g.D.ObjectDevice.step way.1 _ _ _ _ way.2 c.deallocate_memory.ensures,
-        rw c.release.ensures.count (goes_on_as {from = account c.args.self.now c.args.heap.now c.args.allocations_remains.now} way.3 c.in-Some.field-0-2 _ c.in-Some.ensures.chunk c.in-Some.ensures.first _ _ _ c.in-Some.ensures.gone c.release.ensures.ledger (g.met.D.ObjectDevice.row _ _ _ c.deallocate_memory.ensures)),
-      );
-      properties = g.met.D.ObjectDevice.keeps_properties _ _ _ c.deallocate_memory.ensures ∙ c.loop-memory.invariant.properties;
+      way = λ end new gives. was.way end new (goes_on g.D.ObjectDevice.step g.D.ObjectDevice.objects _ _ end c.args.keep_last _ _ new was.sound c.release_next.ensures.releases c.release_next.ensures.objects gives);
+      agrees = c.release_next.ensures.agrees;
+      properties = c.release_next.ensures.properties ∙ was.properties;
+      sound = c.release_next.ensures.sound;
+      counted = c.release_next.ensures.counted;
+      total = c.release_next.ensures.total ∙ was.total;
     }
 
 pub returns-clause-gives : goal.returns-clause-gives
 returns-clause-gives g c =
-    let way = c.loop-memory.invariant.way in
-    rw (c.in_default.ensures.none.1) (way.0, (way.1, way.2, ends {from = account c.args.self.now c.args.heap.now c.args.allocations_remains.now} way.3 c.in_default.ensures.none.0))
+    let was = c.loop-self.invariant in
+    was.way _ _ (goes_on g.D.ObjectDevice.step g.D.ObjectDevice.objects _ _ _ c.args.keep_last _ _ _ was.sound c.release_next.ensures.releases c.release_next.ensures.objects
+    ([], ([], refl, none_left c.args.keep_last _ _ (c.release_next.ensures.left c.loop-self-test.false))))

@@ -1,0 +1,322 @@
+//! Free lists as a store of shared chunks: a list, and the sizes of chunks and blocks.
+
+ghost use Rattle.std.specs.Prelude.{◌≡◌, ℕ, ◌+◌, ◌≤◌, ◌<◌, IfNone, IfOk, IfSome, IsTrue, OnErr, OnOk, Some, false};
+ghost use Rattle.std.specs.Prelude.{is_some, max};
+ghost use Rattle.std.specs.FinMap as map;
+ghost use Rattle.gpu_alloc_types.specs.Device.{Asked};
+ghost use Rattle.gpu_alloc_types.specs.Flags.{allocation_bits, has_bit, property_bits, with_device_address};
+ghost use Rattle.gpu_alloc_base.specs.Accounts.{account, chunks_and_remaining, IsCounted};
+ghost use Rattle.gpu_alloc_base.specs.Case.{Answers, RefusesFirst};
+ghost use Rattle.gpu_alloc_base.specs.Sizes.{up};
+ghost use Rattle.gpu_alloc_base.specs.Steps.{Begins};
+ghost use Rattle.gpu_alloc_base.specs.Wanted.{requested, wanted};
+ghost use Rattle.gpu_alloc_base.specs.declared.heap.Heap.{Heap as HeapOf};
+ghost use Rattle.gpu_alloc_freelist.specs.FreeList.{MayGo};
+ghost use Rattle.gpu_alloc_freelist.specs.FreeListAllocator as list;
+ghost use Rattle.gpu_alloc_freelist.specs.FreeListRule.{Serves, list_lawful, list_rule};
+ghost use Rattle.gpu_alloc_freelist.specs.FreeListSound.{IsSoundFreeList};
+ghost use Rattle.gpu_alloc_freelist.specs.FreeListState.{IsLiveSlot};
+ghost use Rattle.gpu_alloc_shared.specs.Rule.{IsLawful, IsLive, IsUnheldIn};
+ghost use Rattle.gpu_alloc_shared.specs.Shared.{Adds, Leaves, Removes, Takes, case_of, object_of, tried, without_block};
+ghost use Rattle.gpu_alloc_shared.specs.Shared.{without_chunk};
+
+use super::list::FreeList;
+use gpu_alloc_base::heap::Heap;
+use gpu_alloc_base::sizes::next_power_of_two;
+use gpu_alloc_base::steps::Steps;
+use gpu_alloc_base::{AllocationError, FreeListBlock};
+use gpu_alloc_shared::{Ask, Store, returning, serving};
+use gpu_alloc_types::{AllocationFlags, MemoryObject, MemoryPropertyFlags, ObjectDevice};
+use std::alloc::{AllocError, Allocator, Global};
+use std::marker::Model;
+use std::sync::ledger::{Blank, Ledger};
+
+/// A free list of one memory type's chunks, and the sizes of what comes next.
+pub struct FreeListChunks<M: MemoryObject, A: Allocator = Global> {
+    pub(super) freelist: FreeList<M, A>,
+    pub(super) chunk_size: u64,
+    pub(super) final_chunk_size: u64,
+    pub(super) memory_type: u32,
+    pub(super) props: MemoryPropertyFlags,
+    pub(super) atom_mask: u64,
+}
+
+impl<M: MemoryObject, A: Allocator> Model for FreeListChunks<M, A> {
+    ghost use Rattle.gpu_alloc_freelist.specs.FreeListState.{SizedList};
+    ghost use Rattle.gpu_alloc_freelist.specs.Codes.{sized_list_code};
+
+    ghost Value = { SizedList };
+
+    ghost coded = { sized_list_code };
+
+    ghost use Rattle.std.specs.Prelude.{◌+◌};
+    ghost use Rattle.gpu_alloc_types.specs.Flags.{property_bits};
+    ghost use Rattle.gpu_alloc_freelist.specs.FreeListInside.{listing_in};
+    ghost use Rattle.gpu_alloc_freelist.specs.FreeListSound.{IsSoundFreeList};
+
+    ghost view = { λ a. record {
+      state = listing_in (a.freelist).space a.chunk_size a.final_chunk_size a.memory_type (property_bits a.props)
+          (a.atom_mask + 1);
+      room = (a.freelist).room;
+    } };
+
+    ghost invariant = { λ a. IsSoundFreeList (listing_in (a.freelist).space a.chunk_size a.final_chunk_size a.memory_type
+        (property_bits a.props) (a.atom_mask + 1)) };
+}
+
+impl<M: MemoryObject, A: Allocator> Store<M> for FreeListChunks<M, A> {
+    ghost use Rattle.gpu_alloc_freelist.specs.FreeListState.{FreeListState};
+
+    type Ask = Ask;
+
+    type Block = FreeListBlock<M>;
+
+    type Returned = FreeListBlock<M>;
+
+    ghost State = { FreeListState };
+
+    ghost state = { λ s. s.state };
+
+    ghost rule = { list_rule };
+
+    ghost HasRoom = { λ s ask whole. 0 < s.room };
+
+    ghost Returns = { λ l returned slot. (slot ≡ returned) × IsLiveSlot l.space returned };
+
+    #[inline(always)]
+    fn memory_type(&self) -> u32 {
+        self.memory_type
+    }
+
+    #[inline(always)]
+    fn props(&self) -> MemoryPropertyFlags {
+        self.props
+    }
+
+    #[inline(always)]
+    fn asked(&self, size: u64, align_mask: u64) -> Option<Ask> {
+        Some(Ask {
+            size: self.rounded_size(size),
+            align_mask: align_mask.max(self.atom_mask),
+        })
+    }
+
+    #[inline(always)]
+    fn chunk_size(&self, heap: &Heap, ask: Ask) -> u64 {
+        let _ = heap;
+        if ask.size <= self.chunk_size {
+            return self.chunk_size;
+        }
+        let multiple = next_power_of_two((ask.size - 1) / self.chunk_size + 1);
+        self.chunk_size
+            .saturating_mul(multiple)
+            .min(self.final_chunk_size)
+    }
+
+    #[inline(always)]
+    fn largest_chunk(&self) -> Option<u64> {
+        Some(self.final_chunk_size)
+    }
+
+    #[inline(always)]
+    fn has_number(&self) -> bool {
+        self.freelist.has_number()
+    }
+
+    #[inline(always)]
+    fn has_place<L: Ledger>(&self, ask: Ask, looks: &mut Steps<L>) -> bool {
+        let _ = looks;
+        self.freelist.has_place(ask.align_mask, ask.size)
+    }
+
+    #[inline(always)]
+    fn take<L: Ledger, K: Ledger>(
+        &mut self,
+        ask: Ask,
+        looks: &mut Steps<L>,
+        splits: &mut Steps<K>,
+    ) -> Result<Option<FreeListBlock<M>>, AllocError> {
+        let _ = looks;
+        let _ = splits;
+        self.freelist.get_block(ask.align_mask, ask.size)
+    }
+
+    #[inline(always)]
+    fn reserve(&mut self, heap: &Heap, ask: Ask) -> Result<(), AllocError> {
+        let _ = heap;
+        let _ = ask;
+        self.freelist.reserve()
+    }
+
+    #[inline(always)]
+    fn begin<K: Ledger>(
+        &mut self,
+        memory: M,
+        handle: M,
+        whole: u64,
+        ask: Ask,
+        splits: &mut Steps<K>,
+    ) -> FreeListBlock<M> {
+        let _ = splits;
+        let block = self
+            .freelist
+            .begin(memory, handle, whole, ask.align_mask, ask.size);
+        self.chunk_size = (2 * whole).min(self.final_chunk_size);
+        block
+    }
+
+    #[inline(always)]
+    fn put_back<L: Ledger>(
+        &mut self,
+        returned: FreeListBlock<M>,
+        steps: &mut Steps<L>,
+    ) -> Option<(M, u64)> {
+        self.freelist.insert_block(returned, steps);
+        None
+    }
+
+    #[inline(always)]
+    fn take_whole(&mut self, keep_last: bool) -> Option<(M, u64)> {
+        let (memory, size, _) = self.freelist.take_whole(keep_last)?;
+        Some((memory, size))
+    }
+
+    #[inline(always)]
+    fn keeps_sound(&self) {
+        let _ = &self.freelist;
+    }
+
+    ghost lawful = { list_lawful };
+}
+
+// (free lists count neither looks nor splits, and nobody reads what a return counts)
+impl<M: MemoryObject, A: Allocator> FreeListChunks<M, A> {
+    /// Allocates a block: [`serving::alloc`] with counters that nobody reads.
+    #[inline(always)]
+    pub(super) fn alloc<D: ObjectDevice<M>, L: Ledger, K: Ledger>(
+        &mut self,
+        device: &mut D,
+        size: u64,
+        align_mask: u64,
+        flags: AllocationFlags,
+        heap: &mut Heap,
+        allocations_remains: &mut u32,
+        looks: Blank,
+        splits: Blank,
+    ) -> Result<FreeListBlock<M>, AllocationError>
+        requires looks { Begins looks L.name L.parts }
+        requires splits { Begins splits K.name K.parts }
+        requires serves { Serves (self.old).state size align_mask }
+        requires address { IsTrue (has_bit (allocation_bits flags) with_device_address)
+            → IsTrue (D.properties device.old).buffer_device_address }
+        requires agrees { list.Agrees (self.old).state (D.properties device.old) (D.objects device.old) }
+        requires counted { IsCounted (self.old).state.space.chunks heap.old allocations_remains.old }
+        ensures allocates { Asked D.step device.old device.new
+            (λ es. Answers (case_of list_rule (account (self.old).state heap.old allocations_remains.old)
+            (requested size align_mask flags)) es result
+            (account (self.new).state heap.new allocations_remains.new)) }
+        ensures objects { list.ObjectsAfter (self.old).state result (self.new).state
+            (D.objects device.old) (D.objects device.new) }
+        ensures agrees { list.Agrees (self.new).state (D.properties device.new) (D.objects device.new) }
+        ensures properties { D.properties device.new ≡ D.properties device.old }
+        ensures added { IfOk result (list.Adds (self.old).state (self.new).state) }
+        ensures leaves { list.Leaves (self.old).state (self.new).state }
+        ensures ledger { heap.new.used ≤ max heap.old.used heap.old.limit }
+        ensures refused { OnErr result (((self.new).state ≡ (self.old).state)
+            × ((heap.new ≡ heap.old) × (allocations_remains.new ≡ allocations_remains.old))) }
+        ensures was { IsSoundFreeList (self.old).state }
+        ensures sound { IsSoundFreeList (self.new).state }
+        ensures counted { IsCounted (self.new).state.space.chunks heap.new allocations_remains.new }
+        ensures total { chunks_and_remaining (self.new).state.space.chunks allocations_remains.new
+            ≡ chunks_and_remaining (self.old).state.space.chunks allocations_remains.old }
+    {
+        serving::alloc(
+            self,
+            device,
+            size,
+            align_mask,
+            flags,
+            heap,
+            allocations_remains,
+            &mut Steps::<L>::new(looks),
+            &mut Steps::<K>::new(splits),
+        )
+    }
+
+    /// The error that `alloc` gives first: [`serving::refuses`] with a counter that nobody reads.
+    #[inline(always)]
+    pub(super) fn refuses<L: Ledger>(
+        &self,
+        size: u64,
+        align_mask: u64,
+        heap: &Heap,
+        allocations_remains: u32,
+        looks: Blank,
+    ) -> Option<AllocationError>
+        requires looks { Begins looks L.name L.parts }
+        requires serves { Serves (self.now).state size align_mask }
+        ensures refuses { (flags : ℕ) → RefusesFirst (case_of list_rule
+            (account (self.now).state heap.now allocations_remains) (wanted size align_mask flags)) result }
+        ensures sound { IsSoundFreeList (self.now).state }
+    {
+        self.keeps_sound();
+        serving::refuses(
+            self,
+            size,
+            align_mask,
+            heap,
+            allocations_remains,
+            &mut Steps::<L>::new(looks),
+        )
+    }
+
+    /// Returns a block: [`returning::dealloc`] with a counter that nobody reads. No chunk is released with it.
+    #[inline(always)]
+    pub(super) fn dealloc<D: ObjectDevice<M>, L: Ledger>(
+        &mut self,
+        device: &mut D,
+        block: FreeListBlock<M>,
+        heap: &mut Heap,
+        allocations_remains: &mut u32,
+        steps: Blank,
+    )
+        requires steps { Begins steps L.name L.parts }
+        requires live { IsLiveSlot (self.old).state.space block }
+        requires agrees { list.Agrees (self.old).state (D.properties device.old) (D.objects device.old) }
+        requires counted { IsCounted (self.old).state.space.chunks heap.old allocations_remains.old }
+        ensures device { device.new ≡ device.old }
+        ensures agrees { list.Agrees (self.new).state (D.properties device.new) (D.objects device.new) }
+        ensures counted { IsCounted (self.new).state.space.chunks heap.new allocations_remains.new }
+        ensures back { account (self.new).state heap.new allocations_remains.new
+            ≡ list.account_without (account (self.old).state heap.old allocations_remains.old) block }
+        ensures removed { list.Removes (self.old).state block (self.new).state }
+    {
+        returning::dealloc(
+            self,
+            device,
+            block,
+            heap,
+            allocations_remains,
+            &mut Steps::<L>::new(steps),
+        );
+    }
+
+    /// Whether a count already shows that no chunk may be released.
+    #[inline(always)]
+    pub(super) fn keeps_all(&self, keep_last: bool) -> bool
+        ensures { IsTrue result → (number : ℕ) → MayGo (self.now).state.space keep_last number → ⊥ }
+    {
+        self.freelist.keeps_all(keep_last)
+    }
+
+    /// A size in whole atoms.
+    #[inline(always)]
+    fn rounded_size(&self, size: u64) -> u64
+        requires nonempty { 0 < size }
+        requires fits { up size (self.now).state.atom ≤ (self.now).state.final_chunk }
+        ensures is { result ≡ up size (self.now).state.atom }
+    {
+        let atom = self.atom_mask + 1;
+        (size - 1) / atom * atom + atom
+    }
+}
