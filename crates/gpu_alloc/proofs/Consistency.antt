@@ -11,14 +11,16 @@ use Rattle.gpu_alloc_types.specs.Properties.{Properties, heap_at}
 use Rattle.gpu_alloc_block.specs.State.{HeldObject, Span, share, is_shared}
 use Rattle.gpu_alloc.specs.Spans.{Table}
 use Rattle.gpu_alloc.specs.Budget.{asked_share, is_import}
-use Rattle.gpu_alloc.specs.Inside.{IsBooked, IsKnown, IsLedger, IsOfObject, IsLiveIn, AreSmall, AreLedgers, offer_of}
-use Rattle.gpu_alloc.specs.Sound.{LiesIn}
+use Rattle.gpu_alloc.specs.Inside.{IsBooked, IsKnown, IsLedger, IsOfObject, IsLiveIn, IsChosen, AreSmall, AreLedgers, offer_of}
+use Rattle.gpu_alloc.specs.Sound.{LiesIn, is_chosen}
 use Rattle.gpu_alloc_block.specs.declared.block.Kind.{Kind}
+use Rattle.gpu_alloc_block.specs.declared.sharing.Sharing.{Sharing}
 use Rattle.gpu_alloc_block.specs.declared.block.Kind.TheVariants.{Dedicated, Imported, BuddyChunk, FreeListChunk, FitChunk}
 use Rattle.gpu_alloc_base.specs.declared.heap.Heap.{Heap}
 use Rattle.gpu_alloc.proofs.Ledgers.{asked-part, ledger-bound, Held, part-none, small-insert, small-remove}
 use Rattle.gpu_alloc_base.proofs.Sums.{sum_by-insert, sum_by-remove, len_more, len_less}
-use Rattle.gpu_alloc_base.proofs.Maps.{name_test, eq-true, eq-false, one_value}
+use Rattle.gpu_alloc_base.proofs.Maps.{name_test, eq-true, eq-false, one_value, own_inserted}
+use Rattle.gpu_alloc_base.proofs.Names.{one_or_two, get_put-other, get_removed, get_removed-other}
 use Rattle.gpu_alloc_block.proofs.LiveSpans.{live_new, live_before, live_other}
 use Rattle.gpu_alloc.proofs.Tables.LiveSpans.{HasSameSpans, spans_same, spans_more, spans_fewer}
 use Rattle.gpu_alloc.proofs.HeapLists.{heap_inside, ledger_at, ledger_is, ledgers_set}
@@ -296,3 +298,25 @@ module _ (p : Properties) (heaps : List Heap) (t : Table) (remaining : ℕ) (is 
     pub booked-span_gone : now.live ≡ set_of.remove t.live span → IsBooked p heaps now remaining
     booked-span_gone live = same_held (λ q other. spans_fewer t now q span other live)
         (λ other is_now. is.spans other (live_other t.live span other (subst (λ s. IsTrue (set_of.contains s other)) live is_now)).1)
+
+-- What is held is as it was chosen: as before, with one more that is, or with fewer.
+
+pub chosen_same : (sharing : Sharing) (t now : Table) → IsChosen sharing t → now.held ≡ t.held → IsChosen sharing now
+chosen_same sharing t now chosen same object h at = chosen object h (sym (ap (λ (m : Held). finite.get m object) same) ∙ at)
+
+pub chosen_more : (sharing : Sharing) (t now : Table) (name : ℕ) (row : HeldObject) → IsChosen sharing t → is_chosen sharing row.kind ≡ true → now.held ≡ finite.insert t.held name row → IsChosen sharing now
+chosen_more sharing t now name row chosen is more object h at = elim (one_or_two object name) [
+  | inl same ↦
+      let own : Some row ≡ Some h = sym (own_inserted t.held name row) ∙ ap (finite.get (finite.insert t.held name row)) (sym same) ∙ sym (ap (λ (m : Held). finite.get m object) more) ∙ at in
+      let one : row ≡ h = cc in
+      ap (λ (x : HeldObject). is_chosen sharing x.kind) (sym one) ∙ is
+  | inr other ↦ chosen object h (sym (get_put-other t.held name row object other) ∙ sym (ap (λ (m : Held). finite.get m object) more) ∙ at)
+]
+
+pub chosen_less : (sharing : Sharing) (t now : Table) (name : ℕ) → IsChosen sharing t → now.held ≡ finite.remove t.held name → IsChosen sharing now
+chosen_less sharing t now name chosen less object h at = elim (one_or_two object name) [
+  | inl same ↦ absurd (
+      let none : None ≡ Some h = sym (get_removed t.held name) ∙ ap (finite.get (finite.remove t.held name)) (sym same) ∙ sym (ap (λ (m : Held). finite.get m object) less) ∙ at in
+      cc)
+  | inr other ↦ chosen object h (sym (get_removed-other t.held name object other) ∙ sym (ap (λ (m : Held). finite.get m object) less) ∙ at)
+]

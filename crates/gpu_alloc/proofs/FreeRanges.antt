@@ -1,6 +1,6 @@
 -- What is free in a memory type's shared chunks, as its three parts describe it and as the whole allocator's state
 -- does.
-use Rattle.std.proofs.Common.{◌≡◌, ◌≢◌, ◌⊎◌, inl, inr, ℕ, ◌↔◌, Bool, true, false, List, [], ◌∷◌, ◌++◌, get_or, Contains, Some, refl, sym, ap, subst, arith}
+use Rattle.std.proofs.Common.{◌≡◌, ◌≢◌, ◌⊎◌, inl, inr, ℕ, ◌↔◌, Bool, true, false, List, [], ◌∷◌, ◌++◌, get_or, Contains, Some, refl, sym, ◌∙◌, ap, subst, arith}
 use Rattle.std.proofs.lemmas.List.Elements.{Contains-get_or, Contains-append_left, Contains-append_right, Contains-append_cases, recursion_from_All}
 use Rattle.std.proofs.lemmas.Map.Keys.{IsDistinct-tail, IsDistinct-cons}
 use Rattle.std.specs.FinMap as map
@@ -25,7 +25,10 @@ use Rattle.gpu_alloc_base.proofs.Lists.{contains_head, contains_later, head_is_o
 use Rattle.gpu_alloc_base.proofs.Maps.{one_value}
 use Rattle.gpu_alloc_base.proofs.RangeOrder.{starts_apart, order_is_distinct}
 use Rattle.gpu_alloc.proofs.Buddies.Serving.{Serves, first_byte, piece_in_object, piece_in_chunk, chunk_with}
-use Rattle.gpu_alloc.proofs.Fits.Serving.{ServesFits, run_in_chunk, run_in_object, chunk_with as fit_chunk_with}
+use Rattle.gpu_alloc.proofs.Fits.Named.{fit_bytes, fit_named}
+use Rattle.gpu_alloc_base.specs.Chunks.{object_in}
+use Rattle.gpu_alloc.proofs.Shared.Stores.{Serves as ServesAs}
+use Rattle.gpu_alloc.proofs.Shared.Free.{run_from, run_to as run_of}
 use Rattle.gpu_alloc.proofs.FreeCovered.{one_kind}
 use Rattle.gpu_alloc.proofs.FreeLists.Serving.{ServesList, list_chunk_was, free_byte, free_in}
 
@@ -101,23 +104,18 @@ module _ (s : State) (index : ℕ) (l : FreeListState) (serves : ServesList s in
 
 -- Free runs of fit chunks.
 
-module _ (s : State) (index : ℕ) (f : FitState) (serves : ServesFits s index f) where
+module _ (s : State) (index : ℕ) (f : FitState) (serves : ServesAs fit_named s index f) where
   fit_run_in_bytes : (r : FreeRange) → IsFitRunOf f.space r → IsFreeRun (IsFreeByte s index FitChunk) r.object r.start r.end
-  fit_run_in_bytes r is = subst (λ o. IsFreeRun (IsFreeByte s index FitChunk) o r.start r.end) is.object (run_in_object s index f serves is.key r.start r.end is.chunk is.held is.run)
+  fit_run_in_bytes r is = subst (λ o. IsFreeRun (IsFreeByte s index FitChunk) o r.start r.end) (ap object_in is.held ∙ is.object) (run_of (fit_bytes s index f serves) is.key r.start r.end is.run)
 
   fit_run_is : (r : FreeRange) → IsFitRunOf f.space r → IsFreeRunOf s index r
   fit_run_is r is = record { kind = FitChunk; in_runs = refl; run = fit_run_in_bytes r is }
 
   fit_run_was : (r : FreeRange) → IsFreeRun (IsFreeByte s index FitChunk) r.object r.start r.end → IsFitRunOf f.space r
   fit_run_was r run =
-      let w = fit_chunk_with s index f serves r.object r.start (run.free r.start (omega arith) run.nonempty) in
-      record {
-        key = w.0;
-        chunk = w.1;
-        held = w.2.0;
-        object = sym w.2.1;
-        run = run_in_chunk s index f serves w.0 r.start r.end w.1 w.2.0 (subst (λ n. IsFreeRun (IsFreeByte s index FitChunk) n r.start r.end) w.2.1 run);
-      }
+      let w = run_from (fit_bytes s index f serves) r.object r.start r.end run in
+      let byte = w.2.free r.start (omega arith) w.2.nonempty in
+      record { key = w.0; chunk = byte.held; held = byte.is; object = sym (ap object_in byte.is) ∙ w.1; run = w.2 }
 
 -- All as one list.
 
@@ -137,7 +135,7 @@ distinct_append e (x ∷ xs) ys first second apart =
     ]))
     (distinct_append e xs ys (IsDistinct-tail e x xs first) second (λ a b has_a has_b. apart a b (contains_later x a xs has_a) has_b))
 
-module _ (s : State) (index : ℕ) (b : Buddy) (l : FreeListState) (f : FitState) (of_buddy : Serves s index b) (of_list : ServesList s index l) (of_fits : ServesFits s index f)
+module _ (s : State) (index : ℕ) (b : Buddy) (l : FreeListState) (f : FitState) (of_buddy : Serves s index b) (of_list : ServesList s index l) (of_fits : ServesAs fit_named s index f)
     (pieces runs fitted : List FreeRange) (pieces_are : (r : FreeRange) → Contains pieces r ↔ IsPieceOf b r) (runs_are : (r : FreeRange) → Contains runs r ↔ IsRunOf l.space r)
     (fitted_are : (r : FreeRange) → Contains fitted r ↔ IsFitRunOf f.space r) where
   -- a run is one of the free list's or of the fit chunks'

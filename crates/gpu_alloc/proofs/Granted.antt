@@ -1,7 +1,7 @@
 -- What a caller may know of a granted block follows from the decision, by the way in which its candidate is served.
 use Rattle.std.proofs.Common.{◌≡◌, ◌≢◌, inl, inr, ℕ, ◌+◌, ◌*◌, ◌-◌, ◌/◌, ◌%◌, ◌^◌, ◌<◌, ◌≤◌, ◌↔◌, true, false, Contains, List, length, Option, Some, None, Result, Ok, Err, IsTrue, refl, sym, ◌∙◌, ap, subst, arith}
 use Rattle.std.specs.Prelude.{IfOk, max}
-use Rattle.std.proofs.lemmas.Bool.{cases_Bool, cases_eq, cases_lt}
+use Rattle.std.proofs.lemmas.Bool.{cases_Bool, cases_eq}
 use Rattle.std.proofs.lemmas.Bool.Decides.{nat_tests}
 use Rattle.std.proofs.lemmas.Nat.{pow_pos}
 use Rattle.std.proofs.Math.Nat.{mul_comm, zero-mod, zero-mul, one-mul}
@@ -15,9 +15,9 @@ use Rattle.gpu_alloc_base.specs.FreeSpace.{IsIn, IsMultipleOf, IsPowerOfTwo}
 use Rattle.gpu_alloc_base.specs.Sizes.{minimal_size}
 use Rattle.gpu_alloc_base.specs.declared.error.AllocationError.{AllocationError}
 use Rattle.gpu_alloc_base.proofs.ChunkSizes.{cut_whole, grown_is_least, up_enough}
-use Rattle.gpu_alloc_base.proofs.FreeRuns.{run_stops, tail_below, tail_ends}
-use Rattle.gpu_alloc_base.proofs.Maps.{own_inserted}
-use Rattle.gpu_alloc_base.proofs.Multiples.{mod_from_multiple, multiple_down, multiple_from_mod, multiple_min, multiple_of_lower, multiple_rest, multiple_times}
+use Rattle.gpu_alloc_base.proofs.FreeRuns.{tail_below, tail_ends}
+use Rattle.gpu_alloc_base.proofs.Maps.{one_value, own_inserted}
+use Rattle.gpu_alloc_base.proofs.Multiples.{mod_from_multiple, multiple_down, multiple_min, multiple_of_lower, multiple_rest, multiple_times}
 use Rattle.gpu_alloc_base.proofs.PowersOfTwo.{greater_power, next_is_enough, power_of_bit}
 use Rattle.gpu_alloc_buddy.specs.Buddy.{Fits}
 use Rattle.gpu_alloc.specs.Allocation.{AllocatesBy, AloneIsTold, CandidateDecides, ExactIsTold, IsAloneWhereServed, IsAsAsked, IsCandidate, IsExactFit, IsGranted, Plan, candidates_of, fits_a_chunk, is_alone, plan, serves_alone, strategy}
@@ -29,7 +29,7 @@ use Rattle.gpu_alloc.specs.FitSharing.{IsInFreeRun, first_fit, fit_alignment, fi
 use Rattle.gpu_alloc.specs.FreeListSharing.{IsFreeInChunk, IsListChunk, IsRunTail, largest_list_chunk, latest_number, list_alignment, list_question, list_size, next_list_chunk, tail_of}
 use Rattle.gpu_alloc.specs.Request.{IsAskable}
 use Rattle.gpu_alloc.specs.Sound.{IsSound}
-use Rattle.gpu_alloc_block.specs.State.{Block, HeldObject, Span, State, granted_block, is_shared, span_of}
+use Rattle.gpu_alloc_block.specs.State.{Block, HeldObject, IsLive, Span, State, granted_block, is_shared, span_of}
 use Rattle.gpu_alloc.specs.declared.allocator.Strategy.{Strategy}
 use Rattle.gpu_alloc.specs.declared.allocator.Strategy.TheVariants.{OwnObject, InBuddyChunk, InFreeList, InFitChunk}
 use Rattle.gpu_alloc_block.specs.declared.block.Kind.{Kind}
@@ -38,7 +38,8 @@ use Rattle.gpu_alloc.specs.declared.request.Dedicated.{Dedicated}
 use Rattle.gpu_alloc.specs.declared.request.Dedicated.TheVariants.{Required}
 use Rattle.gpu_alloc.specs.declared.request.Request.{Request}
 use Rattle.gpu_alloc.proofs.Decisions.{candidate_known, of_grant}
-use Rattle.gpu_alloc.proofs.Fits.Grants.{first_in_largest}
+use Rattle.gpu_alloc.proofs.Fits.Small.{first_in_largest}
+use Rattle.gpu_alloc.proofs.Shared.Free.{AreFreeBeside, run_ends}
 use Rattle.gpu_alloc.proofs.Soundness.{ranges_apart}
 use Rattle.gpu_alloc.proofs.Strategies.{fits_chosen, fits_its_list}
 use Rattle.gpu_alloc_block.proofs.LiveSpans.{live_new}
@@ -178,42 +179,23 @@ module _ (s : State) (r : Request) (sound : IsSound s) where
         }
 
     -- a free run ends at whole atoms: where its chunk does, or where a live span begins
-    run_ends : (number start end : ℕ) → IsFreeRun (IsFreeInChunk s t) number start end → IsMultipleOf atom end
-    run_ends number start end run =
-        let last = run.free (end - 1) (omega (arith, run.nonempty)) (omega (arith, run.nonempty)) in
-        let object : ℕ = last.0 in
-        let byte = last.1 in
-        let chunk : IsListChunk s t number object = record { chunk = byte.chunk; held = byte.held; of_type = byte.of_type; of_kind = byte.of_kind } in
-        let never : (end % atom ≡ 0 → ⊥) → ⊥ = λ odd.
-        let short : end < byte.chunk.counted = elim (cases_lt end byte.chunk.counted) [
-          | inl lt ↦ lt
-          | inr ge ↦
-              let same : end ≡ byte.chunk.counted = omega (arith, ge, byte.inside) in
-              absurd (odd (ap (λ x. x % atom) same ∙ mod_from_multiple atom byte.chunk.counted (atoms.ends t number object chunk)))
-        ] in
-        let next : IsFreeByte s t (FreeListChunk number) object end = record {
-          chunk = byte.chunk;
-          held = byte.held;
-          of_type = byte.of_type;
-          of_kind = byte.of_kind;
-          inside = short;
-          unused = λ span live same inside. elim (cases_lt span.offset end) [
-            | inl before ↦ byte.unused span live same (record { from = omega (arith, before); to = omega (arith, inside.to) })
-            | inr not_before ↦
-                let here : end ≡ span.offset = omega (arith, not_before, inside.from) in
-                odd (ap (λ x. x % atom) here ∙ mod_from_multiple atom span.offset (atoms.begins t number span (subst (IsListChunk s t number) (sym same) chunk) live))
-          ];
+    run_whole : (number start end : ℕ) → IsFreeRun (IsFreeInChunk s t) number start end → IsMultipleOf atom end
+    run_whole number start end run =
+        let first = run.free start (omega arith) run.nonempty in
+        let chunk : IsListChunk s t number first.0 = record { chunk = first.1.chunk; held = first.1.held; of_type = first.1.of_type; of_kind = first.1.of_kind } in
+        let object_is : (at : ℕ) (free : IsFreeInChunk s t number at) → free.0 ≡ first.0 = λ at free.
+        sound.numbers t number free.0 first.0 (record { chunk = free.1.chunk; held = free.1.held; of_type = free.1.of_type; of_kind = free.1.of_kind }) chunk in
+        let beside : AreFreeBeside (IsFreeInChunk s t) number first.1.chunk.counted (λ span. IsLive s span × (span.object ≡ first.0)) = record {
+          inside = λ at free. let same = one_value _ free.1.chunk first.1.chunk free.1.held (ap (map.get s.held) (object_is at free) ∙ first.1.held) in omega (arith, free.1.inside, ap (λ (h : HeldObject). h.counted) same);
+          unused = λ at free span has. free.1.unused span has.0 (has.1 ∙ sym (object_is at free));
+          free = λ at inside unused. (first.0, record { chunk = chunk.chunk; held = chunk.held; of_type = chunk.of_type; of_kind = chunk.of_kind; inside = inside; unused = λ span live named. unused span (live, named) });
         } in
-        run_stops (IsFreeInChunk s t) number start end run (object, next) in
-        elim (cases_eq (end % atom) 0) [
-          | inl none ↦ multiple_from_mod atom end none
-          | inr some ↦ absurd (never some)
-        ]
+        run_ends beside atom start end run (λ span has. atoms.begins t number span (subst (IsListChunk s t number) (sym has.1) chunk) has.0) (atoms.ends t number first.0 chunk)
 
     tail_granted : (number : ℕ) (span : Span) → IsRunTail s t size alignment number span → IsGranted s r (with_span s span) (granted_block s t (FreeListChunk number) span)
     tail_granted number span tail =
         let run = tail.run in
-        let sized = tail_sized number span run.end tail.last.room.enough (run_ends run.chunk run.start run.end tail.last.run) tail.start tail.end in
+        let sized = tail_sized number span run.end tail.last.room.enough (run_whole run.chunk run.start run.end tail.last.run) tail.start tail.end in
         in_place t (FreeListChunk number) span sized (omega (arith, sized.enough, asked.nonempty)) (λ at inside.
         let free = tail.last.run.free at (omega (arith, inside.from, tail.start, tail.last.room.from)) (omega (arith, inside.to, tail.end)) in
         let byte = subst (λ n. IsFreeByte s t (FreeListChunk n) free.0 at) tail.in_chunk free.1 in

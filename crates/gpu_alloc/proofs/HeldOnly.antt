@@ -9,12 +9,14 @@ use Rattle.std.specs.Option.{is_some}
 use Rattle.std.specs.Prelude.{MatchBool, IsNone, OnErr}
 use Rattle.gpu_alloc_types.specs.Device.{Event}
 use Rattle.gpu_alloc_types.specs.Flags.{usage_bits}
-use Rattle.gpu_alloc_base.specs.Accounts.{account}
+use Rattle.gpu_alloc_base.specs.Accounts.{Account, account}
 use Rattle.gpu_alloc_base.specs.Case as case
 use Rattle.gpu_alloc_base.specs.Case.{Case, RefusesFirst}
+use Rattle.gpu_alloc_base.specs.NewChunk.{flags_of}
 use Rattle.gpu_alloc_base.specs.Wanted.{wanted}
 use Rattle.gpu_alloc_base.specs.declared.error.AllocationError.{AllocationError}
 use Rattle.gpu_alloc_base.specs.declared.error.AllocationError.TheVariants.{OutOfDeviceMemory, OutOfHostMemory, NoCompatibleMemoryTypes, TooManyObjects}
+use Rattle.gpu_alloc_base.specs.declared.free_list_block.Slot.{Slot}
 use Rattle.gpu_alloc_base.specs.declared.heap.Heap.{Heap}
 use Rattle.gpu_alloc_base.proofs.Lists.{contains_head, contains_later}
 use Rattle.gpu_alloc_block.specs.State.{Block, State}
@@ -40,12 +42,13 @@ use Rattle.gpu_alloc.specs.declared.request.Dedicated.TheVariants.{Required, Pre
 use Rattle.gpu_alloc.specs.declared.request.Request.{Request}
 use Rattle.gpu_alloc_fit.specs.Fit as of_fit
 use Rattle.gpu_alloc_fit.specs.Fit.{FitState}
-use Rattle.gpu_alloc_fits.specs.Space as fit_space
-use Rattle.gpu_alloc.specs.FitSharing.{fit_alignment, fit_size}
-use Rattle.gpu_alloc.proofs.Fits.Serving as fits
+use Rattle.gpu_alloc_fit.specs.FitRule.{fit_rule}
+use Rattle.gpu_alloc_shared.specs.Shared.{ask_case}
+use Rattle.gpu_alloc.proofs.Fits.Named.{fit_asked, fit_named, fit_request}
 use Rattle.gpu_alloc.proofs.Buddies.Serving as buddies
 use Rattle.gpu_alloc.proofs.Decisions.{decides_refused}
 use Rattle.gpu_alloc.proofs.FreeLists.Serving as free_lists
+use Rattle.gpu_alloc.proofs.Shared.Stores.{Serves}
 use Rattle.gpu_alloc.proofs.Strategies.{shared_below}
 
 -- A place, recognised by whether there is a refusal where nothing remains.
@@ -90,23 +93,13 @@ module _ (s : State) (index : ℕ) (heap : Heap) (r : Request) (flags : ℕ) (fi
       ))
       first refuses told is
 
-  pub fit_place_told : (f : FitState) → fits.ServesFits s index f → 0 < r.size → RefusesFirst (of_fit.case_of (account f heap 0) (wanted r.size r.align_mask flags)) first → IsTrue told ↔ HasPlaceBy InFitChunk s r index
-  fit_place_told f serves some refuses =
-      let size : of_fit.rounded f (wanted r.size r.align_mask flags) ≡ fit_size s r index = fits.rounded_is s index f serves r flags in
-      let alignment : of_fit.alignment f (wanted r.size r.align_mask flags) ≡ fit_alignment s r index = fits.alignment_is s index f serves r flags in
-      told_by_refusal (of_fit.case_of (account f heap 0) (wanted r.size r.align_mask flags)) refl
-      (λ _ place. record {
-        fits = tt;
-        place = fits.place_is s index f serves (fit_size s r index) (fit_alignment s r index)
-            (subst (λ n. fit_space.HasPlace f.space (fit_size s r index) n) alignment (subst (λ n. fit_space.HasPlace f.space n (of_fit.alignment f (wanted r.size r.align_mask flags))) size place));
-      })
-      (λ has. (
-        tt,
-        subst (λ n. fit_space.HasPlace f.space n (of_fit.alignment f (wanted r.size r.align_mask flags))) (sym size)
-            (subst (λ n. fit_space.HasPlace f.space (fit_size s r index) n) (sym alignment)
-            (fits.place_was s index f serves (fit_size s r index) (fit_alignment s r index) (fits.some_size s index f serves r some) has.place)),
-      ))
-      first refuses told is
+  pub fit_place_told : (f : FitState) → Serves fit_named s index f → 0 < r.size → flags ≡ flags_of s.properties → RefusesFirst (of_fit.case_of (account f heap 0) (wanted r.size r.align_mask flags)) first → IsTrue told ↔ HasPlaceBy InFitChunk s r index
+  fit_place_told f serves some flags_are refuses =
+      let q = fit_request s index f serves r heap 0 flags some flags_are in
+      told_by_refusal (ask_case fit_rule (account f heap 0) q.ask q.flags) refl
+      (λ _ place. record { fits = tt; place = subst (λ (x : Case Block State). x.HasPlace) (sym q.by_name) (fit_asked.place s index f q.ask serves place) })
+      (λ has. (tt, fit_asked.place_was s index f q.ask serves q.some (subst (λ (x : Case Block State). x.HasPlace) q.by_name has.place)))
+      first (subst (λ (x : Case Slot (Account FitState)). RefusesFirst x first) q.to_store refuses) told is
 
 -- The walk over the ranked types. The candidates are those of the types ts that are allowed.
 

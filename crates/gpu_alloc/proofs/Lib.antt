@@ -35,6 +35,7 @@ pub mod ReturnedTotals
 pub mod Returns
 pub mod Served
 pub mod Serving
+pub mod Shared
 pub mod Soundness
 pub mod Strategies
 pub mod Tables

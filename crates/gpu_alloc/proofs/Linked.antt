@@ -1,6 +1,6 @@
 -- What an allocator's fields keep, as each memory type's buddy allocator and free list sees it: both have the same chunks and
 -- blocks as the whole.
-use Rattle.std.proofs.Common.{◌≡◌, inl, inr, true, ℕ, suc, ◌+◌, ◌<◌, List, length, IfSome, Option, Some, None, slice_get, refl, sym, ◌∙◌, ap, subst}
+use Rattle.std.proofs.Common.{◌≡◌, inl, inr, ℕ, suc, ◌+◌, ◌<◌, List, length, IfSome, Option, Some, None, slice_get, refl, sym, ◌∙◌, ap, subst}
 use Rattle.std.proofs.Math.ListN.{set}
 use Rattle.std.proofs.lemmas.List.{length-set}
 use Rattle.std.specs.FinMap as finite
@@ -23,23 +23,21 @@ use Rattle.gpu_alloc_block.proofs.Parts.Steps.{holds_of, own_part, part_span}
 use Rattle.gpu_alloc_block.proofs.Parts.Unions.{live_of}
 use Rattle.gpu_alloc_buddy.specs.BuddyState.{IsLiveBuddyLeaf}
 use Rattle.gpu_alloc_freelist.specs.FreeListState.{IsLiveSlot}
-use Rattle.gpu_alloc.specs.Inside.{fit_object, AreFits, IsChosen, IsFitFor, IsFitForType, HasFitSizes}
+use Rattle.gpu_alloc.specs.Inside.{AreFits, IsChosen, IsFitFor, IsFitForType, HasFitSizes}
 use Rattle.gpu_alloc.specs.Inside.{chunk_object, list_object, properties_in, span_of_leaf, span_of_slot, state_in, AreBuddies, AreLists, IsBooked, IsBuddyFor, IsForType, IsListFor, IsListForType}
 use Rattle.gpu_alloc.specs.Own.{OwnTable}
 use Rattle.gpu_alloc.specs.declared.limits.Limits.{Limits}
-use Rattle.gpu_alloc.specs.Whole.{buddy_part, fit_part, list_part, parts_of, whole, AreOneWhole, IsKept, IsPartFor}
+use Rattle.gpu_alloc.specs.Whole.{buddy_part, list_part, parts_of, whole, AreOneWhole, IsKept, IsPartFor}
 use Rattle.gpu_alloc.proofs.HeapLists.{each_set}
-use Rattle.gpu_alloc.proofs.Wholes.{at_buddy, at_fit, at_list, single, stands_at, within}
+use Rattle.gpu_alloc.proofs.Fits.Named.{fit_is_named, fit_named}
+use Rattle.gpu_alloc.proofs.Shared.Stores.{IsLinked, Stands, linked, plain_of}
+use Rattle.gpu_alloc.proofs.Wholes.{at_buddy, at_list, read_is, single, stands_at, within}
 use Rattle.gpu_alloc.specs.Spans.{Table}
 use Rattle.gpu_alloc_fit.specs.Fit.{FitState}
 use Rattle.gpu_alloc_fit.specs.FitSound as fit
-use Rattle.gpu_alloc_fits.specs.Space.{IsLiveSlot as IsLiveFit}
-use Rattle.gpu_alloc.specs.Sound.{is_chosen}
-use Rattle.gpu_alloc.proofs.Links.{IsChunkOf, IsFitChunkOf, IsFitLinked, IsListLinked, IsNumberedChunk, IsTableOfBuddy, leaf_at, slot_at}
+use Rattle.gpu_alloc.proofs.Links.{IsChunkOf, IsListLinked, IsNumberedChunk, IsTableOfBuddy, leaf_at, slot_at}
 use Rattle.gpu_alloc_block.specs.declared.sharing.Sharing.{Sharing}
-use Rattle.gpu_alloc_base.proofs.Maps.{own_inserted}
-use Rattle.gpu_alloc_base.proofs.Names.{one_or_two, get_put-other, get_removed, get_removed-other}
-use Rattle.gpu_alloc.proofs.Ledgers.{Held}
+pub use Rattle.gpu_alloc.proofs.Consistency.{chosen_less, chosen_more, chosen_same}
 
 pub record IsBuddyOf (c : Config) (p : Properties) (t : Table) (index : ℕ) (b : Buddy) : Type 0 where
   pub for_type : IsForType c p index b
@@ -59,7 +57,7 @@ pub record IsFitOf (c : Config) (p : Properties) (t : Table) (index : ℕ) (f : 
   pub for_type : IsFitForType c p index f
   pub sized : HasFitSizes c p index f
   pub sound : fit.IsSoundFit f
-  pub linked : IsFitLinked t f
+  pub linked : IsLinked fit_named t f
 
 pub record HasFits (c : Config) (p : Properties) (t : Table) (fits : List FitState) : Type 0 where
   pub count : length fits ≡ length p.memory_types
@@ -166,34 +164,16 @@ module _ (sharing : Sharing) (c : Config) (p : Properties) (heaps : List Heap) (
       whole_has : (number : ℕ) (chunk : Chunk) → finite.get l.space.chunks number ≡ Some chunk → finite.get t.held chunk.object ≡ Some (list_object l number chunk)
       whole_has number chunk held = holds_of Spot ps kept.apart spot (list_part l) chunk.object (list_object l number chunk) at (name_there (list_object l) l.space.chunks is.sound.one_object number chunk held)
 
-  fit_linked : (index : ℕ) (f : FitState) → slice_get fits index ≡ Some f → IsFitFor c p index f → IsFitLinked t f
-  fit_linked index f there is = record {
-    chunks = λ key chunk held. holds_of Spot ps kept.apart spot (fit_part f) chunk.object (fit_object f chunk) at (name_there object_in f.space.chunks named key chunk held);
-    objects = λ object h of.
-        let was = name_was object_in f.space.chunks named object h (holds object h of) in
-        (was.0, was.2 ∙ (λ k. Some (record { object = was.3 k; size = (was.4 k).counted })));
-    slots = λ slot live. live_of ps spot (fit_part f) (span_of_slot slot) at (span_row_live slot_total slot_exact span_of_slot f.space.live slot live);
-    spans = λ span h live of.
-        let stands = part_span Spot ps kept.apart spot (fit_part f) span h live (holds span.object h of) at in
-        let row = span_row_there slot_total slot_exact span_of_slot f.space.live span stands in
-        (row.0.chunk, subst (λ (s : Span). IsLiveFit f.space (slot_at s row.0.chunk)) row.2 row.1);
-  }
-    where
-      object_in : ℕ → Chunk → HeldObject
-      object_in key chunk = fit_object f chunk
-
-      spot : ℕ
-      spot = suc (length buddies + (length lists + index))
-
-      at : IsAt ps spot (fit_part f)
-      at = at_fit own buddies lists fits kept.apart index f (stands_at fits index f there) is.sound is.for_type.memory_type
-
-      named : HaveOwnObjects f.space.chunks
-      named = is.sound.space.one_object
-
-      holds : (object : ℕ) (h : HeldObject) → IsFitChunkOf t f.memory_type object h → Holds (fit_part f) object h
-      holds object h of =
-          own_part Spot ps kept.apart (single (length buddies) (length lists)) spot (fit_part f) object h of.held (inr (inr (of.of_kind, ap (λ n. length buddies + (length lists + n)) (of.of_type ∙ is.for_type.memory_type)))) at
+  fit_linked : (index : ℕ) (f : FitState) → slice_get fits index ≡ Some f → IsFitFor c p index f → IsLinked fit_named t f
+  fit_linked index f there is =
+      let st : Stands fit_named own (record { buddies = buddies; lists = lists; fits = fits }) index f = record {
+        apart = kept.apart;
+        at = read_is fits index f there;
+        inside = within fits index f there;
+        of_type = is.for_type.memory_type;
+        plain = plain_of fit_is_named f is.sound;
+      } in
+      linked fit_is_named st
 
   pub consistent : IsConsistent sharing c p heaps buddies lists fits t remaining
   consistent = record {
@@ -230,28 +210,6 @@ lists_for c p t lists has = record { count = has.count; each = λ i. some_for (I
 
 pub fits_for : (c : Config) (p : Properties) (t : Table) (fits : List FitState) → HasFits c p t fits → AreFits c p fits
 fits_for c p t fits has = record { count = has.count; each = λ i. some_for (IsFitOf c p t i) (IsFitFor c p i) (slice_get fits i) (λ f of. record { for_type = of.for_type; sized = of.sized; sound = of.sound }) (has.each i) }
-
--- What is held is as it was chosen: as before, with one more that is, or with fewer.
-
-pub chosen_same : (sharing : Sharing) (t now : Table) → IsChosen sharing t → now.held ≡ t.held → IsChosen sharing now
-chosen_same sharing t now chosen same object h at = chosen object h (sym (ap (λ (m : Held). finite.get m object) same) ∙ at)
-
-pub chosen_more : (sharing : Sharing) (t now : Table) (name : ℕ) (row : HeldObject) → IsChosen sharing t → is_chosen sharing row.kind ≡ true → now.held ≡ finite.insert t.held name row → IsChosen sharing now
-chosen_more sharing t now name row chosen is more object h at = elim (one_or_two object name) [
-  | inl same ↦
-      let own : Some row ≡ Some h = sym (own_inserted t.held name row) ∙ ap (finite.get (finite.insert t.held name row)) (sym same) ∙ sym (ap (λ (m : Held). finite.get m object) more) ∙ at in
-      let one : row ≡ h = cc in
-      ap (λ (x : HeldObject). is_chosen sharing x.kind) (sym one) ∙ is
-  | inr other ↦ chosen object h (sym (get_put-other t.held name row object other) ∙ sym (ap (λ (m : Held). finite.get m object) more) ∙ at)
-]
-
-pub chosen_less : (sharing : Sharing) (t now : Table) (name : ℕ) → IsChosen sharing t → now.held ≡ finite.remove t.held name → IsChosen sharing now
-chosen_less sharing t now name chosen less object h at = elim (one_or_two object name) [
-  | inl same ↦ absurd (
-      let none : None ≡ Some h = sym (get_removed t.held name) ∙ ap (finite.get (finite.remove t.held name)) (sym same) ∙ sym (ap (λ (m : Held). finite.get m object) less) ∙ at in
-      cc)
-  | inr other ↦ chosen object h (sym (get_removed-other t.held name object other) ∙ sym (ap (λ (m : Held). finite.get m object) less) ∙ at)
-]
 
 -- One of them is put in its place.
 

@@ -1,17 +1,14 @@
--- How the table of held objects and live spans is linked with a memory type's buddy allocator, free list and allocator of
--- fit chunks: both have the same chunks and the same blocks in them.
+-- How the table of held objects and live spans is linked with a memory type's buddy allocator and free list: both have the same chunks and the same blocks in them.
 use Rattle.std.proofs.Common.{◌≡◌, ℕ, Some}
 use Rattle.std.specs.FinMap as map_of
 use Rattle.gpu_alloc_base.specs.Chunks.{Chunk}
 use Rattle.gpu_alloc_base.specs.declared.buddy_block.Leaf.{Leaf}
 use Rattle.gpu_alloc_base.specs.declared.free_list_block.Slot.{Slot}
 use Rattle.gpu_alloc_block.specs.State.{HeldObject, Span}
-use Rattle.gpu_alloc_block.specs.declared.block.Kind.TheVariants.{BuddyChunk, FreeListChunk, FitChunk}
+use Rattle.gpu_alloc_block.specs.declared.block.Kind.TheVariants.{BuddyChunk, FreeListChunk}
 use Rattle.gpu_alloc_buddy.specs.BuddyState.{Buddy, IsLiveBuddyLeaf}
-use Rattle.gpu_alloc_fit.specs.Fit.{FitState}
-use Rattle.gpu_alloc_fits.specs.Space as fit_space
 use Rattle.gpu_alloc_freelist.specs.FreeListState.{FreeListState, IsLiveSlot}
-use Rattle.gpu_alloc.specs.Inside.{IsLiveIn, chunk_object, fit_object, list_object, span_of_leaf, span_of_slot}
+use Rattle.gpu_alloc.specs.Inside.{IsLiveIn, chunk_object, list_object, span_of_leaf, span_of_slot}
 use Rattle.gpu_alloc.specs.Spans.{Table}
 
 -- A buddy allocator.
@@ -52,17 +49,3 @@ pub record IsListLinked (t : Table) (l : FreeListState) : Type 0 where
   pub objects : (number object : ℕ) (h : HeldObject) → IsNumberedChunk t l.memory_type number object h → map_of.get l.space.chunks number ≡ Some (record { object = object; size = h.counted })
   pub slots : (slot : Slot) → IsLiveSlot l.space slot → IsLiveIn t (span_of_slot slot)
   pub spans : (span : Span) (number : ℕ) (h : HeldObject) → IsLiveIn t span → IsNumberedChunk t l.memory_type number span.object h → IsLiveSlot l.space (slot_at span number)
-
--- An allocator of fit chunks.
-
--- the object is held as a fit chunk of this memory type
-pub record IsFitChunkOf (t : Table) (memory_type object : ℕ) (h : HeldObject) : Type 0 where
-  pub held : map_of.get t.held object ≡ Some h
-  pub of_kind : h.kind ≡ FitChunk
-  pub of_type : h.memory_type ≡ memory_type
-
-pub record IsFitLinked (t : Table) (f : FitState) : Type 0 where
-  pub chunks : (key : ℕ) (c : Chunk) → map_of.get f.space.chunks key ≡ Some c → map_of.get t.held c.object ≡ Some (fit_object f c)
-  pub objects : (object : ℕ) (h : HeldObject) → IsFitChunkOf t f.memory_type object h → (key : ℕ) × (map_of.get f.space.chunks key ≡ Some (record { object = object; size = h.counted }))
-  pub slots : (slot : Slot) → fit_space.IsLiveSlot f.space slot → IsLiveIn t (span_of_slot slot)
-  pub spans : (span : Span) (h : HeldObject) → IsLiveIn t span → IsFitChunkOf t f.memory_type span.object h → (key : ℕ) × fit_space.IsLiveSlot f.space (slot_at span key)

@@ -1,5 +1,5 @@
 -- What the allocator's fields keep, as its state describes it.
-use Rattle.std.proofs.Common.{◌≡◌, ◌≢◌, ◌⊎◌, inl, inr, ℕ, zero, suc, ◌+◌, ◌<◌, ◌≤◌, true, false, List, [], ◌∷◌, length, get_or, Option, Some, None, IfSome, IsSome, slice_get, refl, sym, ◌∙◌, ap, subst, arith}
+use Rattle.std.proofs.Common.{◌≡◌, ◌≢◌, ◌⊎◌, inl, inr, ℕ, zero, suc, ◌+◌, ◌<◌, ◌≤◌, true, false, List, [], ◌∷◌, length, Option, Some, None, IfSome, IsSome, slice_get, refl, sym, ◌∙◌, ap, subst, arith}
 use Rattle.std.proofs.lemmas.Bool.{cases_eq, cases_lt, cases_Bool}
 use Rattle.std.proofs.lemmas.Nat.{pow_pos}
 use Rattle.std.specs.FinMap as map
@@ -9,10 +9,12 @@ use Rattle.gpu_alloc_base.specs.Chunks.{Chunk}
 use Rattle.gpu_alloc_freelist.specs.FreeListState.{FreeListState, IsLiveSlot}
 use Rattle.gpu_alloc_base.specs.FreeSpace.{IsIn, IsMultipleOf, IsPowerOfTwo}
 use Rattle.gpu_alloc.specs.Atoms.{KeepsAtoms, IsNextFitChunk, IsNextListChunk}
-use Rattle.gpu_alloc.specs.FitSharing.{grain, grain_of, next_fit_chunk, IsFitChunk, IsFitChunkSize, IsFitSize}
-use Rattle.gpu_alloc.specs.FreeListSharing.{IsListChunk, latest_number, next_list_chunk}
+use Rattle.gpu_alloc.specs.FitSharing.{fit_chunk_of, grain, grain_of, next_fit_chunk, IsFitChunk, IsFitChunkSize, IsFitSize}
+use Rattle.gpu_alloc.specs.FreeListSharing.{IsListChunk, latest_number, list_chunk_of, next_list_chunk, number_of}
 use Rattle.gpu_alloc.specs.FirstTypes.{first_types, first_type_state}
-use Rattle.gpu_alloc.specs.Inside.{state_in, properties_in, types_in, lists_in, span_of_leaf, span_of_slot, IsLiveIn, IsKnown, offer_of}
+use Rattle.gpu_alloc.specs.Inside.{fits_in, state_in, properties_in, types_in, lists_in, span_of_leaf, span_of_slot, IsLiveIn, IsKnown, offer_of}
+use Rattle.gpu_alloc.proofs.Wholes.{read_is}
+use Rattle.gpu_alloc.proofs.Buddies.Grants.{same_set}
 use Rattle.gpu_alloc.proofs.Linked.{IsBuddyOf, IsFitOf, IsListOf, IsConsistent}
 use Rattle.gpu_alloc.specs.Sound.{IsSound, IsUnused, LiesIn, may_be_unused}
 use Rattle.gpu_alloc.specs.Spans.{Table}
@@ -22,11 +24,13 @@ use Rattle.gpu_alloc_block.specs.declared.sharing.Sharing.{Sharing}
 use Rattle.gpu_alloc_base.specs.declared.config.Config.{Config}
 use Rattle.gpu_alloc_base.specs.declared.heap.Heap.{Heap}
 use Rattle.gpu_alloc.specs.declared.limits.Limits.{Limits}
-use Rattle.gpu_alloc.proofs.Links.{IsChunkOf, IsFitChunkOf, IsNumberedChunk, Place, leaf_at, slot_at}
+use Rattle.gpu_alloc.proofs.Links.{IsChunkOf, IsNumberedChunk, Place, leaf_at, slot_at}
 use Rattle.gpu_alloc.proofs.Consistency.{chunk_kinds}
 use Rattle.gpu_alloc.proofs.HeapLists.{heap_is}
 use Rattle.std.proofs.lemmas.List.{length-map}
-use Rattle.gpu_alloc.proofs.Fits.States.{fit_next_at, fits_list_at, fits_number_at, lists_within}
+use Rattle.gpu_alloc.proofs.Fits.Named.{fit_named}
+use Rattle.gpu_alloc.proofs.Shared.Stores.{IsHeldAs}
+use Rattle.gpu_alloc.proofs.Shared.Types.{read_changed, types_other, types_set, types_within as types_in_range}
 use Rattle.gpu_alloc.proofs.FreeLists.States.{list_latest_at, list_next_at, types_within}
 use Rattle.gpu_alloc.proofs.Atoms.{atom_power}
 use Rattle.gpu_alloc_base.proofs.Maps.{one_value}
@@ -144,17 +148,17 @@ module _ {c : Config} {p : Properties} {t : Table} {l : FreeListState} {object n
 -- A fit chunk.
 
 module _ {c : Config} {p : Properties} {t : Table} {f : FitState} {object : ℕ} {h : HeldObject} (is : IsFitOf c p t h.memory_type f) (held : map.get t.held object ≡ Some h) (kind : h.kind ≡ FitChunk) where
-  fit_held : IsFitChunkOf t f.memory_type object h
-  fit_held = record { held = held; of_kind = kind; of_type = sym is.for_type.memory_type }
+  fit_held : IsHeldAs fit_named t f object h
+  fit_held = record { key = 0; held = held; of_kind = kind; of_type = sym is.for_type.memory_type }
 
   fit_key : (key : ℕ) × (map.get f.space.chunks key ≡ Some (chunk_at object h))
-  fit_key = is.linked.objects object h fit_held
+  fit_key = let there = is.linked.objects object h fit_held in (there.0, there.1)
 
   -- a live span is a live block of the chunk
   fit_slot : (span : Span) → IsLiveIn t span → span.object ≡ object → (key : ℕ) × IsLiveFit f.space (slot_at span key)
   fit_slot span live named =
-      let there = is.linked.spans span h live (subst (λ o. IsFitChunkOf t f.memory_type o h) (sym named) fit_held) in
-      there
+      let there = is.linked.spans span h live (subst (λ o. IsHeldAs fit_named t f o h) (sym named) fit_held) in
+      (there.0.chunk, subst (λ (s : Span). IsLiveFit f.space (slot_at s there.0.chunk)) there.2 there.1)
 
   of_fit : (span : Span) (key : ℕ) → IsLiveFit f.space (slot_at span key) → span.object ≡ object → (key ≡ fit_key.0) × (span.offset + span.size ≤ h.counted) × (0 < span.size)
   of_fit span key live named =
@@ -190,7 +194,7 @@ module _ {c : Config} {p : Properties} {t : Table} {f : FitState} {object : ℕ}
     unused = λ slot live there.
         let lies = is.sound.space.inside slot live in
         let same : lies.chunk ≡ chunk_at object h = one_value _ lies.chunk (chunk_at object h) lies.held (ap (λ k. map.get f.space.chunks k) there ∙ fit_key.1) in
-        unused (span_of_slot slot) (is.linked.slots slot live) (lies.object ∙ ap (λ (x : Chunk). x.object) same);
+        unused (span_of_slot slot) (is.linked.blocks slot live) (lies.object ∙ ap (λ (x : Chunk). x.object) same);
   }
 
 -- Each held object.
@@ -278,11 +282,6 @@ there_is [] i inside = absurd (omega (arith, inside))
 there_is (x ∷ xs) zero inside = (x, refl)
 there_is (x ∷ xs) (suc i) inside = there_is xs i (omega (arith, inside))
 
-read_is : {X : Type 0} (xs : List X) (i : ℕ) (x : X) → slice_get xs i ≡ Some x → x ≡ get_or xs i x
-read_is [] i x is = absurd (cc)
-read_is (y ∷ xs) zero x is = let same : y ≡ x = cc is in sym same
-read_is (y ∷ xs) (suc i) x is = read_is xs i x is
-
 module _ {A : Type 0} (l : Limits A) (heaps : List Heap) (buddies : List Buddy) (lists : List FreeListState) (fits : List FitState) (t : Table) (remaining : ℕ)
     (is : IsConsistent l.sharing l.config (properties_in l heaps) heaps buddies lists fits t remaining) (index number : ℕ) where
   abbrev s : State
@@ -307,10 +306,10 @@ module _ {A : Type 0} (l : Limits A) (heaps : List Heap) (buddies : List Buddy) 
     fitted = omega (arith, known, is.fitted.count)
 
     latest_is : latest_number s index ≡ own_list.0.space.latest
-    latest_is = fits_number_at (lists_in types lists) fits index fitted ∙ list_latest_at types lists index own_list.0 own_list.1 typed
+    latest_is = types_other _ number_of (λ f type. refl) (lists_in types lists) fits index fitted ∙ list_latest_at types lists index own_list.0 own_list.1 typed
 
     next_is : next_list_chunk s index ≡ own_list.0.next_chunk
-    next_is = fits_list_at (lists_in types lists) fits index fitted ∙ list_next_at types lists index own_list.0 own_list.1 typed
+    next_is = types_other _ list_chunk_of (λ f type. refl) (lists_in types lists) fits index fitted ∙ list_next_at types lists index own_list.0 own_list.1 typed
 
     next_whole : IsNextListChunk s index
     next_whole =
@@ -332,10 +331,14 @@ module _ {A : Type 0} (l : Limits A) (heaps : List Heap) (buddies : List Buddy) 
     fitting_own = subst (λ (o : Option FitState). IfSome o (IsFitOf l.config (properties_in l heaps) t index)) own_fitting.1 (is.fitted.each index)
 
     listed : index < length (lists_in types lists)
-    listed = lists_within types lists index typed (omega (arith, known, is.listed.count))
+    listed = types_in_range _ types lists index typed (omega (arith, known, is.listed.count))
 
     next_fit_is : next_fit_chunk s index ≡ own_fitting.0.next_chunk
-    next_fit_is = fit_next_at (lists_in types lists) fits index own_fitting.0 own_fitting.1 listed
+    next_fit_is =
+        let own_types = types_set (λ (x : FitState) type. record type { fit_chunk = x.next_chunk }) own_fitting.0 (λ y type. refl) (lists_in types lists) fits index in
+        let same = same_set fits index own_fitting.0 own_fitting.0 (read_is fits index own_fitting.0 own_fitting.1) refl in
+        ap (λ ts. fit_chunk_of (slice_get ts index)) (ap (fits_in (lists_in types lists)) (sym same) ∙ own_types)
+        ∙ read_changed fit_chunk_of (λ type. record type { fit_chunk = own_fitting.0.next_chunk }) (fits_in (lists_in types lists) fits) index own_fitting.0.next_chunk (types_in_range _ (lists_in types lists) fits index listed fitted) (λ type. refl)
 
     next_fit_within : IsNextFitChunk s index
     next_fit_within =

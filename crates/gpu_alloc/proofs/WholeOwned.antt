@@ -152,7 +152,7 @@ module _ {A : Type 0} (l : Limits A) (heaps : List Heap) (buddies : List Buddy) 
     spot = suc (length buddies + (length lists + b.memory_type))
 
     fit_stands : IsAt ps spot (fit_part f)
-    fit_stands = at_fit own buddies lists fits kept.apart b.memory_type f (at_read fits b.memory_type f inside at) its_fit.sound its_fit.for_type.memory_type
+    fit_stands = at_fit own buddies lists fits b.memory_type f (at_read fits b.memory_type f inside at)
 
     fit_owned : (slot : Slot) → IsLiveFitSpan f.space b.object b.offset b.size slot → IsOwned state b
     fit_owned slot is =

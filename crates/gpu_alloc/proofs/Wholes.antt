@@ -64,6 +64,12 @@ at_read [] i x inside at = absurd (omega (arith, inside))
 at_read (y ∷ ys) zero x inside at = sym at
 at_read (y ∷ ys) (suc i) x inside at = at_read ys i x (omega (arith, inside)) at
 
+-- what is there is what is read
+pub read_is : {X : Type 0} (xs : List X) (i : ℕ) (x : X) → slice_get xs i ≡ Some x → x ≡ get_or xs i x
+read_is [] i x is = absurd (cc)
+read_is (y ∷ xs) zero x is = let same : y ≡ x = cc is in sym same
+read_is (y ∷ xs) (suc i) x is = read_is xs i x is
+
 pub stands_at : {A : Type 0} (xs : List A) (i : ℕ) (x : A) → slice_get xs i ≡ Some x → IsAt xs i x
 stands_at [] i x at = absurd (cc)
 stands_at (y ∷ ys) zero x at = (let same : y ≡ x = cc in same)
@@ -297,65 +303,14 @@ one_fit f sound a b live_a live_b same =
     let key = sound.space.one_object a.chunk b.chunk in_a.chunk in_b.chunk in_a.held in_b.held objects in
     λ k. record { object = (same k).object; chunk = key k; offset = (same k).offset; size = (same k).size }
 
-module _ (own : OwnTable) (buddies : List Buddy) (lists : List FreeListState) (fits : List FitState) (apart : AreOneWhole own buddies lists fits) (index : ℕ) (f : FitState) (at : IsAt fits index f) (sound : IsSoundFit f) (typed : f.memory_type ≡ index) where
-  abbrev Spot : ℕ → HeldObject → Type 0
-  Spot = IsPartFor (length buddies) (length lists)
+-- where its part stands, and another one in its place
+module _ (own : OwnTable) (buddies : List Buddy) (lists : List FreeListState) (fits : List FitState) (index : ℕ) where
+  pub at_fit : (f : FitState) → IsAt fits index f → IsAt (parts_of own buddies lists fits) (suc (length buddies + (length lists + index))) (fit_part f)
+  at_fit f at = at_later buddy_part buddies (map list_part lists ++ map fit_part fits) (length lists + index) (fit_part f) (at_later list_part lists (map fit_part fits) index (fit_part f) (at_map fit_part fits index f at))
 
-  abbrev fit_spot : ℕ
-  fit_spot = suc (length buddies + (length lists + index))
-
-  abbrev fit_in : ℕ → Chunk → HeldObject
-  fit_in key c = fit_object f c
-
-  pub at_fit : IsAt (parts_of own buddies lists fits) fit_spot (fit_part f)
-  at_fit = at_later buddy_part buddies (map list_part lists ++ map fit_part fits) (length lists + index) (fit_part f) (at_later list_part lists (map fit_part fits) index (fit_part f) (at_map fit_part fits index f at))
-
-  module _ (new : FitState) (same : new.memory_type ≡ f.memory_type) where
-    fit_held_as : (chunks : Chunks) → new.space.chunks ≡ chunks → (fit_part new).held ≡ by_name fit_in chunks
-    fit_held_as chunks is = λ k. by_name (λ _ c. record { memory_type = same k; counted = c.size; kind = FitChunk }) (is k)
-
-    makes_fit : {held : Held} {live : Live} → Makes Spot (set (parts_of own buddies lists fits) fit_spot (fit_part new)) held live → Makes Spot (parts_of own buddies lists (set fits index new)) held live
-    makes_fit {held} {live} it =
-        subst (λ rest. Makes Spot (part_of_own own ∷ rest) held live)
-        (set_later buddy_part buddies (map list_part lists ++ map fit_part fits) (length lists + index) (fit_part new)
-        ∙ ap (λ ys. map buddy_part buddies ++ ys) (set_later list_part lists (map fit_part fits) index (fit_part new) ∙ ap (λ ys. map list_part lists ++ ys) (set_map fit_part fits index new))) it
-
-    pub fit_comes : (slot : Slot) (c : Chunk) → finite.get f.space.chunks slot.chunk ≡ Some c → slot.object ≡ c.object → new.space.chunks ≡ f.space.chunks → new.space.live ≡ set_of.insert f.space.live slot
-        → Makes Spot (parts_of own buddies lists (set fits index new)) (whole own buddies lists fits).held (set_of.insert (whole own buddies lists fits).live (span_of_slot slot))
-    fit_comes slot c is named chunks live =
-        makes_fit (store.row_comes slot_total slot_exact span_of_slot Spot (parts_of own buddies lists fits) apart fit_spot fit_in f.space.chunks f.space.live sound.space.one_object at_fit (fit_part new) slot slot.chunk c is named
-        (fit_held_as f.space.chunks chunks) (ap (by_span span_of_slot) live))
-
-    pub fit_chunk_comes : (slot : Slot) (c : Chunk) → finite.get (whole own buddies lists fits).held slot.object ≡ None → slot.object ≡ c.object → finite.get f.space.chunks slot.chunk ≡ None
-        → new.space.chunks ≡ finite.insert f.space.chunks slot.chunk c → new.space.live ≡ set_of.insert f.space.live slot
-        → Makes Spot (parts_of own buddies lists (set fits index new)) (finite.insert (whole own buddies lists fits).held slot.object (fit_object f c)) (set_of.insert (whole own buddies lists fits).live (span_of_slot slot))
-    fit_chunk_comes slot c none named free chunks live =
-        makes_fit (store.chunk_comes slot_total slot_exact span_of_slot Spot (parts_of own buddies lists fits) apart fit_spot fit_in f.space.chunks f.space.live sound.space.one_object at_fit (fit_part new) slot slot.chunk c none named free
-        (inr (inr (refl, ap (λ n. length buddies + (length lists + n)) typed))) (fit_held_as _ chunks) (ap (by_span span_of_slot) live))
-
-    pub fit_goes : (slot : Slot) → IsLiveFit f.space slot → new.space.chunks ≡ f.space.chunks → new.space.live ≡ set_of.remove f.space.live slot
-        → Makes Spot (parts_of own buddies lists (set fits index new)) (whole own buddies lists fits).held (set_of.remove (whole own buddies lists fits).live (span_of_slot slot))
-    fit_goes slot was chunks live =
-        let lies = sound.space.inside slot was in
-        makes_fit (store.row_goes slot_total slot_exact span_of_slot Spot (parts_of own buddies lists fits) apart fit_spot fit_in f.space.chunks f.space.live sound.space.one_object at_fit (fit_part new) (one_fit f sound) slot was slot.chunk lies.chunk lies.held lies.object
-        (ap (by_span span_of_slot) live) (fit_held_as f.space.chunks chunks))
-
-    pub last_fit_goes : (slot : Slot) → IsLiveFit f.space slot → ((other : Slot) → IsLiveFit f.space other → other.chunk ≡ slot.chunk → other ≡ slot) → new.space.chunks ≡ finite.remove f.space.chunks slot.chunk → new.space.live ≡ set_of.remove f.space.live slot
-        → Makes Spot (parts_of own buddies lists (set fits index new)) (finite.remove (whole own buddies lists fits).held slot.object) (set_of.remove (whole own buddies lists fits).live (span_of_slot slot))
-    last_fit_goes slot was last chunks live =
-        let lies = sound.space.inside slot was in
-        makes_fit (store.last_row_goes slot_total slot_exact span_of_slot Spot (parts_of own buddies lists fits) apart fit_spot fit_in f.space.chunks f.space.live sound.space.one_object at_fit (fit_part new) (one_fit f sound) slot was slot.chunk lies.chunk lies.held lies.object
-        (ap (by_span span_of_slot) live)
-        (λ other stood named. let of = sound.space.inside other stood in last other stood (sound.space.one_object other.chunk slot.chunk of.chunk lies.chunk of.held lies.held (sym of.object ∙ named)))
-        (fit_held_as _ chunks))
-
-    pub fit_chunk_goes : (key : ℕ) (c : Chunk) → finite.get f.space.chunks key ≡ Some c → ((slot : Slot) → IsLiveFit f.space slot → slot.chunk ≢ key)
-        → new.space.chunks ≡ finite.remove f.space.chunks key → new.space.live ≡ f.space.live
-        → Makes Spot (parts_of own buddies lists (set fits index new)) (finite.remove (whole own buddies lists fits).held c.object) (whole own buddies lists fits).live
-    fit_chunk_goes key c is unused chunks live =
-        makes_fit (store.chunk_goes slot_total slot_exact span_of_slot Spot (parts_of own buddies lists fits) apart fit_spot fit_in f.space.chunks f.space.live sound.space.one_object at_fit (fit_part new) key c is
-        (λ slot stood named. let lies = sound.space.inside slot stood in unused slot stood (sound.space.one_object slot.chunk key lies.chunk c lies.held is (sym lies.object ∙ named)))
-        (fit_held_as _ chunks) (ap (by_span span_of_slot) live))
+  pub set_fit : (new : FitState) → set (parts_of own buddies lists fits) (suc (length buddies + (length lists + index))) (fit_part new) ≡ parts_of own buddies lists (set fits index new)
+  set_fit new = ap (λ ps. part_of_own own ∷ ps) (set_later buddy_part buddies (map list_part lists ++ map fit_part fits) (length lists + index) (fit_part new)
+      ∙ ap (λ ys. map buddy_part buddies ++ ys) (set_later list_part lists (map fit_part fits) index (fit_part new) ∙ ap (λ ys. map list_part lists ++ ys) (set_map fit_part fits index new)))
 
 -- Where nothing is held.
 

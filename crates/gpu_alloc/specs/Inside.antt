@@ -45,24 +45,24 @@ properties_in l heaps = record {
   buffer_device_address = l.buffer_device_address;
 }
 
--- the chunk sizes of each memory type, with the next buddy chunk as its buddy allocator has it
+-- the chunk sizes of each memory type, as each of some stores changes its own
+abbrev pub types_with : {X : Type 0} → (X → TypeState → TypeState) → List TypeState → List X → List TypeState
+types_with g [] xs = []
+types_with g (type ∷ types) [] = []
+types_with g (type ∷ types) (x ∷ xs) = g x type ∷ types_with g types xs
+
+-- with the next buddy chunk as its buddy allocator has it
 abbrev pub types_in : List TypeState → List Buddy → List TypeState
-types_in [] buddies = []
-types_in (type ∷ types) [] = []
-types_in (type ∷ types) (b ∷ buddies) = record type { next_chunk = b.next_chunk } ∷ types_in types buddies
+types_in types buddies = types_with (λ b type. record type { next_chunk = b.next_chunk }) types buddies
 
 -- with the next free-list chunk and the latest number as its free list has them
 abbrev pub lists_in : List TypeState → List FreeListState → List TypeState
-lists_in [] lists = []
-lists_in (type ∷ types) [] = []
-lists_in (type ∷ types) (l ∷ lists) =
-    record type { list_chunk = l.next_chunk; number = l.space.latest } ∷ lists_in types lists
+lists_in types lists =
+    types_with (λ l type. record type { list_chunk = l.next_chunk; number = l.space.latest }) types lists
 
 -- with the next fit chunk's least size as its allocator of fit chunks has it
 abbrev pub fits_in : List TypeState → List FitState → List TypeState
-fits_in [] fits = []
-fits_in (type ∷ types) [] = []
-fits_in (type ∷ types) (f ∷ fits) = record type { fit_chunk = f.next_chunk } ∷ fits_in types fits
+fits_in types fits = types_with (λ f type. record type { fit_chunk = f.next_chunk }) types fits
 
 abbrev pub state_in : {A : Type 0} → Limits A → List Heap → List Buddy → List FreeListState → List FitState → Table → ℕ → State
 state_in l heaps buddies lists fits t remaining = record {

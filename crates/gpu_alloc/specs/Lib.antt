@@ -25,6 +25,7 @@ pub mod Served
 pub mod Serving
 pub mod Sound
 pub mod Spans
+pub mod Stores
 pub mod Types
 pub mod UnderKeys
 pub mod Whole

@@ -10,11 +10,13 @@ use Rattle.gpu_alloc_block.specs.declared.block.Kind.TheVariants.{BuddyChunk, Fr
 use Rattle.gpu_alloc_block.specs.declared.sharing.Sharing.{Sharing}
 use Rattle.gpu_alloc_buddy.specs.BuddyState.{Buddy}
 use Rattle.gpu_alloc_fit.specs.Fit.{FitState}
+use Rattle.gpu_alloc_fit.specs.FitRule.{fit_rule}
 use Rattle.gpu_alloc_freelist.specs.FreeListState.{FreeListState}
-use Rattle.gpu_alloc.specs.Inside.{chunk_object, fit_object, list_object, span_of_leaf, span_of_slot}
+use Rattle.gpu_alloc.specs.Inside.{chunk_object, list_object, span_of_leaf, span_of_slot}
 use Rattle.gpu_alloc.specs.Inside.{AreBuddies, AreFits, AreLists, IsBooked, IsChosen}
 use Rattle.gpu_alloc.specs.Own.{OwnTable}
 use Rattle.gpu_alloc.specs.Spans.{Table}
+use Rattle.gpu_alloc.specs.Stores.{part}
 
 abbrev pub own_part : OwnTable → Part
 own_part own = record { held = own.held; live = own.live }
@@ -27,7 +29,7 @@ abbrev pub list_part : FreeListState → Part
 list_part l = record { held = by_name (list_object l) l.space.chunks; live = by_span span_of_slot l.space.live }
 
 abbrev pub fit_part : FitState → Part
-fit_part f = record { held = by_name (λ _ c. fit_object f c) f.space.chunks; live = by_span span_of_slot f.space.live }
+fit_part f = part fit_rule (λ key. FitChunk) f
 
 abbrev pub parts_of : OwnTable → List Buddy → List FreeListState → List FitState → List Part
 parts_of own buddies lists fits =

@@ -17,7 +17,7 @@ use Rattle.gpu_alloc.specs.Inside.{fits_in, state_in, properties_in, types_in, l
 use Rattle.gpu_alloc.specs.Own.{OwnTable}
 use Rattle.gpu_alloc.specs.Whole.{IsKept}
 use Rattle.gpu_alloc.proofs.Linked.{chosen_more, chosen_same, fits_for, IsConsistent, IsBuddyOf, IsRecorded, buddies_for, buddies_set, lists_for}
-use Rattle.gpu_alloc.specs.BuddySharing.{buddy_question, with_span, with_next_chunk, with_buddy_chunk}
+use Rattle.gpu_alloc.specs.BuddySharing.{buddy_question, next_chunk_of, with_span, with_next_chunk, with_buddy_chunk}
 use Rattle.gpu_alloc.specs.FirstTypes.{first_types, first_type_state}
 use Rattle.gpu_alloc.specs.Spans.{Table}
 use Rattle.gpu_alloc_block.specs.State.{HeldObject, State}
@@ -32,8 +32,8 @@ use Rattle.gpu_alloc.proofs.Buddies.Served.{buddy_counted}
 use Rattle.gpu_alloc.proofs.Buddies.Serving.{Serves, question_is}
 use Rattle.gpu_alloc.specs.Sound.{is_chosen}
 use Rattle.gpu_alloc_block.specs.declared.sharing.Sharing.TheVariants.{Buddy as BuddiesChosen}
-use Rattle.gpu_alloc.proofs.Fits.States.{fits_next, fits_next_at}
-use Rattle.gpu_alloc.proofs.Buddies.States.{HasLeafMore, next_at, types_set, types_kept, lists_next, lists_next_at}
+use Rattle.gpu_alloc.proofs.Shared.Types.{types_other}
+use Rattle.gpu_alloc.proofs.Buddies.States.{HasLeafMore, next_at, types_set, types_kept, fits_next, lists_next, lists_next_at}
 use Rattle.gpu_alloc_fit.specs.Fit.{FitState}
 
 -- a live block is not empty
@@ -74,7 +74,7 @@ module _ {A : Type 0} (l : Limits A) (heaps : List Heap) (buddies : List Buddy) 
   serves = record {
     of = buddy_of;
     next =
-        fits_next_at (lists_in (types_in (first_types l.config p) buddies) lists) fits index (omega (arith, known, is.fitted.count))
+        types_other _ next_chunk_of (λ f type. refl) (lists_in (types_in (first_types l.config p) buddies) lists) fits index (omega (arith, known, is.fitted.count))
         ∙ lists_next_at (types_in (first_types l.config p) buddies) lists index (omega (arith, known, is.listed.count)) ∙ next_at (first_types l.config p) buddies index b there typed;
   }
 

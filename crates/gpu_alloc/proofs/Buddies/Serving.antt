@@ -1,4 +1,5 @@
 -- A memory type's buddy allocator in the whole allocator's state: both say the same of chunks, free bytes and blocks.
+pub use Rattle.gpu_alloc.proofs.Shared.Stores.{table_of}
 use Rattle.std.proofs.Common.{◌≡◌, ℕ, ◌*◌, ◌^◌, ◌<◌, Some, slice_get, refl, sym, ◌∙◌, ap, subst, arith}
 use Rattle.std.proofs.lemmas.Nat.{pow_pos}
 use Rattle.std.specs.Prelude.{max}
@@ -20,17 +21,12 @@ use Rattle.gpu_alloc.specs.Candidates.{buddy_candidate, candidate}
 use Rattle.gpu_alloc.specs.declared.allocator.Strategy.TheVariants.{InBuddyChunk}
 use Rattle.gpu_alloc_base.proofs.ToldTwice.{IsToldAs}
 use Rattle.gpu_alloc.proofs.HeapLists.{IsHeap}
-use Rattle.gpu_alloc.specs.Spans.{Table}
 use Rattle.gpu_alloc_block.specs.State.{HeldObject, State}
 use Rattle.gpu_alloc_block.specs.declared.block.Kind.TheVariants.{BuddyChunk}
 use Rattle.gpu_alloc_base.specs.declared.buddy_block.Leaf.{Leaf}
 use Rattle.gpu_alloc_base.specs.declared.heap.Heap.{Heap}
 use Rattle.gpu_alloc.specs.declared.request.Request.{Request}
 use Rattle.gpu_alloc.proofs.Links.{leaf_at}
-
--- what a state holds
-abbrev pub table_of : State → Table
-table_of s = record { held = s.held; live = s.live }
 
 -- the memory type's buddy allocator, whose next chunk is as the state says
 pub record Serves (s : State) (index : ℕ) (b : Buddy) : Type 0 where

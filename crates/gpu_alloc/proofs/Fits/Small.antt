@@ -1,11 +1,10 @@
 -- Sizes of fit chunks, of every configuration.
-use Rattle.std.proofs.Common.{◌≡◌, inl, inr, ℕ, zero, suc, ◌*◌, ◌+◌, ◌/◌, ◌^◌, ◌<◌, ◌≤◌, ◌==◌, Bool, true, false, cond, Some, sym, ◌∙◌, ap, subst, arith}
+use Rattle.std.proofs.Common.{◌≡◌, inl, inr, ℕ, ◌*◌, ◌+◌, ◌/◌, ◌^◌, ◌<◌, ◌≤◌, sym, ◌∙◌, ap, subst, arith}
 use Rattle.std.proofs.Math.Nat.{le-mul_of_pos_right, mul_assoc, mul_comm}
 use Rattle.std.proofs.lemmas.Bool.{cases_lt}
 use Rattle.std.proofs.lemmas.Nat.{pow-add, pow_pos}
 use Rattle.std.proofs.lemmas.Bool.Decides.{nat_tests}
 use Rattle.std.specs.Prelude.{min, max}
-use Rattle.std.specs.FinMap as finite
 use Rattle.gpu_alloc_types.specs.Properties.{Properties, atom_of, heap_size}
 use Rattle.gpu_alloc_base.specs.Chunks.{Chunk}
 use Rattle.gpu_alloc_base.specs.FreeSpace.{IsMultipleOf}
@@ -18,24 +17,19 @@ use Rattle.gpu_alloc_base.specs.declared.free_list_block.Slot.{Slot}
 use Rattle.gpu_alloc_fit.specs.Fit.{FitState, chunk_size, fitting_in_new_chunk}
 use Rattle.gpu_alloc_fit.specs.FitSound.{IsSoundFit}
 use Rattle.gpu_alloc.specs.FitSharing.{AreSmall, FitChunksAreSmall, IsFitChunkSize, IsSmallChunk, first_fit, grain, largest_fit}
-use Rattle.gpu_alloc.specs.Inside.{HasFitSizes, IsFitForType}
+use Rattle.gpu_alloc.specs.Inside.{HasFitSizes}
 use Rattle.gpu_alloc.proofs.Opened.{largest_whole, starting_within}
 
-at_least : (g x : ℕ) → x ≤ at_least_an_atom g x
-at_least g zero = omega arith
-at_least g (suc x) = grind (arith, nat_tests)
+at_least : (g x : ℕ) → (x ≤ at_least_an_atom g x) × (at_least_an_atom g x ≤ max g x)
+at_least g x = (grind (arith, nat_tests), grind (arith, nat_tests))
 
 -- what is cut is no larger than the part of the heap, or than one grain
 cut_part : (heap g size : ℕ) → cut heap g size ≤ max g (heap / 32)
-cut_part heap g size = cases (down (min size (heap / 32)) g == 0)
-  where
-    cases : (none : Bool) → cond none g (down (min size (heap / 32)) g) ≤ max g (heap / 32)
-    cases true = omega arith
-    cases false = let below = down_below (min size (heap / 32)) g in omega (arith, below)
+cut_part heap g size = let least = (at_least g (down (min size (heap / 32)) g)).1 in let below = down_below (min size (heap / 32)) g in omega (arith, least, below)
 
 small : (c : Config) (heap g : ℕ) → 0 < g → AreSmall c heap g
 small c heap g some = record {
-  room = at_least g (first_fit c heap g);
+  room = (at_least g (first_fit c heap g)).0;
   grows = starting_within c heap g some;
   four_times = omega arith;
   part =
@@ -46,6 +40,10 @@ small c heap g some = record {
 
 pub fit_chunks_small : FitChunksAreSmall
 fit_chunks_small = record { each = small }
+
+-- a first chunk is no larger than a largest one
+pub first_in_largest : (c : Config) (heap g : ℕ) → 0 < g → first_fit c heap g ≤ largest_fit c heap g
+first_in_largest c heap g some = let is = small c heap g some in omega (arith, is.room, is.grows)
 
 -- What a size that a fit chunk can have is.
 
@@ -99,28 +97,20 @@ module _ (c : Config) (heap g : ℕ) where
     part = let most = (small c heap g some).part in omega (arith, is, most);
   }
 
--- The chunks of an allocator of fit chunks keep such sizes.
-
-module _ {c : Config} {p : Properties} {index : ℕ} {f : FitState} (given : IsFitForType c p index f) (sized : HasFitSizes c p index f) where
+-- The chunks of an allocator of fit chunks keep such sizes, as one more is made.
+module _ {c : Config} {p : Properties} {index : ℕ} {f : FitState} (final : f.final_chunk ≡ largest_fit c (heap_size p index) (grain (atom_of p index))) (sized : HasFitSizes c p index f) where
   abbrev Sized : ℕ → Type 0
   Sized = IsFitChunkSize c (heap_size p index) (grain (atom_of p index))
 
-  -- that of a new one
-  pub chunk_sized : (size : ℕ) → IsSoundFit f → size ≤ f.final_chunk → Sized (chunk_size f size)
-  chunk_sized size sound fits =
-      let last = given.final_chunk in
-      subst (λ l. Sized (grown_chunk f.next_chunk l size)) (sym last)
-      (grown_sized c (heap_size p index) (grain (atom_of p index)) f.next_chunk size sized.next sound.next_chunk.0.1 (omega (arith, last, sound.next_chunk.1)) (omega (arith, last, sound.final_chunk.1)) (omega (arith, last, fits)))
-
-  pub sized_more : (slot : Slot) (size : ℕ) → Sized size → HasFitSizes c p index (fitting_in_new_chunk f slot size)
-  sized_more slot size is = record {
-    next = subst (λ l. Sized (doubled_chunk l size)) (sym given.final_chunk) (doubled_sized c (heap_size p index) (grain (atom_of p index)) size is);
-    chunks = λ key chunk held. elim (put-cases f.space.chunks slot.chunk (record { object = slot.object; size = size }) key chunk held) [
+  pub sized_more : IsSoundFit f → (slot : Slot) (size : ℕ) → size ≤ f.final_chunk → HasFitSizes c p index (fitting_in_new_chunk f slot (chunk_size f size))
+  sized_more sound slot size fits = record {
+    next = subst (λ l. Sized (doubled_chunk l (chunk_size f size))) (sym final) (doubled_sized c (heap_size p index) (grain (atom_of p index)) (chunk_size f size) is);
+    chunks = λ key chunk held. elim (put-cases f.space.chunks slot.chunk (record { object = slot.object; size = chunk_size f size }) key chunk held) [
       | inl new ↦ subst Sized (sym (ap (λ (x : Chunk). x.size) new.1)) is
       | inr was ↦ sized.chunks key chunk was.1
     ];
   }
-
-  -- and that of those that stay
-  pub sized_less : (after : FitState) → after.next_chunk ≡ f.next_chunk → ((key : ℕ) (chunk : Chunk) → finite.get after.space.chunks key ≡ Some chunk → finite.get f.space.chunks key ≡ Some chunk) → HasFitSizes c p index after
-  sized_less after next fewer = record { next = subst Sized (sym next) sized.next; chunks = λ key chunk held. sized.chunks key chunk (fewer key chunk held) }
+    where
+      is : Sized (chunk_size f size)
+      is = subst (λ l. Sized (grown_chunk f.next_chunk l size)) (sym final) (grown_sized c (heap_size p index) (grain (atom_of p index)) f.next_chunk size sized.next sound.next_chunk.0.1
+          (omega (arith, final, sound.next_chunk.1)) (omega (arith, final, sound.final_chunk.1)) (omega (arith, final, fits)))

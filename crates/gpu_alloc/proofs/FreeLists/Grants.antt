@@ -30,10 +30,9 @@ use Rattle.gpu_alloc.specs.declared.limits.Limits.{Limits}
 use Rattle.gpu_alloc.specs.declared.request.Request.{Request}
 use Rattle.gpu_alloc.proofs.Consistency.{heap_there, booked-held, booked-span}
 use Rattle.gpu_alloc.proofs.HeapLists.{properties_kept, state_kept}
-use Rattle.gpu_alloc.proofs.FreeLists.States.{HasSlotMore}
+use Rattle.gpu_alloc.proofs.FreeLists.States.{HasSlotMore, fits_next_list}
 use Rattle.gpu_alloc.proofs.FreeLists.Served.{list_counted}
 use Rattle.gpu_alloc.proofs.FreeLists.Serving.{ServesList, question_is}
-use Rattle.gpu_alloc.proofs.Fits.States.{fits_next_list}
 use Rattle.gpu_alloc.proofs.FreeLists.States.{list_types_set, list_types_kept}
 use Rattle.gpu_alloc_base.proofs.Slots.{slot_inserted}
 use Rattle.gpu_alloc.proofs.Buddies.Grants.{same_set}

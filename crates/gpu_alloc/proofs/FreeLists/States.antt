@@ -1,14 +1,16 @@
 -- The chunk sizes and the latest number of each memory type, as one free list changes.
-use Rattle.std.proofs.Common.{◌≡◌, false, ℕ, zero, suc, ◌+◌, ◌<◌, List, [], ◌∷◌, length, get_or, Some, slice_get, refl, ◌∙◌, ap, arith}
+use Rattle.std.proofs.Common.{◌≡◌, false, ℕ, zero, suc, ◌+◌, ◌<◌, List, [], ◌∷◌, length, get_or, Some, slice_get, refl, sym, ◌∙◌, ap, arith}
 use Rattle.std.proofs.Math.ListN.{set}
 use Rattle.std.specs.FinSet as set_of
 use Rattle.gpu_alloc_base.specs.declared.free_list_block.Slot.{Slot}
 use Rattle.gpu_alloc_buddy.specs.BuddyState.{Buddy}
+use Rattle.gpu_alloc_fit.specs.Fit.{FitState}
 use Rattle.gpu_alloc_freelist.specs.FreeListState.{FreeListState}
-use Rattle.gpu_alloc.specs.Inside.{types_in, lists_in, span_of_slot}
+use Rattle.gpu_alloc.specs.Inside.{fits_in, types_in, lists_in, span_of_slot}
 use Rattle.gpu_alloc.specs.FreeListSharing.{list_chunk_of, number_of, with_next_list}
 use Rattle.gpu_alloc.specs.Spans.{Table}
 use Rattle.gpu_alloc_block.specs.State.{TypeState}
+use Rattle.gpu_alloc.proofs.Shared.Types.{changed, types_changed}
 
 -- As a free list changes.
 
@@ -47,7 +49,17 @@ list_latest_at (type ∷ types) [] i l at within = absurd (cc)
 list_latest_at (type ∷ types) (y ∷ lists) zero l at within = let same : y ≡ l = cc in ap (λ (x : FreeListState). x.space.latest) same
 list_latest_at (type ∷ types) (y ∷ lists) (suc i) l at within = list_latest_at types lists i l at (omega (arith, within))
 
--- Beside the buddy allocators.
+-- Beside the buddy allocators and the allocators of fit chunks.
+
+list_changed : (types : List TypeState) (i size : ℕ) → with_next_list types i size ≡ changed (λ type. record type { list_chunk = size; number = type.number + 1 }) types i
+unfolding with_next_list
+list_changed [] i size = refl
+list_changed (type ∷ types) zero size = refl
+list_changed (type ∷ types) (suc i) size = ap (λ ts. type ∷ ts) (list_changed types i size)
+
+-- the next chunk of a free list is the same with the fit chunks
+pub fits_next_list : (types : List TypeState) (fits : List FitState) (i size : ℕ) → fits_in (with_next_list types i size) fits ≡ with_next_list (fits_in types fits) i size
+fits_next_list types fits i size = ap (λ ts. fits_in ts fits) (list_changed types i size) ∙ types_changed _ _ (λ f type. refl) types fits i ∙ sym (list_changed (fits_in types fits) i size)
 
 -- a memory type with a buddy allocator stays one
 pub types_within : (types : List TypeState) (buddies : List Buddy) (i : ℕ) → i < length types → i < length buddies → i < length (types_in types buddies)

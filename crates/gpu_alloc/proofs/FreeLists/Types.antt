@@ -7,12 +7,13 @@ use Rattle.gpu_alloc_buddy.specs.BuddyState.{Buddy}
 use Rattle.gpu_alloc_freelist.specs.FreeListState.{FreeListState}
 use Rattle.gpu_alloc.specs.Inside.{state_in, properties_in, lists_in, types_in, IsListForType}
 use Rattle.gpu_alloc.proofs.Linked.{IsConsistent, IsListOf}
+use Rattle.gpu_alloc.specs.FreeListSharing.{list_chunk_of, number_of}
 use Rattle.gpu_alloc.specs.FirstTypes.{first_types, first_type_state}
 use Rattle.gpu_alloc.specs.Spans.{Table}
 use Rattle.gpu_alloc_base.specs.declared.heap.Heap.{Heap}
 use Rattle.gpu_alloc.specs.declared.limits.Limits.{Limits}
 use Rattle.gpu_alloc.proofs.FreeLists.Serving.{ServesList}
-use Rattle.gpu_alloc.proofs.Fits.States.{fits_list_at, fits_number_at}
+use Rattle.gpu_alloc.proofs.Shared.Types.{types_other}
 use Rattle.gpu_alloc.proofs.FreeLists.States.{list_next_at, list_latest_at, types_within}
 use Rattle.gpu_alloc_fit.specs.Fit.{FitState}
 
@@ -32,8 +33,8 @@ module _ {A : Type 0} (l : Limits A) (heaps : List Heap) (buddies : List Buddy) 
   pub serves_own : ServesList (state_in l heaps buddies lists fits t remaining) index fl
   serves_own = record {
     of = own_listing;
-    next = fits_list_at (lists_in (types_in (first_types l.config (properties_in l heaps)) buddies) lists) fits index (omega (arith, known, is.fitted.count)) ∙ list_next_at (types_in (first_types l.config (properties_in l heaps)) buddies) lists index fl there typed_list;
-    number = fits_number_at (lists_in (types_in (first_types l.config (properties_in l heaps)) buddies) lists) fits index (omega (arith, known, is.fitted.count)) ∙ list_latest_at (types_in (first_types l.config (properties_in l heaps)) buddies) lists index fl there typed_list;
+    next = types_other _ list_chunk_of (λ f type. refl) (lists_in (types_in (first_types l.config (properties_in l heaps)) buddies) lists) fits index (omega (arith, known, is.fitted.count)) ∙ list_next_at (types_in (first_types l.config (properties_in l heaps)) buddies) lists index fl there typed_list;
+    number = types_other _ number_of (λ f type. refl) (lists_in (types_in (first_types l.config (properties_in l heaps)) buddies) lists) fits index (omega (arith, known, is.fitted.count)) ∙ list_latest_at (types_in (first_types l.config (properties_in l heaps)) buddies) lists index fl there typed_list;
   }
 
 -- what it was given stays

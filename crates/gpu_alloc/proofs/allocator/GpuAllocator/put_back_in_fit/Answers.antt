@@ -3,8 +3,8 @@ use Rattle.gpu_alloc_base.specs.Accounts.{account}
 use Rattle.gpu_alloc_base.specs.declared.free_list_block.Slot.{Slot}
 use Rattle.gpu_alloc_fits.specs.Space.{IsLiveFitSpan}
 use Rattle.gpu_alloc.proofs.Linked.{consistent}
-use Rattle.gpu_alloc.proofs.Fits.Going.{Handed, agrees_before, counted_first, handed}
-use Rattle.gpu_alloc.proofs.Fits.Returns.{Given, IsReturned, back, put_back_given, known_type, slot_there, span_there}
+use Rattle.gpu_alloc.proofs.Fits.Named.{fit_at_once, fit_is_named, fit_named, span_there}
+use Rattle.gpu_alloc.proofs.Shared.Calls.{Handed, agrees_before, counted_before, handed, IsBlockOf, IsReturned, back, block_there, known_type}
 use Rattle.gpu_alloc.proofs.Soundness.{sound_is}
 use Rattle.gpu_alloc.proofs.allocator.GpuAllocator.put_back_in_fit.Given.{Over}
 use Rattle.gpu_alloc.proofs.allocator.GpuAllocator.put_back_in_fit.Goals as goal
@@ -14,50 +14,50 @@ use Rattle.gpu_alloc.proofs.HandedOn.{below}
 -- What the allocator of fit chunks is handed.
 
 fields : (g : Over) (c : goal.After-new g)
-    → Handed c.self.inside.limits c.self.inside.heaps.items c.self.inside.buddies.items c.self.inside.free_lists.items c.self.inside.fits.items c.self.inside.own c.self.inside.allocations_remains c.memory_type-memory_type.result c.heap_index-heap.result c.index_mut.result.now c.index_mut-2.result.now
+    → Handed fit_named c.self.inside.limits c.self.inside.heaps.items (record { buddies = c.self.inside.buddies.items; lists = c.self.inside.free_lists.items; fits = c.self.inside.fits.items }) c.self.inside.own c.self.inside.allocations_remains c.memory_type-memory_type.result c.heap_index-heap.result c.index_mut.result.now c.index_mut-2.result.now
 fields g c =
     let owned = rw (← c.self.view_is) at c.requires.owned in
-    handed c.self.inside.limits c.self.invariant (known_type c.self.inside.limits c.self.invariant owned c.requires.shared c.memory_type-memory_type.ensures c.index_mut.ensures.value) c.index_mut.ensures.value c.heap_index-heap.ensures c.index_mut-2.ensures.value
+    handed fit_named c.self.inside.limits c.self.invariant (known_type c.self.inside.limits c.self.invariant owned c.memory_type-memory_type.ensures) c.index_mut.ensures.value c.heap_index-heap.ensures c.index_mut-2.ensures.value
 
 pub index_mut-requires-2 : goal.index_mut-requires-2
 index_mut-requires-2 g c =
     let owned = rw (← c.self.view_is) at c.requires.owned in
-    below c.heap_index-heap.ensures c.self.inside.heaps.ok.0 (heap_there _ _ _ _ c.self.invariant.books refl c.memory_type-memory_type.result (known_type c.self.inside.limits c.self.invariant owned c.requires.shared c.memory_type-memory_type.ensures c.index_mut.ensures.value))
+    below c.heap_index-heap.ensures c.self.inside.heaps.ok.0 (heap_there _ _ _ _ c.self.invariant.books refl c.memory_type-memory_type.result (known_type c.self.inside.limits c.self.invariant owned c.memory_type-memory_type.ensures))
 
 pub dealloc_fit-requires-clause-live : goal.dealloc_fit-requires-clause-live
 dealloc_fit-requires-clause-live g c =
     let owned = rw (← c.self.view_is) at c.requires.owned in
-    let there = slot_there c.self.inside.limits c.self.invariant owned c.requires.shared c.memory_type-memory_type.ensures c.index_mut.ensures.value in
-    (there.0, span_there there.1 c.into_memory-memory.ensures c.offset-offset.ensures c.size-size.ensures)
+    let there = block_there fit_is_named (fields g c) owned c.memory_type-memory_type.ensures 0 c.requires.shared in
+    (there.0, span_there _ _ there.0 _ _ _ there.1 c.into_memory-memory.ensures c.offset-offset.ensures c.size-size.ensures)
 
 pub dealloc_fit-requires-clause-agrees : goal.dealloc_fit-requires-clause-agrees
-dealloc_fit-requires-clause-agrees g c = let agrees = rw (← c.self.view_is) at c.requires.agrees in agrees_before (fields g c) _ _ agrees
+dealloc_fit-requires-clause-agrees g c = let agrees = rw (← c.self.view_is) at c.requires.agrees in agrees_before fit_is_named (fields g c) _ _ agrees
 
 pub dealloc_fit-requires-clause-counted : goal.dealloc_fit-requires-clause-counted
-dealloc_fit-requires-clause-counted g c = counted_first (fields g c)
+dealloc_fit-requires-clause-counted g c = counted_before fit_is_named (fields g c)
 
 -- The block that comes back, what the call did with it, and what it comes to.
 
-the_slot : (g : Over) (c : goal.After-self-2-1 g) → (slot : Slot) × IsLiveFitSpan c.index_mut.result.now.space c.args.block.object c.args.block.offset c.args.block.size slot
-the_slot g c =
-    let owned = rw (← c.self.view_is) at c.requires.owned in
-    slot_there c.self.inside.limits c.self.invariant owned c.requires.shared c.memory_type-memory_type.ensures c.index_mut.ensures.value
-
-the_span : (g : Over) (c : goal.After-self-2-1 g) → IsLiveFitSpan c.index_mut.result.now.space (g.M.MemoryObject.object c.into_memory-memory.result) c.offset-offset.result c.size-size.result (the_slot g c).0
-the_span g c = span_there (the_slot g c).1 c.into_memory-memory.ensures c.offset-offset.ensures c.size-size.ensures
-
 given : (g : Over) (c : goal.After-self-2-1 g)
-    → Given c.self.inside.limits c.self.inside.heaps.items c.self.inside.buddies.items c.self.inside.free_lists.items c.self.inside.fits.items c.self.inside.own c.self.inside.allocations_remains c.memory_type-memory_type.result c.heap_index-heap.result c.index_mut.result.now c.index_mut-2.result.now (the_slot g c).0 c.args.block
+    → Handed fit_named c.self.inside.limits c.self.inside.heaps.items (record { buddies = c.self.inside.buddies.items; lists = c.self.inside.free_lists.items; fits = c.self.inside.fits.items }) c.self.inside.own c.self.inside.allocations_remains c.memory_type-memory_type.result c.heap_index-heap.result c.index_mut.result.now c.index_mut-2.result.now
 given g c =
     let owned = rw (← c.self.view_is) at c.requires.owned in
-    put_back_given c.self.inside.limits c.self.invariant owned c.requires.shared c.memory_type-memory_type.ensures c.index_mut.ensures.value c.heap_index-heap.ensures c.index_mut-2.ensures.value (the_slot g c).1
+    handed fit_named c.self.inside.limits c.self.invariant (known_type c.self.inside.limits c.self.invariant owned c.memory_type-memory_type.ensures) c.index_mut.ensures.value c.heap_index-heap.ensures c.index_mut-2.ensures.value
+
+the_slot : (g : Over) (c : goal.After-self-2-1 g) → (slot : Slot) × IsBlockOf fit_named c.index_mut.result.now slot c.args.block
+the_slot g c =
+    let owned = rw (← c.self.view_is) at c.requires.owned in
+    block_there fit_is_named (given g c) owned c.memory_type-memory_type.ensures 0 c.requires.shared
+
+the_span : (g : Over) (c : goal.After-self-2-1 g) → IsLiveFitSpan c.index_mut.result.now.space (g.M.MemoryObject.object c.into_memory-memory.result) c.offset-offset.result c.size-size.result (the_slot g c).0
+the_span g c = span_there _ _ (the_slot g c).0 _ _ _ (the_slot g c).1 c.into_memory-memory.ensures c.offset-offset.ensures c.size-size.ensures
 
 returned_by : (g : Over) (c : goal.After-self-2-1 g)
-    → IsReturned (given g c) (account c.dealloc_fit.new.fits c.dealloc_fit.new.heap c.dealloc_fit.new.allocations_remains) (c.dealloc_fit.ensures.frees (the_slot g c).0 (the_span g c)).0
+    → IsReturned (given g c) c.args.block (account c.dealloc_fit.new.fits c.dealloc_fit.new.heap c.dealloc_fit.new.allocations_remains) (c.dealloc_fit.ensures.frees (the_slot g c).0 (the_span g c)).0
     (g.D.ObjectDevice.properties c.dealloc_fit.new.device) (g.D.ObjectDevice.objects c.args.device.now) (g.D.ObjectDevice.objects c.dealloc_fit.new.device)
 returned_by g c =
     let agrees = rw (← c.self.view_is) at c.requires.agrees in
-    back (given g c) c.dealloc_fit.ensures.sound agrees c.dealloc_fit.ensures.properties (c.dealloc_fit.ensures.frees (the_slot g c).0 (the_span g c)).2 (c.dealloc_fit.ensures.objects (the_slot g c).0 (the_span g c))
+    back fit_is_named (given g c) (the_slot g c).1 (fit_at_once _ _) c.dealloc_fit.ensures.sound agrees c.dealloc_fit.ensures.properties (c.dealloc_fit.ensures.frees (the_slot g c).0 (the_span g c)).2 (c.dealloc_fit.ensures.objects (the_slot g c).0 (the_span g c))
 
 pub invariant_of-self : goal.invariant_of-self
 invariant_of-self g c = (returned_by g c).kept
