@@ -2,7 +2,8 @@
 and the texts that they stand in.
 
 An edit in crates/*/must-fail-second holds wrong bodies of private functions, or second ones of functions that a crate's
-first edit turns: rt ci tries that one alone, and scripts/gate/refuse_each all.
+first edit turns: rt ci tries that one alone, and scripts/gate/refuse_each all. Where a store is refused, no goal of an
+allocator over it is tried, so bodies of both stand in different edits.
 """
 import os
 

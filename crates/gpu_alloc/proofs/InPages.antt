@@ -15,7 +15,7 @@ use Rattle.gpu_alloc_base.proofs.PowersOfTwo.{bit_of_power, greater_power, power
 use Rattle.gpu_alloc_block.specs.State.{Block, State}
 use Rattle.gpu_alloc_block.specs.declared.block.Kind.TheVariants.{Dedicated as DedicatedObject}
 use Rattle.gpu_alloc.specs.Allocation as allocation
-use Rattle.gpu_alloc.specs.Allocation.{AllocatesBy, IsAloneWhereServed, IsExactFit, IsInPages, ask, ask_in_pages, candidates_of, is_alone, plan_in_pages, serves_alone, strategy}
+use Rattle.gpu_alloc.specs.Allocation.{AllocatesBy, IsAloneWhereServed, IsExactFit, IsInPages, ask, ask_in_pages, candidates_of, plan_in_pages, serves_alone, strategy}
 use Rattle.gpu_alloc.specs.Atoms.{KeepsAtoms}
 use Rattle.gpu_alloc.specs.Request.{IsAskable, IsGranularity, in_pages}
 use Rattle.gpu_alloc.specs.Sound.{IsSound}

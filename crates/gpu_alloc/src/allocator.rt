@@ -1,9 +1,8 @@
 //! The allocator.
 
-ghost use Rattle.std.specs.Prelude.{◌≡◌, ◌⊎◌, ◌↔◌, ℕ, ◌+◌, ◌^◌, ◌<◌, ◌≤◌, true, length, List, All, IsTrue, IfOk, IfErr, IfSome};
+ghost use Rattle.std.specs.Prelude.{◌≡◌, ◌⊎◌, ◌↔◌, ℕ, ◌+◌, ◌^◌, ◌<◌, ◌≤◌, true, length, List, All, IsTrue, IfOk, IfSome};
 ghost use Rattle.std.specs.Prelude.{OnErr, Some, None, false, is_some, not, ◌==◌};
 ghost use Rattle.std.specs.FinMap as map;
-ghost use Rattle.std.specs.FinSet as set;
 ghost use Rattle.gpu_alloc_types.specs.Properties.{heap_size};
 ghost use Rattle.gpu_alloc_types.specs.Flags.{usage_bits};
 ghost use Rattle.gpu_alloc_types.specs.Device.{Event, Chain};

@@ -63,8 +63,7 @@ case_of a w = buddy_case a (rounded a.allocator w) w.flags
 abbrev pub Allocates : Account Buddy → Wanted → List Event → Result Leaf AllocationError → Account Buddy → Type 0
 Allocates a w es answer new = Answers (case_of a w) es answer new
 
--- What a call answers, from the allocator, the heap and the number of objects that may still be held, before and after
--- it.
+-- What a call answers: by the allocator, the heap and how many more objects may be held, before and after the call.
 abbrev pub CallAllocates : Buddy → Heap → ℕ → Wanted → Result Leaf AllocationError → Buddy → Heap → ℕ → List Event
     → Type 0
 CallAllocates b heap remaining w answer new new_heap new_remaining es =

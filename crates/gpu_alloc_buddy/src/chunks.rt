@@ -1,15 +1,9 @@
 //! Pairs of halves as a store of shared chunks: the pairs, and the sizes of chunks and blocks.
 
-ghost use Rattle.std.specs.Prelude.{◌≡◌, ℕ, ◌+◌, ◌≤◌, ◌<◌, ◌^◌, ◌↔◌, IfNone, IfOk, IfSome, IsTrue, OnOk, Some, is_some};
-ghost use Rattle.std.specs.FinMap as map;
-ghost use Rattle.gpu_alloc_types.specs.Flags.{property_bits};
+ghost use Rattle.std.specs.Prelude.{◌≡◌, ◌≤◌, ◌<◌, ◌^◌};
 ghost use Rattle.gpu_alloc_base.specs.AlignMasks.{IsAlignMask};
-ghost use Rattle.gpu_alloc_base.specs.declared.heap.Heap.{Heap as HeapOf};
 ghost use Rattle.gpu_alloc_buddy.specs.BuddyRule.{HasRooms, buddy_lawful, buddy_rule, order_for};
 ghost use Rattle.gpu_alloc_buddy.specs.BuddyState.{IsLiveBuddyLeaf, chunk_size};
-ghost use Rattle.gpu_alloc_shared.specs.Rule.{IsLawful, IsLive, IsUnheldIn};
-ghost use Rattle.gpu_alloc_shared.specs.Shared.{Adds, Leaves, Removes, Takes, object_of, tried, without_block};
-ghost use Rattle.gpu_alloc_shared.specs.Shared.{without_chunk};
 
 use gpu_alloc_base::BuddyBlock;
 use gpu_alloc_base::buddy_block::into_parts;

@@ -44,7 +44,8 @@ module _ (f : FitState) (ask : Ask) (looks now : ℕ) where
   looks_so whole splits after (Ok slot) (inl took) = took
   looks_so whole splits after (Ok slot) (inr made) = made.1.0
   looks_so whole splits after (Err e) (inl unfit) = absurd (unfit.0 tt)
-  looks_so whole splits after (Err e) (inr tried) = tried.1
+  looks_so whole splits after (Err e) (inr (inl none)) = none
+  looks_so whole splits after (Err e) (inr (inr lost)) = lost
 
   pub refusing_so : (heap : Heap) (remaining : ℕ) → CountsRefusing fit_rule (account f heap remaining) ask looks now → LooksAtFew f.space ask.size (ask.align_mask + 1) looks now
   refusing_so heap remaining (inl looked) = looked.1.0

@@ -1,10 +1,8 @@
 //! Exact runs as a store of shared chunks: the runs, and the sizes of chunks and blocks.
 
-ghost use Rattle.std.specs.Prelude.{◌≡◌, ◌+◌, ◌≤◌, ◌<◌, IfOk, IsTrue, OnErr, Some};
-ghost use Rattle.std.specs.Prelude.{max};
-ghost use Rattle.std.specs.FinMap as map;
+ghost use Rattle.std.specs.Prelude.{◌≡◌, ◌≤◌, ◌<◌, IfOk, IsTrue, OnErr, max};
 ghost use Rattle.gpu_alloc_types.specs.Device.{Asked};
-ghost use Rattle.gpu_alloc_types.specs.Flags.{allocation_bits, has_bit, property_bits, with_device_address};
+ghost use Rattle.gpu_alloc_types.specs.Flags.{allocation_bits, has_bit, with_device_address};
 ghost use Rattle.gpu_alloc_base.specs.Accounts.{account, chunks_and_remaining, IsCounted};
 ghost use Rattle.gpu_alloc_base.specs.Case.{Answers};
 ghost use Rattle.gpu_alloc_base.specs.Sizes.{up};
@@ -14,7 +12,7 @@ ghost use Rattle.gpu_alloc_fit.specs.Fit as fit;
 ghost use Rattle.gpu_alloc_fit.specs.FitRule.{HasRooms, Looks, Serves, fit_ask, fit_lawful, fit_rule};
 ghost use Rattle.gpu_alloc_fit.specs.FitSound.{IsSoundFit};
 ghost use Rattle.gpu_alloc_fits.specs.Space.{IsLiveFitSpan};
-ghost use Rattle.gpu_alloc_shared.specs.Shared.{Adds, Leaves, case_of};
+ghost use Rattle.gpu_alloc_shared.specs.Shared.{case_of};
 
 use gpu_alloc_base::AllocationError;
 use gpu_alloc_base::heap::Heap;

@@ -17,9 +17,9 @@ use Rattle.gpu_alloc_freelist.specs.FreeListAllocator.{AreReleased, CallReleases
 use Rattle.gpu_alloc_freelist.specs.FreeListSound.{IsSoundFreeList}
 use Rattle.gpu_alloc_freelist.specs.FreeListState.{FreeListState, ListSpace}
 use Rattle.gpu_alloc_freelist.specs.FreeListRule.{list_rule}
-use Rattle.gpu_alloc_shared.specs.Shared.{ObjectsReleased, ReleasesNext}
+use Rattle.gpu_alloc_shared.specs.Shared.{ReleasesNext}
 use Rattle.gpu_alloc_base.proofs.Lists.{contains_cases, contains_head, contains_later, contains_none}
-use Rattle.gpu_alloc_base.proofs.Maps.{found_value, kept_other, one_value}
+use Rattle.gpu_alloc_base.proofs.Maps.{found_value, kept_other}
 use Rattle.gpu_alloc_freelist.proofs.GoneChunks.{may_go_before, may_go_then}
 pub use Rattle.gpu_alloc_freelist.proofs.GoneChunks.{sound_without_chunk, sound_without_slot}
 
@@ -115,27 +115,22 @@ module _ (keep_last : Bool) (a new : Account FreeListState) (gone : List ℕ) (e
   )
 
 -- the next one goes by the rule, if there is one, and then others
-pub goes_on : {D : Type 0} (step : D → Event → D → Type 0) (objects : D → ℕ → Option Object) (old mid end : D) (keep_last : Bool) (a b new : Account FreeListState) → IsSoundFreeList a.allocator → Asked step old mid (λ es. ReleasesNext list_rule a keep_last es b)
-    → ObjectsReleased list_rule a.allocator keep_last (objects old) (objects mid) → CallReleases step objects mid end keep_last b new → CallReleases step objects old end keep_last a new
-goes_on step objects old mid end keep_last a b new sound (fs, chain, inl none) (inl same) rest =
-    let same_device : mid ≡ old = subst (λ es. Chain step old es mid) none.1.0 chain in
-    subst (λ x. CallReleases step objects old end keep_last x new) none.1.1 (subst (λ d. CallReleases step objects d end keep_last b new) same_device rest)
-goes_on step objects old mid end keep_last a b new sound (fs, chain, inl none) (inr gone) rest = absurd (none.0 gone.0 gone.1.0)
-goes_on step objects old mid end keep_last a b new sound (fs, chain, inr goes) (inl same) rest = absurd (same.0 goes.0 goes.1.0)
-goes_on step objects old mid end keep_last a b new sound (fs, chain, inr goes) (inr gone) rest =
+pub goes_on : {D : Type 0} (step : D → Event → D → Type 0) (objects : D → ℕ → Option Object) (old mid end : D) (keep_last : Bool) (a b new : Account FreeListState) → IsSoundFreeList a.allocator
+    → Asked step old mid (λ es. ReleasesNext list_rule a keep_last es b (objects old) (objects mid)) → CallReleases step objects mid end keep_last b new → CallReleases step objects old end keep_last a new
+goes_on step objects old mid end keep_last a b new sound (fs, chain, inl none) rest =
+    let same_device : mid ≡ old = subst (λ es. Chain step old es mid) none.1 chain in
+    subst (λ x. CallReleases step objects old end keep_last x new) none.2 (subst (λ d. CallReleases step objects d end keep_last b new) same_device rest)
+goes_on step objects old mid end keep_last a b new sound (fs, chain, inr goes) rest =
     let n = goes.0 in
-    let chunk : Chunk = goes.1.1.0 in
-    let first = goes.1.0 in
-    let number : gone.0 ≡ n = omega (arith, first.least gone.0 gone.1.0.goes, gone.1.0.least n first.goes) in
-    let object : gone.1.1.0.object ≡ chunk.object = ap (λ (c : Chunk). c.object) (one_value _ gone.1.1.0 chunk gone.1.1.1 (ap (map.get a.allocator.space.chunks) number ∙ goes.1.1.1)) in
+    let chunk : Chunk = goes.2.0 in
     let then =
-    subst (λ x. LetsWholeChunksGo keep_last x rest.0 rest.1.0 new (put (objects old) chunk.object None) (objects end)) goes.1.1.2.1
-    (subst (λ f. LetsWholeChunksGo keep_last b rest.0 rest.1.0 new f (objects end)) (gone.1.1.2 ∙ ap (λ o. put (objects old) o None) object) rest.1.2) in (
+    subst (λ x. LetsWholeChunksGo keep_last x rest.0 rest.1.0 new (put (objects old) chunk.object None) (objects end)) goes.2.2.1
+    (subst (λ f. LetsWholeChunksGo keep_last b rest.0 rest.1.0 new f (objects end)) goes.3 rest.1.2) in (
       n ∷ rest.0,
       (
         Deallocated chunk.object ∷ rest.1.0,
-        subst (λ es. Chain step old (es ++ rest.1.0) end) goes.1.1.2.0 (chain_append step fs rest.1.0 old mid end chain rest.1.1),
-        one_goes_first keep_last a new rest.0 rest.1.0 (objects old) (objects end) n chunk goes.1.1.1 (sound.space.sizes n chunk goes.1.1.1).0 first then,
+        subst (λ es. Chain step old (es ++ rest.1.0) end) goes.2.2.0 (chain_append step fs rest.1.0 old mid end chain rest.1.1),
+        one_goes_first keep_last a new rest.0 rest.1.0 (objects old) (objects end) n chunk goes.2.1 (sound.space.sizes n chunk goes.2.1).0 goes.1 then,
       ),
     )
 

@@ -1,15 +1,13 @@
 -- What the calls of a free-list allocator do.
-use Rattle.std.specs.Prelude.{◌≡◌, ◌⊎◌, ℕ, ◌+◌, ◌-◌, ◌*◌, ◌/◌, ◌%◌, ◌^◌, ◌<◌, ◌≤◌, ◌↔◌, Bool, true, false, List, []}
-use Rattle.std.specs.Prelude.{◌∷◌, length, get_or, cond, min, max, nat_le, Option, Some, None, Result, Ok, Err, IfSome}
-use Rattle.std.specs.Prelude.{IsTrue, sum_by}
+use Rattle.std.specs.Prelude.{◌≡◌, ℕ, ◌+◌, ◌-◌, ◌%◌, ◌<◌, ◌≤◌, ◌↔◌, Bool, true, false, List, []}
+use Rattle.std.specs.Prelude.{◌∷◌, length, get_or, sum_by, Option, Some, None, Result}
 use Rattle.std.specs.Prelude as list
 use Rattle.std.specs.List.{Contains}
 use Rattle.std.specs.FinMap as map
 use Rattle.std.specs.Ordering.{nat_cmp}
-use Rattle.gpu_alloc_types.specs.Flags.{allocation_bits, has_bit, host_visible}
+use Rattle.gpu_alloc_types.specs.Flags.{has_bit, host_visible}
 use Rattle.gpu_alloc_types.specs.Properties.{Properties}
 use Rattle.gpu_alloc_types.specs.Device.{Asked, Object, Event, put}
-use Rattle.gpu_alloc_types.specs.declared.allocation_flags.AllocationFlags.{AllocationFlags}
 use Rattle.gpu_alloc_types.specs.Device.Event.{Deallocated}
 use Rattle.gpu_alloc_types.specs.declared.types.FreeRange.{FreeRange}
 use Rattle.gpu_alloc_base.specs.Accounts.{Account, account}
@@ -18,7 +16,6 @@ use Rattle.gpu_alloc_base.specs.Wanted.{Wanted}
 use Rattle.gpu_alloc_base.specs.Chunks.{Chunk, object_in}
 use Rattle.gpu_alloc_base.specs.FreeSpace.{IsIn}
 use Rattle.gpu_alloc_base.specs.InHand as in_hand
-use Rattle.gpu_alloc_base.specs.InHand.{Bytes}
 use Rattle.gpu_alloc_freelist.specs.FreeList.{HasPlace, IsTail, HasNumber, MayGo, with_slot, without_slot}
 use Rattle.gpu_alloc_freelist.specs.FreeList.{with_numbered_chunk, first_tail, no_list_space}
 use Rattle.gpu_alloc_freelist.specs.FreeListRule.{list_rule}
@@ -84,18 +81,11 @@ case_of a w = list_case a (rounded a.allocator w) (alignment a.allocator w) w.fl
 abbrev pub Allocates : Account FreeListState → Wanted → List Event → Result Slot AllocationError → Account FreeListState → Type 0
 Allocates a w es answer new = Answers (case_of a w) es answer new
 
--- What a call answers, from the allocator, the heap and the number of objects that may still be held, before and after
--- it. The first takes the request, the second a block of the rounded size.
+-- What a call answers: by the allocator, the heap and how many more objects may be held, before and after the call.
 abbrev pub CallAllocates : FreeListState → Heap → ℕ → Wanted → Result Slot AllocationError → FreeListState → Heap → ℕ → List Event
     → Type 0
 CallAllocates l heap remaining w answer new new_heap new_remaining es =
     Allocates (account l heap remaining) w es answer (account new new_heap new_remaining)
-
-abbrev pub CallAnswers : FreeListState → Heap → ℕ → ℕ → ℕ → AllocationFlags → Result Slot AllocationError → FreeListState → Heap → ℕ
-    → List Event → Type 0
-CallAnswers l heap remaining size alignment flags answer new new_heap new_remaining es =
-    Answers (list_case (account l heap remaining) size alignment (allocation_bits flags)) es answer
-    (account new new_heap new_remaining)
 
 -- Chunks that are released.
 

@@ -1,6 +1,6 @@
 //! The free-list allocator: shared chunks of one memory type, whose blocks are the tails of free runs.
 
-ghost use Rattle.std.specs.Prelude.{◌≡◌, ℕ, ◌+◌, ◌≤◌, ◌<◌, ◌^◌, ◌↔◌, Contains, IfOk, IfSome, OnErr};
+ghost use Rattle.std.specs.Prelude.{◌≡◌, ℕ, ◌+◌, ◌≤◌, ◌<◌, ◌^◌, ◌↔◌, Contains, IfOk, OnErr};
 ghost use Rattle.std.specs.Prelude.{IsTrue, length, max, nat_le, true, false};
 ghost use Rattle.std.specs.FinMap as map;
 ghost use Rattle.std.specs.FinSet as set;
@@ -21,7 +21,7 @@ ghost use Rattle.gpu_alloc_base.specs.Case.{RefusesFirst};
 ghost use Rattle.gpu_alloc_freelist.specs.Chunks.{ListsChunks};
 ghost use Rattle.gpu_alloc_freelist.specs.Live.{ListsSlots};
 ghost use Rattle.gpu_alloc_freelist.specs.FreeListSound.{IsSoundFreeList};
-ghost use Rattle.gpu_alloc_freelist.specs.FreeListState.{FreeListState, IsLiveSlot};
+ghost use Rattle.gpu_alloc_freelist.specs.FreeListState.{IsLiveSlot};
 ghost use Rattle.gpu_alloc_base.specs.FreeSpace.{IsMultipleOf};
 ghost use Rattle.gpu_alloc_base.specs.AlignMasks.{IsAlignMask};
 ghost use Rattle.gpu_alloc_base.specs.RangeOrder.{AreInOrder};

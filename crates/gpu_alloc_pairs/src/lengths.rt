@@ -54,7 +54,7 @@ pub struct Found {
 /// Looks at one length for a free half. Each look is counted here.
 fn look<A: Allocator, L: Ledger>(
     lengths: &[Length<A>],
-    order: u32,
+    order: usize,
     looks: &mut Steps<L>,
 ) -> Option<Half>
     requires in_range { order < length lengths.now }
@@ -63,7 +63,7 @@ fn look<A: Allocator, L: Ledger>(
     ensures counted { looks.new ≡ looks.old + 1 }
 {
     looks.tick();
-    lengths[order as usize].first()
+    lengths[order].first()
 }
 
 /// Divides the half in hand into a pair whose right half is free. Returns its key. Each split is counted here.
@@ -116,9 +116,12 @@ pub fn find<A: Allocator, L: Ledger>(
     ensures some { IfSome result (IsFound (pair_at lengths.now) order) }
     ensures looked { LooksUpTo order result looks.old looks.new }
 {
-    for n in order..ORDERS {
+    for n in order as usize..ORDERS as usize {
         if let Some(half) = look(lengths, n, looks) {
-            return Some(Found { order: n, half });
+            return Some(Found {
+                order: n as u32,
+                half,
+            });
         }
     }
     None

@@ -13,7 +13,7 @@ use Rattle.gpu_alloc_base.proofs.Books.{KeepsBooks, answers_agree as chunks_agre
 use Rattle.gpu_alloc_base.proofs.Maps.{own_inserted}
 use Rattle.gpu_alloc_base.proofs.Outcomes.{if_some}
 use Rattle.gpu_alloc_shared.specs.Rule.{IsLawful, IsUnheldIn, Rule}
-use Rattle.gpu_alloc_shared.specs.Shared.{Agrees, LooksFirst, ObjectsAfter, ask_case, object_of, sees_chunks, with_block}
+use Rattle.gpu_alloc_shared.specs.Shared.{Agrees, LooksFirst, ObjectsAfter, ask_case, object_of, sees_chunks}
 
 module _ {T A B : Type 0} (r : Rule T A B) where
   -- what the device does not hold is no chunk's object

@@ -47,7 +47,7 @@ module _ {T A B : Type 0} (r : Rule T A B) (lawful : IsLawful r) where
     one_more_fits = omega (arith, counted.objects, len_less (r.chunks t) key held is)
 
   -- what the store tells of it, as contracts have it
-  pub releases_so : (t now : T) (key : ℕ) (heap less : Heap) (remaining : ℕ) (held : Chunk) → map.get (r.chunks t) key ≡ Some held → now ≡ without_chunk r t key → less ≡ record heap { used = heap.used - held.size }
+  abbrev pub releases_so : (t now : T) (key : ℕ) (heap less : Heap) (remaining : ℕ) (held : Chunk) → map.get (r.chunks t) key ≡ Some held → now ≡ without_chunk r t key → less ≡ record heap { used = heap.used - held.size }
       → ReleasesChunk r (account t heap remaining) key (Deallocated held.object ∷ []) (account now less (remaining + 1))
   releases_so t now key heap less remaining held is now_is less_is = (held, is, (refl, λ i. account (now_is i) (less_is i) (remaining + 1)))
 

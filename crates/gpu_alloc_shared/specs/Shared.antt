@@ -1,5 +1,5 @@
 -- What the calls of an allocator of shared chunks do, by the rule of its store.
-use Rattle.std.specs.Prelude.{◌≡◌, ◌⊎◌, ℕ, ◌+◌, ◌-◌, Bool, true, IsTrue, List, [], ◌∷◌, Option, Some, None, Result, Ok, Err}
+use Rattle.std.specs.Prelude.{◌≡◌, ◌⊎◌, ℕ, ◌+◌, ◌-◌, Bool, true, List, [], ◌∷◌, Option, Some, None, Result, Ok, Err}
 use Rattle.std.specs.FinMap as map
 use Rattle.std.specs.FinSet as set
 use Rattle.gpu_alloc_types.specs.Device.{Event, Object, put}
@@ -7,7 +7,7 @@ use Rattle.gpu_alloc_types.specs.Device.Event.{Deallocated}
 use Rattle.gpu_alloc_types.specs.Flags.{has_bit, host_visible}
 use Rattle.gpu_alloc_types.specs.Properties.{Properties}
 use Rattle.gpu_alloc_base.specs.Accounts as accounts
-use Rattle.gpu_alloc_base.specs.Accounts.{Account, account}
+use Rattle.gpu_alloc_base.specs.Accounts.{Account}
 use Rattle.gpu_alloc_base.specs.Case.{Case, IsBarred, IsOverBudget}
 use Rattle.gpu_alloc_base.specs.Chunks.{Chunk}
 use Rattle.gpu_alloc_base.specs.InHand as in_hand
@@ -134,17 +134,12 @@ module _ {T A B : Type 0} (r : Rule T A B) where
   ObjectsFreed t b old new =
       ((r.ReleasedWith t b → ⊥) × (new ≡ old)) ⊎ (r.ReleasedWith t b × (new ≡ put old (object_of b) None))
 
-  -- The next chunk is released, if there is one.
-  abbrev pub ReleasesNext : Account T → Bool → List Event → Account T → Type 0
-  ReleasesNext a keep_last es new =
-      (((key : ℕ) → r.IsNext a.allocator keep_last key → ⊥) × ((es ≡ []) × (new ≡ a)))
-      ⊎ ((key : ℕ) × (r.IsNext a.allocator keep_last key × ReleasesChunk a key es new))
-
-  abbrev pub ObjectsReleased : T → Bool → (ℕ → Option Object) → (ℕ → Option Object) → Type 0
-  ObjectsReleased t keep_last old new =
-      (((key : ℕ) → r.IsNext t keep_last key → ⊥) × (new ≡ old))
-      ⊎ ((key : ℕ) × (r.IsNext t keep_last key
-      × ((chunk : Chunk) × (map.get (r.chunks t) key ≡ Some chunk) × (new ≡ put old chunk.object None))))
+  -- The next chunk is released, if there is one: what the account then is, and what the device then holds.
+  abbrev pub ReleasesNext : Account T → Bool → List Event → Account T → (ℕ → Option Object) → (ℕ → Option Object) → Type 0
+  ReleasesNext a keep_last es new old_objects new_objects =
+      (((key : ℕ) → r.IsNext a.allocator keep_last key → ⊥) × (es ≡ []) × (new ≡ a) × (new_objects ≡ old_objects))
+      ⊎ ((key : ℕ) × r.IsNext a.allocator keep_last key × (gone : ReleasesChunk a key es new)
+      × (new_objects ≡ put old_objects gone.0.object None))
 
   -- Steps.
 
@@ -153,17 +148,18 @@ module _ {T A B : Type 0} (r : Rule T A B) where
   tried (Err e) = None
 
   -- The steps of a request: of a block in a place, of one that begins a new chunk where there was no place, and of a
-  -- refusal, before a search where a chunk would be too large for any device, and otherwise after it.
+  -- refusal: before a search where a chunk would be too large for any device, and otherwise after one that found no
+  -- place or lacked host memory.
   abbrev pub Counted : {E : Type 0} → T → A → ℕ → Result B E → ℕ → ℕ → ℕ → ℕ → Type 0
   Counted t ask whole (Ok b) looks now splits after =
       r.Tries t ask (Some (Some b)) looks now splits after
       ⊎ ((between : ℕ) × (r.Tries t ask (Some None) looks now splits between × r.Begun t ask whole between after))
   Counted t ask whole (Err e) looks now splits after =
       ((r.Fits ask → ⊥) × ((now ≡ looks) × (after ≡ splits)))
-      ⊎ ((found : Option (Option B)) × r.Tries t ask found looks now splits after)
+      ⊎ (r.Tries t ask (Some None) looks now splits after ⊎ r.Tries t ask None looks now splits after)
 
-  -- a place is looked for first where a chunk for the request may not be asked for: no more objects may be held, no
-  -- number is left, or the heap's limit leaves too few bytes
+  -- a place is looked for first where a chunk for the request would be below 2^64 bytes and may not be asked for: no
+  -- more objects may be held, no number is left, or the heap's limit leaves too few bytes
   abbrev pub LooksFirst : Account T → A → Type 0
   LooksFirst a ask = r.Fits ask × (IsBarred (ask_case a ask 0) ⊎ IsOverBudget (ask_case a ask 0))
 

@@ -1,6 +1,6 @@
 //! How a request is served: in a place, or in a new chunk that the device is asked for.
 
-ghost use Rattle.std.specs.Prelude.{◌≡◌, ℕ, ◌+◌, ◌≤◌, IfOk, OnErr, IsTrue, Some, None, max};
+ghost use Rattle.std.specs.Prelude.{◌≡◌, ℕ, ◌≤◌, IfOk, OnErr, IsTrue, None, max};
 ghost use Rattle.gpu_alloc_types.specs.Flags.{allocation_bits, has_bit, with_device_address};
 ghost use Rattle.gpu_alloc_types.specs.Device.{Asked};
 ghost use Rattle.gpu_alloc_base.specs.Accounts.{account, IsCounted, chunks_and_remaining};
@@ -24,9 +24,10 @@ use std::sync::ledger::Ledger;
 /// chunk is added. `allocations_remains` is how many more objects may be held, which a new chunk lowers by one.
 ///
 /// The size, in bytes, and the mask must be such as the store serves. The address flag may be set only where the device
-/// has the feature. The device must be the one that this store was served by: it has the memory type with its
+/// has the feature. The device must be the one that made this store's chunks: it has the memory type with its
 /// properties, and each held chunk. `heap` must count no less than the sum of the held chunks, and how many more
-/// objects may be held plus the number of held chunks must fit 32 bits. All of it holds again after the call.
+/// objects may be held plus the number of held chunks must fit 32 bits. What is said of the device, of `heap` and of
+/// the objects holds again after the call (`agrees`, `counted`).
 ///
 /// Errors, after which nothing has changed, and a chunk that was made is released:
 ///
@@ -116,7 +117,7 @@ pub fn refuses<S: Store<M>, M: MemoryObject, L: Ledger>(
     ensures looked { CountsRefusing S.rule (account (S.state store.now) heap.now allocations_remains)
         (S.rule.asked (S.state store.now) size align_mask) looks.old looks.new }
 {
-    // (a heap with room for the largest chunk has room for any: most requests need no more than this test)
+    // (a heap with room for the largest chunk has room for any: where a store tells one, most requests need no more)
     if may_ask_for_any(store, heap, allocations_remains) {
         return None;
     }
@@ -124,7 +125,7 @@ pub fn refuses<S: Store<M>, M: MemoryObject, L: Ledger>(
 }
 
 /// What [`refuses`] answers, without the test of the largest chunk. (It stands apart, since most requests need no more
-/// than that test.)
+/// than that test where a store tells a largest chunk.)
 #[cold]
 #[inline(never)]
 fn refuses_asked<S: Store<M>, M: MemoryObject, L: Ledger>(
@@ -151,7 +152,7 @@ fn refuses_asked<S: Store<M>, M: MemoryObject, L: Ledger>(
     Some(refusal)
 }
 
-/// Whether the device may be asked for a chunk for any request.
+/// Whether it is known that the device may be asked for a chunk for any request.
 #[inline(always)]
 fn may_ask_for_any<S: Store<M>, M: MemoryObject>(
     store: &S,

@@ -42,8 +42,8 @@ pub struct BlockSpan<M> {
 /// Shared chunks of one memory type, and the blocks that are live in them.
 ///
 /// A store decides by its `rule` where a block lies, how large a new chunk is and which chunks are released. What it
-/// does not know is the device, the heap's ledger and the count of objects: [`serving`](crate::serving) and
-/// [`returning`](crate::returning) keep those, for any store.
+/// does not keep is the device, the heap's ledger and the count of objects: [`serving`](crate::serving) and
+/// [`returning`](crate::returning) are handed those, for any store.
 pub trait Store<M: MemoryObject> {
     /// A request in the store's own terms.
     type Ask: Copy;
@@ -68,15 +68,16 @@ pub trait Store<M: MemoryObject> {
     /// This live block is returned by it.
     ghost Returns: { State → Self.Returned → Self.Block → Type 0 };
 
-    /// The memory type.
+    /// The index of the memory type.
     fn memory_type(&self) -> u32
         ensures { result ≡ (rule.served (state self.now)).memory_type };
 
-    /// Its properties.
+    /// The memory type's properties.
     fn props(&self) -> MemoryPropertyFlags
         ensures { property_bits result ≡ (rule.served (state self.now)).props };
 
-    /// The request in the store's own terms, or `None` where a chunk for it would have 2^64 bytes or more.
+    /// A request for `size` bytes at a multiple of `align_mask + 1` in the store's own terms, or `None` where a chunk
+    /// for it would have 2^64 bytes or more.
     fn asked(&self, size: u64, align_mask: u64) -> Option<Self::Ask>
         requires serves { (heap : HeapOf) × rule.Serves (state self.now) heap size align_mask }
         ensures some { IfSome result (λ ask. (ask ≡ rule.asked (state self.now) size align_mask) × rule.Fits ask) }
@@ -85,14 +86,15 @@ pub trait Store<M: MemoryObject> {
             → rule.Holds (state self.now) heap ask) }
         ensures none { IfNone result (rule.Fits (rule.asked (state self.now) size align_mask) → ⊥) };
 
-    /// The size of a new chunk for a request, by the ledger of its heap.
+    /// The size of a new chunk for a request, in bytes, by the ledger of its heap.
     fn chunk_size(&self, heap: &Heap, ask: Self::Ask) -> u64
         requires asked { rule.IsAsk (state self.now) ask }
         requires holds { rule.Holds (state self.now) heap.now ask }
         ensures is { result ≡ rule.chunk_size (state self.now) heap.now ask }
         ensures some { 0 < result };
 
-    /// A size that no new chunk exceeds, or `None` where there is no such size.
+    /// A size in bytes that no new chunk exceeds, whatever is asked for; then each request fits a chunk. `None` says
+    /// nothing: each request's own chunk has to be looked at.
     fn largest_chunk(&self) -> Option<u64>
         ensures { IfSome result (λ largest. (heap : HeapOf) (size align_mask : ℕ)
             → rule.Serves (state self.now) heap size align_mask
@@ -103,13 +105,16 @@ pub trait Store<M: MemoryObject> {
     fn has_number(&self) -> bool
         ensures { IsTrue result ↔ rule.HasNumber (state self.now) };
 
-    /// Whether there is room in a held chunk.
+    /// Whether there is room in a held chunk. `looks` counts the looks of the search (`looked`).
     fn has_place<L: Ledger>(&self, ask: Self::Ask, looks: &mut Steps<L>) -> bool
         requires asked { rule.IsAsk (state self.now) ask }
         ensures place { IsTrue result ↔ rule.HasPlace (state self.now) ask }
         ensures looked { rule.Looks (state self.now) ask looks.old looks.new };
 
-    /// Takes a place in a held chunk, or returns `None` where there is none. It fails only for want of host memory.
+    /// Takes a place in a held chunk, or returns `None` where there is none. `looks` counts the looks of the search,
+    /// and `splits` what is split for the block (`counted`).
+    ///
+    /// The only error is want of host memory, after which nothing is taken.
     fn take<L: Ledger, K: Ledger>(
         &mut self,
         ask: Self::Ask,
@@ -123,13 +128,16 @@ pub trait Store<M: MemoryObject> {
         ensures counted { rule.Tries (state self.old) ask (tried rule result) looks.old looks.new splits.old splits.new };
 
     /// Makes room for one more chunk with a block for this request. Nothing else changes.
+    ///
+    /// The only error is want of host memory.
     fn reserve(&mut self, heap: &Heap, ask: Self::Ask) -> Result<(), AllocError>
         requires asked { rule.IsAsk (state self.old) ask }
         requires holds { rule.Holds (state self.old) heap.now ask }
         ensures room { OnOk result (HasRoom self.new ask (rule.chunk_size (state self.old) heap.now ask)) }
         ensures kept { state self.new ≡ state self.old };
 
-    /// Holds a new chunk, and makes a block in it, which gets `handle`. It allocates nothing and cannot fail.
+    /// Holds a new chunk of `whole` bytes, and makes a block in it, which gets `handle`. `splits` counts what is split
+    /// for the block (`begun`). It allocates nothing and cannot fail.
     fn begin<K: Ledger>(
         &mut self,
         memory: M,
@@ -153,7 +161,7 @@ pub trait Store<M: MemoryObject> {
         ensures begun { rule.Begun (state self.old) ask whole splits.old splits.new };
 
     /// Returns a live block. Where its chunk is released with it, the chunk is removed, and its handle is returned with
-    /// its size in bytes. It allocates nothing and cannot fail.
+    /// its size in bytes. `steps` counts the steps of the return (`counted`). It allocates nothing and cannot fail.
     fn put_back<L: Ledger>(
         &mut self,
         returned: Self::Returned,
@@ -175,6 +183,8 @@ pub trait Store<M: MemoryObject> {
             → rule.Joins (state self.old) block steps.old steps.new };
 
     /// Removes the chunk that is released next, if there is one, and returns its handle and its size in bytes.
+    /// `keep_last` keeps the chunk of the last free run, where the rule knows one. It allocates nothing and cannot
+    /// fail.
     fn take_whole(&mut self, keep_last: bool) -> Option<(M, u64)>
         ensures none { IfNone result (((key : ℕ) → rule.IsNext (state self.old) keep_last key → ⊥)
             × (state self.new ≡ state self.old)) }

@@ -27,7 +27,7 @@ use Rattle.gpu_alloc_block.specs.Parts.{Held, Live, Makes}
 use Rattle.gpu_alloc_block.specs.State.{Block, HeldObject, IsOwned, Span, State, TypeState, granted_block, span_of}
 use Rattle.gpu_alloc_shared.specs.Rule.{IsLive, Rule}
 use Rattle.gpu_alloc_shared.specs.Shared as shared
-use Rattle.gpu_alloc_shared.specs.Shared.{Agrees, ObjectsAfter, ReleasesChunk, ReleasesNext, account_without, ask_case, sees_chunks, with_block, without_block, without_chunk}
+use Rattle.gpu_alloc_shared.specs.Shared.{Agrees, ObjectsAfter, ReleasesChunk, ReleasesNext, ask_case, sees_chunks, with_block, without_block, without_chunk}
 use Rattle.gpu_alloc.specs.Allocation.{ObjectsWith}
 use Rattle.gpu_alloc.specs.BuddySharing.{with_span}
 use Rattle.gpu_alloc.specs.FirstTypes.{first_type_state, first_types}
@@ -406,17 +406,14 @@ module _ {T A B : Type 0} {r : Rule T A B} {n : Named r} (named : IsNamed n) {X 
         }
 
   -- A cleanup.
-  pub cleaned : {after : Account T} {es : List Event} {p q : Properties} {old new : ℕ → Option Object} → agreement.Agrees t p old → q ≡ p → r.IsSound after.allocator → (keep_last : Bool) → ((a b : ℕ) → r.IsNext x keep_last a → r.IsNext x keep_last b → a ≡ b)
-      → ((key : ℕ) → r.IsNext x keep_last key → (b : B) → IsLive r x b → r.key b ≢ key) → ReleasesNext r (account x heap remaining) keep_last es after → shared.ObjectsReleased r x keep_last old new → (names : List ℕ) × IsLeft h t names after es q old new × IsNextGone n x keep_last names
-  cleaned agrees properties sound keep_last one unused (inl none) (inl same) = ([], none_left agrees properties (subst (λ a. With h a t) (sym none.1.1) unchanged) none.1.0 same.1, inl (refl, none.0))
-  cleaned agrees properties sound keep_last one unused (inl none) (inr lost) = absurd (none.0 lost.0 lost.1.0)
-  cleaned agrees properties sound keep_last one unused (inr gone) (inl same) = absurd (same.0 gone.0 gone.1.0)
-  cleaned {old = old} agrees properties sound keep_last one unused (inr gone) (inr lost) =
-      let goes = gone.1.1 in
-      let chunk = one_value _ lost.1.1.0 goes.0 lost.1.1.1 (ap (map.get (r.chunks x)) (one lost.0 gone.0 lost.1.0 gone.1.0) ∙ goes.1) in (
+  pub cleaned : {after : Account T} {es : List Event} {p q : Properties} {old new : ℕ → Option Object} → agreement.Agrees t p old → q ≡ p → r.IsSound after.allocator → (keep_last : Bool)
+      → ((key : ℕ) → r.IsNext x keep_last key → (b : B) → IsLive r x b → r.key b ≢ key) → ReleasesNext r (account x heap remaining) keep_last es after old new → (names : List ℕ) × IsLeft h t names after es q old new × IsNextGone n x keep_last names
+  cleaned agrees properties sound keep_last unused (inl none) = ([], none_left agrees properties (subst (λ a. With h a t) (sym none.2) unchanged) none.1 none.3, inl (refl, none.0))
+  cleaned agrees properties sound keep_last unused (inr gone) =
+      let goes = gone.2 in (
         goes.0.object ∷ [],
-        one_left agrees properties (stood named h.has) refl (λ z. refl) gone.0 (unused gone.0 gone.1.0) goes sound (lost.1.1.2 ∙ ap (λ (c : Chunk). put_object old c.object None) chunk),
-        inr (gone.0, gone.1.0, goes.0, goes.1, refl),
+        one_left agrees properties (stood named h.has) refl (λ z. refl) gone.0 (unused gone.0 gone.1) goes sound gone.3,
+        inr (gone.0, gone.1, goes.0, goes.1, refl),
       )
 
   -- A live block of the whole allocator is one of its memory type's store.

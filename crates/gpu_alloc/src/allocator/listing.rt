@@ -11,7 +11,6 @@ ghost use Rattle.gpu_alloc.specs.Sound as Sound;
 ghost use Rattle.gpu_alloc.specs.Spans.{held_objects_in, held_of, span_in};
 ghost use Rattle.gpu_alloc.specs.Listing.{AreOfKnownTypes, AreOnce};
 ghost use Rattle.gpu_alloc.specs.Whole.{buddy_part, fit_part, list_part};
-ghost use Rattle.gpu_alloc_fit.specs.FitSound.{IsSoundFit};
 ghost use Rattle.gpu_alloc_block.specs.Parts.{HaveOwnObjects};
 ghost use Rattle.gpu_alloc_freelist.specs.FreeListSound.{IsSoundFreeList};
 

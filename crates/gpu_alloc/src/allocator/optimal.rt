@@ -1,10 +1,10 @@
 //! Optimal images: in a shared object, whole pages keep them apart from other blocks.
 
-ghost use Rattle.std.specs.Prelude.{◌≡◌, ◌<◌, ◌↔◌, List, length, true, false, Some, None, IfOk, IfSome, OnErr, IsTrue};
+ghost use Rattle.std.specs.Prelude.{◌≡◌, ◌<◌, List, length, Some, IfOk, IfSome, OnErr};
 ghost use Rattle.gpu_alloc_types.specs.Device.{Event, Chain};
 ghost use Rattle.gpu_alloc_block.specs.Agreement.{Agrees, BlockAgrees, KeepsBlocks};
 ghost use Rattle.gpu_alloc_block.specs.Kept.{LeavesInHand, AddsInHand};
-ghost use Rattle.gpu_alloc_block.specs.State.{is_shared, total};
+ghost use Rattle.gpu_alloc_block.specs.State.{total};
 ghost use Rattle.gpu_alloc.specs.Allocation.{AllocatesBy, AllocatesOptimal, ObjectsAfter, ObjectsTried, IsGranted};
 ghost use Rattle.gpu_alloc.specs.Allocation.{IsInPages, TriesAsked};
 ghost use Rattle.gpu_alloc.specs.Allocation.{IsAloneWhereServed, IsExactFit, ask_in_pages, asked_of, plan_in_pages};

@@ -1,8 +1,8 @@
 //! The free runs of a list as one sorted vector: a run loses its tail, and a returned block is joined with its
 //! neighbours in place.
 
-ghost use Rattle.std.specs.Prelude.{◌≡◌, ◌≤◌, ◌<◌, ◌+◌, ◌-◌, ◌^◌, ◌++◌, ◌∷◌, ◌↔◌, [], ℕ, length, take, drop};
-ghost use Rattle.std.specs.Prelude.{slice_index_or, IfSome, IfNone, IsOk, IsTrue, OnOk, Some, true, false};
+ghost use Rattle.std.specs.Prelude.{◌≡◌, ◌≤◌, ◌<◌, ◌+◌, ◌-◌, ◌^◌, ◌++◌, ◌∷◌, ◌↔◌, [], length, take, drop};
+ghost use Rattle.std.specs.Prelude.{slice_index_or, IfSome, IfNone, IsOk, IsTrue, OnOk, true, false};
 ghost use Rattle.std.specs.Prelude.{vec_len, vec_capacity};
 ghost use Rattle.std.specs.List.{All, remove};
 ghost use Rattle.gpu_alloc_base.specs.AlignMasks.{IsAlignMask};

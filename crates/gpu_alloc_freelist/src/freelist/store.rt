@@ -1,24 +1,19 @@
 //! Free lists as a store of shared chunks: a list, and the sizes of chunks and blocks.
 
-ghost use Rattle.std.specs.Prelude.{◌≡◌, ℕ, ◌+◌, ◌≤◌, ◌<◌, IfNone, IfOk, IfSome, IsTrue, OnErr, OnOk, Some, false};
-ghost use Rattle.std.specs.Prelude.{is_some, max};
-ghost use Rattle.std.specs.FinMap as map;
+ghost use Rattle.std.specs.Prelude.{◌≡◌, ℕ, ◌≤◌, ◌<◌, IfOk, IsTrue, OnErr, max};
 ghost use Rattle.gpu_alloc_types.specs.Device.{Asked};
-ghost use Rattle.gpu_alloc_types.specs.Flags.{allocation_bits, has_bit, property_bits, with_device_address};
+ghost use Rattle.gpu_alloc_types.specs.Flags.{allocation_bits, has_bit, with_device_address};
 ghost use Rattle.gpu_alloc_base.specs.Accounts.{account, chunks_and_remaining, IsCounted};
 ghost use Rattle.gpu_alloc_base.specs.Case.{Answers, RefusesFirst};
 ghost use Rattle.gpu_alloc_base.specs.Sizes.{up};
 ghost use Rattle.gpu_alloc_base.specs.Steps.{Begins};
 ghost use Rattle.gpu_alloc_base.specs.Wanted.{requested, wanted};
-ghost use Rattle.gpu_alloc_base.specs.declared.heap.Heap.{Heap as HeapOf};
 ghost use Rattle.gpu_alloc_freelist.specs.FreeList.{MayGo};
 ghost use Rattle.gpu_alloc_freelist.specs.FreeListAllocator as list;
 ghost use Rattle.gpu_alloc_freelist.specs.FreeListRule.{Serves, list_lawful, list_rule};
 ghost use Rattle.gpu_alloc_freelist.specs.FreeListSound.{IsSoundFreeList};
 ghost use Rattle.gpu_alloc_freelist.specs.FreeListState.{IsLiveSlot};
-ghost use Rattle.gpu_alloc_shared.specs.Rule.{IsLawful, IsLive, IsUnheldIn};
-ghost use Rattle.gpu_alloc_shared.specs.Shared.{Adds, Leaves, Removes, Takes, case_of, object_of, tried, without_block};
-ghost use Rattle.gpu_alloc_shared.specs.Shared.{without_chunk};
+ghost use Rattle.gpu_alloc_shared.specs.Shared.{case_of};
 
 use super::list::FreeList;
 use gpu_alloc_base::heap::Heap;

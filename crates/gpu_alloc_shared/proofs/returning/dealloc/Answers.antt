@@ -14,7 +14,7 @@ abbrev old : (g : Over) → In-Some g → g.S.Store.State
 old g c = g.S.Store.state c.args.store.now
 
 abbrev held : (g : Over) → In-Some g → Chunk
-held g c = record { object = g.M.MemoryObject.object c.in-Some.memory; size = c.in-Some.size }
+held g c = record { object = g.M.MemoryObject.object c.in-Some.memory; size = c.in-Some.whole }
 
 -- The block that is returned, and what is left where its chunk is not yet released.
 module _ (g : Over) (c : In-Some g) (block : g.row.S-Block.Denot) (is : g.S.Store.Returns (old g c) c.args.returned block) where
@@ -30,7 +30,7 @@ module _ (g : Over) (c : In-Some g) (block : g.row.S-Block.Denot) (is : g.S.Stor
   same_chunks : g.S.Store.rule.chunks between ≡ g.S.Store.rule.chunks (old g c)
   same_chunks = g.met.S.Store.lawful.its_chunks (old g c) _ _
 
-  goes : (less : Heap) → less ≡ record c.args.heap.now { used = c.args.heap.now.used - c.in-Some.size }
+  goes : (less : Heap) → less ≡ record c.args.heap.now { used = c.args.heap.now.used - c.in-Some.whole }
       → ReleasesChunk g.S.Store.rule (account between c.args.heap.now c.args.allocations_remains.now) key (Deallocated (held g c).object ∷ []) (account (g.S.Store.state c.put_back-gone.new.self) less (c.args.allocations_remains.now + 1))
   goes less less_is =
       releases_so g.S.Store.rule g.met.S.Store.lawful between (g.S.Store.state c.put_back-gone.new.self) key c.args.heap.now less c.args.allocations_remains.now (held g c) (ap (λ m. map.get m key) same_chunks ∙ is_held) (c.in-Some.ensures.goes block is).1.1 less_is

@@ -15,7 +15,7 @@ old g c = g.S.Store.state c.args.store.now
 abbrev held : (g : Over) → In-Some g → Chunk
 held g c = record { object = g.M.MemoryObject.object c.in-Some.memory; size = c.in-Some.size }
 
-goes : (g : Over) (c : In-Some g) (less : Heap) → less ≡ record c.args.heap.now { used = c.args.heap.now.used - c.in-Some.size }
+abbrev goes : (g : Over) (c : In-Some g) (less : Heap) → less ≡ record c.args.heap.now { used = c.args.heap.now.used - c.in-Some.size }
     → ReleasesChunk g.S.Store.rule (account (old g c) c.args.heap.now c.args.allocations_remains.now) c.in-Some.ensures.some.0 (Deallocated (held g c).object ∷ [])
     (account (g.S.Store.state c.take_whole-gone.new.self) less (c.args.allocations_remains.now + 1))
 goes g c less is =
@@ -38,7 +38,7 @@ returns-clause-releases g c =
     rw (c.release.ensures.count) (
       Deallocated (held g at).object ∷ [],
       (c.deallocate_memory.new.self, c.deallocate_memory.ensures, refl),
-      inr (c.in-Some.ensures.some.0, (c.in-Some.ensures.some.1.0, goes g at c.release.new.heap c.release.ensures.ledger)),
+      inr (c.in-Some.ensures.some.0, c.in-Some.ensures.some.1.0, goes g at c.release.new.heap c.release.ensures.ledger, g.met.D.ObjectDevice.row _ _ _ c.deallocate_memory.ensures),
     )
 
 pub returns-clause-agrees : goal.returns-clause-agrees

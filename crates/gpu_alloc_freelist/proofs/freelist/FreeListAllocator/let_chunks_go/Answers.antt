@@ -22,7 +22,7 @@ pub loop-self-preserved : goal.loop-self-preserved
 loop-self-preserved g c =
     let was = c.loop-self.invariant in
     record {
-      way = λ end new gives. was.way end new (goes_on g.D.ObjectDevice.step g.D.ObjectDevice.objects _ _ end c.args.keep_last _ _ new was.sound c.release_next.ensures.releases c.release_next.ensures.objects gives);
+      way = λ end new gives. was.way end new (goes_on g.D.ObjectDevice.step g.D.ObjectDevice.objects _ _ end c.args.keep_last _ _ new was.sound c.release_next.ensures.releases gives);
       agrees = c.release_next.ensures.agrees;
       properties = c.release_next.ensures.properties ∙ was.properties;
       sound = c.release_next.ensures.sound;
@@ -33,5 +33,5 @@ loop-self-preserved g c =
 pub returns-clause-gives : goal.returns-clause-gives
 returns-clause-gives g c =
     let was = c.loop-self.invariant in
-    was.way _ _ (goes_on g.D.ObjectDevice.step g.D.ObjectDevice.objects _ _ _ c.args.keep_last _ _ _ was.sound c.release_next.ensures.releases c.release_next.ensures.objects
+    was.way _ _ (goes_on g.D.ObjectDevice.step g.D.ObjectDevice.objects _ _ _ c.args.keep_last _ _ _ was.sound c.release_next.ensures.releases
     ([], ([], refl, none_left c.args.keep_last _ _ (c.release_next.ensures.left c.loop-self-test.false))))
