@@ -27,7 +27,7 @@ use Rattle.gpu_alloc.specs.declared.allocator.Strategy.TheVariants.{OwnObject, I
 use Rattle.gpu_alloc.specs.declared.request.Request.{Request}
 use Rattle.gpu_alloc.proofs.Changes.{all_same, allocates_grow, goes_same, objects_stay, owned_within}
 use Rattle.gpu_alloc.proofs.Decisions.{of_grant}
-use Rattle.gpu_alloc.proofs.FreeLists.Gone.{kept_was}
+use Rattle.gpu_alloc.proofs.GoneObjects.{kept_was}
 use Rattle.gpu_alloc.proofs.Ledgers.{Held}
 
 -- What a grant makes.

@@ -23,7 +23,8 @@ use Rattle.gpu_alloc_base.proofs.Lists.{contains_head, contains_later, contains_
 use Rattle.gpu_alloc_base.proofs.Maps.{one_value}
 use Rattle.gpu_alloc_base.proofs.Names.{here, one_or_two, get_removed-other, get_put-other, len_put}
 use Rattle.gpu_alloc.proofs.Decisions.{of_grant}
-use Rattle.gpu_alloc.proofs.FreeLists.Gone.{gone_held, kept_was}
+use Rattle.gpu_alloc.proofs.GoneObjects.{kept_was}
+use Rattle.gpu_alloc.proofs.SameTypes.{gone_held}
 use Rattle.gpu_alloc.proofs.Ledgers.{Held}
 use Rattle.gpu_alloc_block.proofs.LiveSpans.{live_still}
 

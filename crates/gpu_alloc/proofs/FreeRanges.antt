@@ -22,39 +22,30 @@ use Rattle.gpu_alloc_freelist.specs.FreeListState.{FreeListState, IsFreeIn}
 use Rattle.gpu_alloc.specs.FreeBytes.{IsFreeByte}
 use Rattle.gpu_alloc.specs.FreeRanges.{IsFreePieceOf, IsFreeRunOf, IsFreeRangeOf, has_runs}
 use Rattle.gpu_alloc_base.proofs.Lists.{contains_head, contains_later, head_is_other}
-use Rattle.gpu_alloc_base.proofs.Maps.{one_value}
 use Rattle.gpu_alloc_base.proofs.RangeOrder.{starts_apart, order_is_distinct}
-use Rattle.gpu_alloc.proofs.Buddies.Serving.{Serves, first_byte, piece_in_object, piece_in_chunk, chunk_with}
+use Rattle.gpu_alloc.proofs.Buddies.Named.{buddy_bytes, buddy_named}
 use Rattle.gpu_alloc.proofs.Fits.Named.{fit_bytes, fit_named}
 use Rattle.gpu_alloc_base.specs.Chunks.{object_in}
-use Rattle.gpu_alloc.proofs.Shared.Stores.{Serves as ServesAs}
-use Rattle.gpu_alloc.proofs.Shared.Free.{run_from, run_to as run_of}
+use Rattle.gpu_alloc.proofs.Shared.Stores.{Serves, byte_is, byte_was}
+use Rattle.gpu_alloc.proofs.Shared.Free.{first_byte, piece_from, piece_to, run_from, run_to as run_of}
 use Rattle.gpu_alloc.proofs.FreeCovered.{one_kind}
-use Rattle.gpu_alloc.proofs.FreeLists.Serving.{ServesList, list_chunk_was, free_byte, free_in}
+use Rattle.gpu_alloc.proofs.FreeLists.Named.{chunk_was, list_is_named, list_named}
 
 -- Free pieces of buddy chunks.
 
-module _ (s : State) (index : ℕ) (b : Buddy) (serves : Serves s index b) where
+module _ (s : State) (index : ℕ) (b : Buddy) (serves : Serves buddy_named s index b) where
   piece_is : (r : FreeRange) → IsPieceOf b r → IsFreePieceOf s index r
   piece_is r is = record {
     length = is.length;
     end = is.end;
-    piece = subst (λ n. IsFreePiece (IsFreeByte s index BuddyChunk) n r.start is.length) is.object (piece_in_object s index b serves is.key r.start is.length is.chunk is.held is.piece);
+    piece = subst (λ o. IsFreePiece (IsFreeByte s index BuddyChunk) o r.start is.length) (ap object_in is.held ∙ is.object) (piece_to (buddy_bytes s index b serves) is.key r.start is.length is.piece);
   }
 
   piece_was : (r : FreeRange) → IsFreePieceOf s index r → IsPieceOf b r
   piece_was r is =
-      let free = IsFreeByte s index BuddyChunk in
-      let w = chunk_with s index b serves r.object r.start (first_byte free r.object r.start is.length is.piece.place) in
-      record {
-        key = w.0;
-        chunk = w.1;
-        held = w.2.0;
-        object = sym w.2.1;
-        length = is.length;
-        end = is.end;
-        piece = piece_in_chunk s index b serves w.0 r.start is.length w.1 w.2.0 (subst (λ n. IsFreePiece free n r.start is.length) w.2.1 is.piece);
-      }
+      let w = piece_from (buddy_bytes s index b serves) r.object r.start is.length is.piece in
+      let byte = first_byte _ w.0 r.start is.length w.2.place in
+      record { key = w.0; chunk = byte.held; held = byte.is; object = sym (ap object_in byte.is) ∙ w.1; length = is.length; end = is.end; piece = w.2 }
 
 -- Free runs of a free list's chunks.
 
@@ -66,24 +57,12 @@ run_to F G x y to from start end run = record {
   longest = λ start' end' free before after. run.longest start' end' (λ at low high. from at (free at low high)) before after;
 }
 
-module _ (s : State) (index : ℕ) (l : FreeListState) (serves : ServesList s index l) where
-  module _ (number : ℕ) (chunk : Chunk) (held : map.get l.space.chunks number ≡ Some chunk) where
-    byte_is : (at : ℕ) → IsFreeIn l.space number at → IsFreeByte s index (FreeListChunk number) chunk.object at
-    byte_is at free =
-        let there = free_byte s index l serves number at free in
-        let byte = there.1 in
-        let is = list_chunk_was s index l serves number there.0 (record { chunk = byte.chunk; held = byte.held; of_type = byte.of_type; of_kind = byte.of_kind }) in
-        let same : ◌≡◌ {A = Chunk} (record { object = there.0; size = byte.chunk.counted }) chunk = one_value _ (record { object = there.0; size = byte.chunk.counted }) chunk is held in
-        subst (λ o. IsFreeByte s index (FreeListChunk number) o at) (ap (λ (c : Chunk). c.object) same) byte
-
-    byte_was : (at : ℕ) → IsFreeByte s index (FreeListChunk number) chunk.object at → IsFreeIn l.space number at
-    byte_was at byte = free_in s index l serves number at (chunk.object, byte)
-
+module _ (s : State) (index : ℕ) (l : FreeListState) (serves : Serves list_named s index l) where
   run_in_bytes : (r : FreeRange) (is : IsRunOf l.space r) → IsFreeRun (IsFreeByte s index (FreeListChunk is.number)) r.object r.start r.end
   run_in_bytes r is =
       let bytes = IsFreeByte s index (FreeListChunk is.number) in
       subst (λ o. IsFreeRun bytes o r.start r.end) is.object
-      (run_to (IsFreeIn l.space) bytes is.number is.chunk.object (byte_is is.number is.chunk is.held) (byte_was is.number is.chunk is.held) r.start r.end is.run)
+      (run_to (IsFreeIn l.space) bytes is.number is.chunk.object (λ at. byte_is list_is_named s index l serves is.number at is.chunk is.held) (λ at. byte_was list_is_named s index l serves is.number at is.chunk is.held) r.start r.end is.run)
 
   run_is : (r : FreeRange) → IsRunOf l.space r → IsFreeRunOf s index r
   run_is r is = record { kind = FreeListChunk is.number; in_runs = refl; run = run_in_bytes r is }
@@ -92,19 +71,18 @@ module _ (s : State) (index : ℕ) (l : FreeListState) (serves : ServesList s in
   run_was r number run =
       let byte = run.free r.start (omega arith) run.nonempty in
       let chunk : Chunk = record { object = r.object; size = byte.chunk.counted } in
-      let held : map.get l.space.chunks number ≡ Some chunk =
-      list_chunk_was s index l serves number r.object (record { chunk = byte.chunk; held = byte.held; of_type = byte.of_type; of_kind = byte.of_kind }) in
+      let held : map.get l.space.chunks number ≡ Some chunk = chunk_was s index l serves number r.object (record { chunk = byte.chunk; held = byte.held; of_type = byte.of_type; of_kind = byte.of_kind }) in
       record {
         number = number;
         chunk = chunk;
         held = held;
         object = refl;
-        run = run_to (IsFreeByte s index (FreeListChunk number)) (IsFreeIn l.space) r.object number (byte_was number chunk held) (byte_is number chunk held) r.start r.end run;
+        run = run_to (IsFreeByte s index (FreeListChunk number)) (IsFreeIn l.space) r.object number (λ at. byte_was list_is_named s index l serves number at chunk held) (λ at. byte_is list_is_named s index l serves number at chunk held) r.start r.end run;
       }
 
 -- Free runs of fit chunks.
 
-module _ (s : State) (index : ℕ) (f : FitState) (serves : ServesAs fit_named s index f) where
+module _ (s : State) (index : ℕ) (f : FitState) (serves : Serves fit_named s index f) where
   fit_run_in_bytes : (r : FreeRange) → IsFitRunOf f.space r → IsFreeRun (IsFreeByte s index FitChunk) r.object r.start r.end
   fit_run_in_bytes r is = subst (λ o. IsFreeRun (IsFreeByte s index FitChunk) o r.start r.end) (ap object_in is.held ∙ is.object) (run_of (fit_bytes s index f serves) is.key r.start r.end is.run)
 
@@ -135,7 +113,7 @@ distinct_append e (x ∷ xs) ys first second apart =
     ]))
     (distinct_append e xs ys (IsDistinct-tail e x xs first) second (λ a b has_a has_b. apart a b (contains_later x a xs has_a) has_b))
 
-module _ (s : State) (index : ℕ) (b : Buddy) (l : FreeListState) (f : FitState) (of_buddy : Serves s index b) (of_list : ServesList s index l) (of_fits : ServesAs fit_named s index f)
+module _ (s : State) (index : ℕ) (b : Buddy) (l : FreeListState) (f : FitState) (of_buddy : Serves buddy_named s index b) (of_list : Serves list_named s index l) (of_fits : Serves fit_named s index f)
     (pieces runs fitted : List FreeRange) (pieces_are : (r : FreeRange) → Contains pieces r ↔ IsPieceOf b r) (runs_are : (r : FreeRange) → Contains runs r ↔ IsRunOf l.space r)
     (fitted_are : (r : FreeRange) → Contains fitted r ↔ IsFitRunOf f.space r) where
   -- a run is one of the free list's or of the fit chunks'

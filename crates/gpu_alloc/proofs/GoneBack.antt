@@ -7,7 +7,7 @@ use Rattle.gpu_alloc_base.proofs.Names.{absent_or_there}
 use Rattle.gpu_alloc_block.specs.State.{Block, HeldObject, State, IsOwned, total}
 use Rattle.gpu_alloc.specs.Release.{Cleans, Frees, LetsObjectsGo, ObjectsCleaned, ObjectsFreed, without_all, without_objects, without_span}
 use Rattle.gpu_alloc.proofs.Changes.{all_held, all_same, goes_held, goes_same, gone_or_kept, objects_gone, objects_stay}
-use Rattle.gpu_alloc.proofs.FreeLists.Gone.{kept_was}
+use Rattle.gpu_alloc.proofs.GoneObjects.{kept_was}
 use Rattle.gpu_alloc.proofs.Ledgers.{Held}
 
 -- these objects are held no more

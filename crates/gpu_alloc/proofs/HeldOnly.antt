@@ -12,26 +12,16 @@ use Rattle.gpu_alloc_types.specs.Flags.{usage_bits}
 use Rattle.gpu_alloc_base.specs.Accounts.{Account, account}
 use Rattle.gpu_alloc_base.specs.Case as case
 use Rattle.gpu_alloc_base.specs.Case.{Case, RefusesFirst}
-use Rattle.gpu_alloc_base.specs.NewChunk.{flags_of}
-use Rattle.gpu_alloc_base.specs.Wanted.{wanted}
 use Rattle.gpu_alloc_base.specs.declared.error.AllocationError.{AllocationError}
 use Rattle.gpu_alloc_base.specs.declared.error.AllocationError.TheVariants.{OutOfDeviceMemory, OutOfHostMemory, NoCompatibleMemoryTypes, TooManyObjects}
-use Rattle.gpu_alloc_base.specs.declared.free_list_block.Slot.{Slot}
 use Rattle.gpu_alloc_base.specs.declared.heap.Heap.{Heap}
 use Rattle.gpu_alloc_base.proofs.Lists.{contains_head, contains_later}
 use Rattle.gpu_alloc_block.specs.State.{Block, State}
-use Rattle.gpu_alloc_buddy.specs.Buddy as of_buddy
-use Rattle.gpu_alloc_buddy.specs.BuddyState.{Buddy}
-use Rattle.gpu_alloc_freelist.specs.FreeList as lists
-use Rattle.gpu_alloc_freelist.specs.FreeListAllocator as of_list
-use Rattle.gpu_alloc_freelist.specs.FreeListState.{FreeListState}
 use Rattle.gpu_alloc_usage.specs.Ranking.{implied, is_allowed, named, ranking}
 use Rattle.gpu_alloc_usage.proofs.Ranking.Candidates.{candidates_IsRankingWithin, implied-named}
 use Rattle.gpu_alloc_usage.proofs.Ranking.Rising.{none-at, one-at}
 use Rattle.gpu_alloc.specs.Allocation.{AllocatesBy, CandidateDecides, IsCandidatePassed, Plan, TriesAll, TriesAsked, ask, asked_of, candidates_of, is_too_large, plan_with, serves_alone, strategy}
-use Rattle.gpu_alloc.specs.BuddySharing.{buddy_size}
 use Rattle.gpu_alloc.specs.Candidates.{candidate}
-use Rattle.gpu_alloc.specs.FreeListSharing.{list_size, list_alignment}
 use Rattle.gpu_alloc.specs.HeldOnly.{AllocatesHeld, HasPlaceBy, HasPlaceFor, IsFirstWithPlace, IsRefused, ServesHeld}
 use Rattle.gpu_alloc.specs.Request.{is_required}
 use Rattle.gpu_alloc.specs.declared.allocator.Ask.{Ask}
@@ -40,15 +30,10 @@ use Rattle.gpu_alloc.specs.declared.allocator.Strategy.TheVariants.{OwnObject, I
 use Rattle.gpu_alloc.specs.declared.request.Dedicated.{Dedicated}
 use Rattle.gpu_alloc.specs.declared.request.Dedicated.TheVariants.{Required, Preferred}
 use Rattle.gpu_alloc.specs.declared.request.Request.{Request}
-use Rattle.gpu_alloc_fit.specs.Fit as of_fit
-use Rattle.gpu_alloc_fit.specs.Fit.{FitState}
-use Rattle.gpu_alloc_fit.specs.FitRule.{fit_rule}
+use Rattle.gpu_alloc_shared.specs.Rule.{Rule}
 use Rattle.gpu_alloc_shared.specs.Shared.{ask_case}
-use Rattle.gpu_alloc.proofs.Fits.Named.{fit_asked, fit_named, fit_request}
-use Rattle.gpu_alloc.proofs.Buddies.Serving as buddies
 use Rattle.gpu_alloc.proofs.Decisions.{decides_refused}
-use Rattle.gpu_alloc.proofs.FreeLists.Serving as free_lists
-use Rattle.gpu_alloc.proofs.Shared.Stores.{Serves}
+use Rattle.gpu_alloc.proofs.Shared.Stores.{AreAsked, IsRequest, Named, Serves}
 use Rattle.gpu_alloc.proofs.Strategies.{shared_below}
 
 -- A place, recognised by whether there is a refusal where nothing remains.
@@ -66,40 +51,14 @@ told_by_refusal c spent to from (Some TooManyObjects) shut false is = (λ yes. a
 told_by_refusal c spent to from (Some OutOfHostMemory) never false is = absurd never
 told_by_refusal c spent to from (Some NoCompatibleMemoryTypes) never false is = absurd never
 
-module _ (s : State) (index : ℕ) (heap : Heap) (r : Request) (flags : ℕ) (first : Option AllocationError) (told : Bool) (is : is_some first ≡ not told) where
-  pub buddy_place_told : (b : Buddy) → buddies.Serves s index b → RefusesFirst (of_buddy.case_of (account b heap 0) (wanted r.size r.align_mask flags)) first → IsTrue told ↔ HasPlaceBy InBuddyChunk s r index
-  buddy_place_told b serves refuses =
-      let size : of_buddy.rounded b (wanted r.size r.align_mask flags) ≡ buddy_size s r index = buddies.rounded_is s index b serves r flags in
-      told_by_refusal (of_buddy.case_of (account b heap 0) (wanted r.size r.align_mask flags)) refl
-      (λ fits place. record { fits = subst of_buddy.Fits size fits; place = buddies.place_is s index b serves (buddy_size s r index) (subst (of_buddy.HasPlace b) size place) })
-      (λ has. (subst of_buddy.Fits (sym size) has.fits, subst (of_buddy.HasPlace b) (sym size) (buddies.place_was s index b serves (buddy_size s r index) has.place)))
-      first refuses told is
-
-  pub list_place_told : (l : FreeListState) → free_lists.ServesList s index l → RefusesFirst (of_list.case_of (account l heap 0) (wanted r.size r.align_mask flags)) first → IsTrue told ↔ HasPlaceBy InFreeList s r index
-  list_place_told l serves refuses =
-      let size : of_list.rounded l (wanted r.size r.align_mask flags) ≡ list_size s r index = free_lists.rounded_is s index l serves r flags in
-      let alignment : of_list.alignment l (wanted r.size r.align_mask flags) ≡ list_alignment s r index = free_lists.alignment_is s index l serves r flags in
-      told_by_refusal (of_list.case_of (account l heap 0) (wanted r.size r.align_mask flags)) refl
-      (λ fits place. record {
-        fits = tt;
-        place = free_lists.place_is s index l serves (list_size s r index) (list_alignment s r index)
-            (subst (λ n. lists.HasPlace l.space (list_size s r index) n) alignment (subst (λ n. lists.HasPlace l.space n (of_list.alignment l (wanted r.size r.align_mask flags))) size place));
-      })
-      (λ has. (
-        tt,
-        subst (λ n. lists.HasPlace l.space n (of_list.alignment l (wanted r.size r.align_mask flags))) (sym size)
-            (subst (λ n. lists.HasPlace l.space (list_size s r index) n) (sym alignment)
-            (free_lists.place_was s index l serves (list_size s r index) (list_alignment s r index) has.place)),
-      ))
-      first refuses told is
-
-  pub fit_place_told : (f : FitState) → Serves fit_named s index f → 0 < r.size → flags ≡ flags_of s.properties → RefusesFirst (of_fit.case_of (account f heap 0) (wanted r.size r.align_mask flags)) first → IsTrue told ↔ HasPlaceBy InFitChunk s r index
-  fit_place_told f serves some flags_are refuses =
-      let q = fit_request s index f serves r heap 0 flags some flags_are in
-      told_by_refusal (ask_case fit_rule (account f heap 0) q.ask q.flags) refl
-      (λ _ place. record { fits = tt; place = subst (λ (x : Case Block State). x.HasPlace) (sym q.by_name) (fit_asked.place s index f q.ask serves place) })
-      (λ has. (tt, fit_asked.place_was s index f q.ask serves q.some (subst (λ (x : Case Block State). x.HasPlace) q.by_name has.place)))
-      first (subst (λ (x : Case Slot (Account FitState)). RefusesFirst x first) q.to_store refuses) told is
+-- of a store of any rule
+pub place_told : {T A B : Type 0} {rule : Rule T A B} {n : Named rule} (asked : AreAsked n) (w : Strategy) (s : State) (index : ℕ) (x : T) (heap : Heap) (r : Request) → Serves n s index x → {c : Case B (Account T)} → IsRequest n s index x heap 0 c (candidate w s r index)
+    → (first : Option AllocationError) → RefusesFirst c first → (told : Bool) → is_some first ≡ not told → IsTrue told ↔ HasPlaceBy w s r index
+place_told {T} {B = B} {rule} asked w s index x heap r serves q first refuses =
+    told_by_refusal (ask_case rule (account x heap 0) q.ask q.flags) refl
+    (λ fits place. record { fits = subst (λ (d : Case Block State). d.Fits) (sym q.by_name) fits; place = subst (λ (d : Case Block State). d.HasPlace) (sym q.by_name) (asked.place s index x q.ask serves place) })
+    (λ has. (subst (λ (d : Case Block State). d.Fits) q.by_name has.fits, asked.place_was s index x q.ask serves q.some (subst (λ (d : Case Block State). d.HasPlace) q.by_name has.place)))
+    first (subst (λ (d : Case B (Account T)). RefusesFirst d first) q.to_store refuses)
 
 -- The walk over the ranked types. The candidates are those of the types ts that are allowed.
 

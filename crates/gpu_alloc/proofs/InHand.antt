@@ -18,7 +18,7 @@ use Rattle.gpu_alloc.specs.Owned.{Adds, HoldsWith, IsAllOutside, Leaves, Removes
 use Rattle.gpu_alloc.specs.Release.{LetsObjectsGo, without_all}
 use Rattle.gpu_alloc.specs.declared.request.Request.{Request}
 use Rattle.gpu_alloc.proofs.Changes.{gone_or_kept}
-use Rattle.gpu_alloc.proofs.FreeLists.Gone.{kept_was}
+use Rattle.gpu_alloc.proofs.GoneObjects.{kept_was}
 use Rattle.gpu_alloc.proofs.Ledgers.{Held}
 
 -- A name beside the allocator's.

@@ -5,6 +5,7 @@ pub mod BlocksAgreed
 pub mod Budgets
 pub mod Buddies
 pub mod Changes
+pub mod Cleanups
 pub mod Closing
 pub mod Consistency
 pub mod FreeCovered
@@ -13,6 +14,7 @@ pub mod FreeLists
 pub mod FreeRanges
 pub mod Decisions
 pub mod GoneBack
+pub mod GoneObjects
 pub mod Granted
 pub mod Grants
 pub mod HandedOn
@@ -33,6 +35,7 @@ pub mod Owning
 pub mod Pages
 pub mod ReturnedTotals
 pub mod Returns
+pub mod SameTypes
 pub mod Served
 pub mod Serving
 pub mod Shared

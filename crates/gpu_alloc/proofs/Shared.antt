@@ -1,5 +1,6 @@
 -- A memory type's store of shared chunks in the whole allocator, whatever its rule.
 pub mod Calls
 pub mod Free
+pub mod Owned
 pub mod Stores
 pub mod Types

@@ -1,20 +1,20 @@
 -- What the allocator's fields keep, as its state describes it.
-use Rattle.std.proofs.Common.{◌≡◌, ◌≢◌, ◌⊎◌, inl, inr, ℕ, zero, suc, ◌+◌, ◌<◌, ◌≤◌, true, false, List, [], ◌∷◌, length, Option, Some, None, IfSome, IsSome, slice_get, refl, sym, ◌∙◌, ap, subst, arith}
+use Rattle.std.proofs.Common.{◌≡◌, ◌≢◌, ◌⊎◌, inl, inr, ℕ, zero, suc, ◌+◌, ◌<◌, ◌≤◌, true, false, List, [], ◌∷◌, length, get_or, Option, Some, None, IfSome, IsSome, slice_get, refl, sym, ◌∙◌, ap, subst, arith}
 use Rattle.std.proofs.lemmas.Bool.{cases_eq, cases_lt, cases_Bool}
 use Rattle.std.proofs.lemmas.Nat.{pow_pos}
 use Rattle.std.specs.FinMap as map
 use Rattle.gpu_alloc_types.specs.Properties.{Properties, atom_of, heap_size, is_non_coherent}
 use Rattle.gpu_alloc_buddy.specs.BuddyState.{Buddy, IsLiveBuddyLeaf}
 use Rattle.gpu_alloc_base.specs.Chunks.{Chunk}
+use Rattle.gpu_alloc_base.specs.declared.buddy_block.Leaf.{Leaf}
 use Rattle.gpu_alloc_freelist.specs.FreeListState.{FreeListState, IsLiveSlot}
 use Rattle.gpu_alloc_base.specs.FreeSpace.{IsIn, IsMultipleOf, IsPowerOfTwo}
 use Rattle.gpu_alloc.specs.Atoms.{KeepsAtoms, IsNextFitChunk, IsNextListChunk}
 use Rattle.gpu_alloc.specs.FitSharing.{fit_chunk_of, grain, grain_of, next_fit_chunk, IsFitChunk, IsFitChunkSize, IsFitSize}
 use Rattle.gpu_alloc.specs.FreeListSharing.{IsListChunk, latest_number, list_chunk_of, next_list_chunk, number_of}
 use Rattle.gpu_alloc.specs.FirstTypes.{first_types, first_type_state}
-use Rattle.gpu_alloc.specs.Inside.{fits_in, state_in, properties_in, types_in, lists_in, span_of_leaf, span_of_slot, IsLiveIn, IsKnown, offer_of}
+use Rattle.gpu_alloc.specs.Inside.{state_in, properties_in, span_of_leaf, span_of_slot, IsLiveIn, IsKnown, offer_of}
 use Rattle.gpu_alloc.proofs.Wholes.{read_is}
-use Rattle.gpu_alloc.proofs.Buddies.Grants.{same_set}
 use Rattle.gpu_alloc.proofs.Linked.{IsBuddyOf, IsFitOf, IsListOf, IsConsistent}
 use Rattle.gpu_alloc.specs.Sound.{IsSound, IsUnused, LiesIn, may_be_unused}
 use Rattle.gpu_alloc.specs.Spans.{Table}
@@ -24,14 +24,15 @@ use Rattle.gpu_alloc_block.specs.declared.sharing.Sharing.{Sharing}
 use Rattle.gpu_alloc_base.specs.declared.config.Config.{Config}
 use Rattle.gpu_alloc_base.specs.declared.heap.Heap.{Heap}
 use Rattle.gpu_alloc.specs.declared.limits.Limits.{Limits}
-use Rattle.gpu_alloc.proofs.Links.{IsChunkOf, IsNumberedChunk, Place, leaf_at, slot_at}
+use Rattle.gpu_alloc.proofs.Links.{slot_at}
 use Rattle.gpu_alloc.proofs.Consistency.{chunk_kinds}
 use Rattle.gpu_alloc.proofs.HeapLists.{heap_is}
 use Rattle.std.proofs.lemmas.List.{length-map}
-use Rattle.gpu_alloc.proofs.Fits.Named.{fit_named}
-use Rattle.gpu_alloc.proofs.Shared.Stores.{IsHeldAs}
-use Rattle.gpu_alloc.proofs.Shared.Types.{read_changed, types_other, types_set, types_within as types_in_range}
-use Rattle.gpu_alloc.proofs.FreeLists.States.{list_latest_at, list_next_at, types_within}
+use Rattle.gpu_alloc.proofs.Buddies.Named.{buddy_named}
+use Rattle.gpu_alloc.proofs.Fits.Named.{fit_is_named, fit_named}
+use Rattle.gpu_alloc.proofs.FreeLists.Named.{list_is_named, slot_there, under_number}
+use Rattle.gpu_alloc.proofs.Shared.Calls.{sizes_read, types_there}
+use Rattle.gpu_alloc.proofs.Shared.Stores.{IsHeldAs, Stores, types_from}
 use Rattle.gpu_alloc.proofs.Atoms.{atom_power}
 use Rattle.gpu_alloc_base.proofs.Maps.{one_value}
 use Rattle.gpu_alloc_base.proofs.PowersOfTwo.{power_of_bit}
@@ -73,66 +74,63 @@ abbrev chunk_at : ℕ → HeldObject → Chunk
 chunk_at object h = record { object = object; size = h.counted }
 
 module _ {c : Config} {p : Properties} {t : Table} {b : Buddy} {object : ℕ} {h : HeldObject} (is : IsBuddyOf c p t h.memory_type b) (held : map.get t.held object ≡ Some h) (kind : h.kind ≡ BuddyChunk) where
-  held_as : IsChunkOf t b.memory_type object h
-  held_as = record { held = held; of_kind = kind; of_type = sym is.for_type.memory_type }
+  held_as : IsHeldAs buddy_named t b object h
+  held_as = record { key = 0; held = held; of_kind = kind; of_type = sym is.for_type.memory_type }
 
   by_key : (key : ℕ) × (map.get b.chunks key ≡ Some (chunk_at object h))
-  by_key = is.linked.objects object h held_as
+  by_key = let there = is.linked.objects object h held_as in (there.0, there.1)
 
   -- a live span is a live block of the chunk
-  leaf_of : (span : Span) → IsLiveIn t span → span.object ≡ object → (place : Place) × IsLiveBuddyLeaf b (leaf_at span place)
-  leaf_of span live named =
-      let there = is.linked.spans span h live (subst (λ o. IsChunkOf t b.memory_type o h) (sym named) held_as) in
-      there
+  leaf_of : (span : Span) → IsLiveIn t span → span.object ≡ object → (leaf : Leaf) × IsLiveBuddyLeaf b leaf × (span_of_leaf leaf ≡ span)
+  leaf_of span live named = is.linked.spans span h live (subst (λ o. IsHeldAs buddy_named t b o h) (sym named) held_as)
 
-  of_chunk : (span : Span) (place : Place) → IsLiveBuddyLeaf b (leaf_at span place) → span.object ≡ object → (place.chunk ≡ by_key.0) × (span.offset + span.size ≤ h.counted) × (0 < span.size)
-  of_chunk span place live named =
-      let lies = is.sound.space.inside (leaf_at span place) live in
-      let key = is.sound.space.one_object place.chunk by_key.0 lies.chunk (chunk_at object h) lies.held by_key.1 (sym lies.object ∙ named) in
+  of_chunk : (leaf : Leaf) → IsLiveBuddyLeaf b leaf → leaf.object ≡ object → (leaf.chunk ≡ by_key.0) × (leaf.offset + leaf.size ≤ h.counted) × (0 < leaf.size)
+  of_chunk leaf live named =
+      let lies = is.sound.space.inside leaf live in
+      let key = is.sound.space.one_object leaf.chunk by_key.0 lies.chunk (chunk_at object h) lies.held by_key.1 (sym lies.object ∙ named) in
       let same : lies.chunk ≡ chunk_at object h = one_value _ lies.chunk (chunk_at object h) lies.held (ap (λ k. map.get b.chunks k) key ∙ by_key.1) in
       (key, omega (arith, lies.inside, ap (λ (x : Chunk). x.size) same), omega (arith, lies.power.1, pow_pos lies.power.0))
 
   buddy_size : (span : Span) → IsLiveIn t span → span.object ≡ object → IsPowerOfTwo span.size × IsMultipleOf span.size span.offset
   buddy_size span live named =
       let leaf = leaf_of span live named in
-      let lies = is.sound.space.inside (leaf_at span leaf.0) leaf.1 in
-      (lies.power, lies.aligned)
+      let lies = is.sound.space.inside leaf.0 leaf.1 in
+      subst (λ (s : Span). IsPowerOfTwo s.size × IsMultipleOf s.size s.offset) leaf.2 (lies.power, lies.aligned)
 
   buddy_inside : (span : Span) → IsLiveIn t span → span.object ≡ object → span.offset + span.size ≤ h.counted
   buddy_inside span live named =
       let leaf = leaf_of span live named in
-      (of_chunk span leaf.0 leaf.1 named).1
+      subst (λ (s : Span). s.offset + s.size ≤ h.counted) leaf.2 (of_chunk leaf.0 leaf.1 (ap (λ (s : Span). s.object) leaf.2 ∙ named)).1
 
   buddy_apart : (x y : Span) → IsLiveIn t x → IsLiveIn t y → x.object ≡ object → y.object ≡ object → x ≢ y → (x.offset + x.size ≤ y.offset) ⊎ (y.offset + y.size ≤ x.offset)
   buddy_apart x y live also named same other =
       let leaf = leaf_of x live named in
       let leaf' = leaf_of y also same in
-      let of = of_chunk x leaf.0 leaf.1 named in
-      let of' = of_chunk y leaf'.0 leaf'.1 same in
-      ranges_apart x.offset x.size y.offset y.size of.2 of'.2
-      (λ at i j. other (ap span_of_leaf (is.sound.space.apart (leaf_at x leaf.0) (leaf_at y leaf'.0) leaf.1 leaf'.1 (of.0 ∙ sym of'.0) at i j)))
+      let of = of_chunk leaf.0 leaf.1 (ap (λ (s : Span). s.object) leaf.2 ∙ named) in
+      let of' = of_chunk leaf'.0 leaf'.1 (ap (λ (s : Span). s.object) leaf'.2 ∙ same) in
+      subst (λ (s : Span). (s.offset + s.size ≤ y.offset) ⊎ (y.offset + y.size ≤ s.offset)) leaf.2
+      (subst (λ (s : Span). (leaf.0.offset + leaf.0.size ≤ s.offset) ⊎ (s.offset + s.size ≤ leaf.0.offset)) leaf'.2
+      (ranges_apart leaf.0.offset leaf.0.size leaf'.0.offset leaf'.0.size of.2 of'.2
+      (λ at i j. other (sym leaf.2 ∙ ap span_of_leaf (is.sound.space.apart leaf.0 leaf'.0 leaf.1 leaf'.1 (of.0 ∙ sym of'.0) at i j) ∙ leaf'.2))))
 
   chunk_used : HasSpan t object
   chunk_used =
       let leaf = is.sound.space.used by_key.0 (chunk_at object h) by_key.1 in
       let lies = is.sound.space.inside leaf.0 leaf.1.0 in
       let same : lies.chunk ≡ chunk_at object h = one_value _ lies.chunk (chunk_at object h) lies.held (ap (λ k. map.get b.chunks k) leaf.1.1 ∙ by_key.1) in
-      (span_of_leaf leaf.0, is.linked.leaves leaf.0 leaf.1.0, lies.object ∙ ap (λ (x : Chunk). x.object) same)
+      (span_of_leaf leaf.0, is.linked.blocks leaf.0 leaf.1.0, lies.object ∙ ap (λ (x : Chunk). x.object) same)
 
 -- A chunk of a free list.
 
 module _ {c : Config} {p : Properties} {t : Table} {l : FreeListState} {object number : ℕ} {h : HeldObject} (is : IsListOf c p t h.memory_type l) (held : map.get t.held object ≡ Some h) (kind : h.kind ≡ FreeListChunk number) where
-  numbered : IsNumberedChunk t l.memory_type number object h
-  numbered = record { held = held; of_kind = kind; of_type = sym is.for_type.memory_type }
-
   -- a live span is a live block of the chunk
   slot_of : (span : Span) → IsLiveIn t span → span.object ≡ object → IsLiveSlot l.space (slot_at span number)
-  slot_of span live named = is.linked.spans span number h live (subst (λ o. IsNumberedChunk t l.memory_type number o h) (sym named) numbered)
+  slot_of span live named = slot_there is.linked is.sound number span h (ap (map.get t.held) named ∙ held) kind (sym is.for_type.memory_type) live
 
   of_slot : (span : Span) → span.object ≡ object → IsLiveSlot l.space (slot_at span number) → (span.offset + span.size ≤ h.counted) × (0 < span.size)
   of_slot span named live =
       let lies = is.sound.space.inside (slot_at span number) live in
-      let same : lies.chunk ≡ chunk_at object h = one_value _ lies.chunk (chunk_at object h) lies.held (is.linked.objects number object h numbered) in
+      let same : lies.chunk ≡ chunk_at object h = one_value _ lies.chunk (chunk_at object h) lies.held (under_number is.linked number object h held kind (sym is.for_type.memory_type)) in
       (omega (arith, lies.inside, ap (λ (x : Chunk). x.size) same), lies.nonempty)
 
   list_inside : (span : Span) → IsLiveIn t span → span.object ≡ object → span.offset + span.size ≤ h.counted
@@ -287,6 +285,9 @@ module _ {A : Type 0} (l : Limits A) (heaps : List Heap) (buddies : List Buddy) 
   abbrev s : State
   s = state_in l heaps buddies lists fits t remaining
 
+  abbrev ss : Stores
+  ss = record { buddies = buddies; lists = lists; fits = fits }
+
   -- The free list of a memory type that is known.
 
   module _ (known : index < length (properties_in l heaps).memory_types) where
@@ -296,20 +297,23 @@ module _ {A : Type 0} (l : Limits A) (heaps : List Heap) (buddies : List Buddy) 
     list_own : IsListOf l.config (properties_in l heaps) t index own_list.0
     list_own = subst (λ (o : Option FreeListState). IfSome o (IsListOf l.config (properties_in l heaps) t index)) own_list.1 (is.listed.each index)
 
-    abbrev types : List TypeState
-    types = types_in (first_types l.config (properties_in l heaps)) buddies
+    list_read : own_list.0 ≡ get_or lists index own_list.0
+    list_read = read_is lists index own_list.0 own_list.1
 
-    typed : index < length types
-    typed = types_within (first_types l.config (properties_in l heaps)) buddies index (omega (arith, known, length-map (properties_in l heaps).memory_types (first_type_state l.config (properties_in l heaps)))) (omega (arith, known, is.shared.count))
+    abbrev first : List TypeState
+    first = first_types l.config (properties_in l heaps)
 
     fitted : index < length fits
     fitted = omega (arith, known, is.fitted.count)
 
+    typed : index < length (types_from first ss)
+    typed = types_there first ss index (omega (arith, known, length-map (properties_in l heaps).memory_types (first_type_state l.config (properties_in l heaps)))) (omega (arith, known, is.shared.count)) (omega (arith, known, is.listed.count)) fitted
+
     latest_is : latest_number s index ≡ own_list.0.space.latest
-    latest_is = types_other _ number_of (λ f type. refl) (lists_in types lists) fits index fitted ∙ list_latest_at types lists index own_list.0 own_list.1 typed
+    latest_is = sizes_read list_is_named first ss index own_list.0 list_read typed number_of own_list.0.space.latest (λ type. refl)
 
     next_is : next_list_chunk s index ≡ own_list.0.next_chunk
-    next_is = types_other _ list_chunk_of (λ f type. refl) (lists_in types lists) fits index fitted ∙ list_next_at types lists index own_list.0 own_list.1 typed
+    next_is = sizes_read list_is_named first ss index own_list.0 list_read typed list_chunk_of own_list.0.next_chunk (λ type. refl)
 
     next_whole : IsNextListChunk s index
     next_whole =
@@ -330,15 +334,8 @@ module _ {A : Type 0} (l : Limits A) (heaps : List Heap) (buddies : List Buddy) 
     fitting_own : IsFitOf l.config (properties_in l heaps) t index own_fitting.0
     fitting_own = subst (λ (o : Option FitState). IfSome o (IsFitOf l.config (properties_in l heaps) t index)) own_fitting.1 (is.fitted.each index)
 
-    listed : index < length (lists_in types lists)
-    listed = types_in_range _ types lists index typed (omega (arith, known, is.listed.count))
-
     next_fit_is : next_fit_chunk s index ≡ own_fitting.0.next_chunk
-    next_fit_is =
-        let own_types = types_set (λ (x : FitState) type. record type { fit_chunk = x.next_chunk }) own_fitting.0 (λ y type. refl) (lists_in types lists) fits index in
-        let same = same_set fits index own_fitting.0 own_fitting.0 (read_is fits index own_fitting.0 own_fitting.1) refl in
-        ap (λ ts. fit_chunk_of (slice_get ts index)) (ap (fits_in (lists_in types lists)) (sym same) ∙ own_types)
-        ∙ read_changed fit_chunk_of (λ type. record type { fit_chunk = own_fitting.0.next_chunk }) (fits_in (lists_in types lists) fits) index own_fitting.0.next_chunk (types_in_range _ (lists_in types lists) fits index listed fitted) (λ type. refl)
+    next_fit_is = sizes_read fit_is_named first ss index own_fitting.0 (read_is fits index own_fitting.0 own_fitting.1) typed fit_chunk_of own_fitting.0.next_chunk (λ type. refl)
 
     next_fit_within : IsNextFitChunk s index
     next_fit_within =
@@ -359,25 +356,22 @@ module _ {A : Type 0} (l : Limits A) (heaps : List Heap) (buddies : List Buddy) 
   type_known object of = subst (λ n. n < length (properties_in l heaps).memory_types) of.of_type (known_at is object of.chunk of.held).of_type
 
   module _ (fl : FreeListState) (own : IsListOf l.config (properties_in l heaps) t index fl) where
-    numbered_in : (object : ℕ) (of : IsListChunk s index number object) → IsNumberedChunk t fl.memory_type number object of.chunk
-    numbered_in object of = record { held = of.held; of_kind = of.of_kind; of_type = of.of_type ∙ sym own.for_type.memory_type }
-
     -- a chunk's object is held under its number
-    under_number : (object : ℕ) (of : IsListChunk s index number object) → map.get fl.space.chunks number ≡ Some (chunk_at object of.chunk)
-    under_number object of = own.linked.objects number object of.chunk (numbered_in object of)
+    chunk_under : (object : ℕ) (of : IsListChunk s index number object) → map.get fl.space.chunks number ≡ Some (chunk_at object of.chunk)
+    chunk_under object of = under_number own.linked number object of.chunk of.held of.of_kind (of.of_type ∙ sym own.for_type.memory_type)
 
   one_object : (a b : ℕ) → IsListChunk s index number a → IsListChunk s index number b → a ≡ b
   one_object a b of also =
       let known = type_known a of in
       let fl = (own_list known).0 in
       let own = list_own known in
-      ap (λ (c : Chunk). c.object) (one_value _ (chunk_at a of.chunk) (chunk_at b also.chunk) (under_number fl own a of) (under_number fl own b also))
+      ap (λ (c : Chunk). c.object) (one_value _ (chunk_at a of.chunk) (chunk_at b also.chunk) (chunk_under fl own a of) (chunk_under fl own b also))
 
   within : (object : ℕ) → IsListChunk s index number object → (0 < number) × (number ≤ latest_number s index)
   within object of =
       let known = type_known object of in
       let own = list_own known in
-      let is_number = own.sound.space.numbers number (chunk_at object of.chunk) (under_number (own_list known).0 own object of) in
+      let is_number = own.sound.space.numbers number (chunk_at object of.chunk) (chunk_under (own_list known).0 own object of) in
       (is_number.0, omega (arith, is_number.1, latest_is known))
 
   -- it ends, and a live span in it begins, at a whole atom
@@ -385,13 +379,13 @@ module _ {A : Type 0} (l : Limits A) (heaps : List Heap) (buddies : List Buddy) 
   chunk_ends object of =
       let known = type_known object of in
       let own = list_own known in
-      subst (λ n. IsMultipleOf n of.chunk.counted) own.for_type.atom (own.sound.chunks number (chunk_at object of.chunk) (under_number (own_list known).0 own object of)).0
+      subst (λ n. IsMultipleOf n of.chunk.counted) own.for_type.atom (own.sound.chunks number (chunk_at object of.chunk) (chunk_under (own_list known).0 own object of)).0
 
   span_begins : (span : Span) → IsListChunk s index number span.object → IsLiveIn t span → IsMultipleOf (atom_of s.properties index) span.offset
   span_begins span of live =
       let known = type_known span.object of in
       let own = list_own known in
-      subst (λ n. IsMultipleOf n span.offset) own.for_type.atom (own.sound.slots (slot_at span number) (own.linked.spans span number of.chunk live (numbered_in (own_list known).0 own span.object of))).0
+      subst (λ n. IsMultipleOf n span.offset) own.for_type.atom (own.sound.slots (slot_at span number) (slot_there own.linked own.sound number span of.chunk of.held of.of_kind (of.of_type ∙ sym own.for_type.memory_type) live)).0
 
   -- Its fit chunks: their sizes, and the live spans in them.
 

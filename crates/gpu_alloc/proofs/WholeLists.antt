@@ -1,12 +1,11 @@
 -- The chunks and the live blocks of free lists, as they are listed and counted.
-use Rattle.std.proofs.Common.{◌≡◌, ◌≢◌, inl, inr, ℕ, List, map, length, nat_eq, Some, None, refl, sym, ◌∙◌, ap, subst}
+use Rattle.std.proofs.Common.{◌≡◌, inl, inr, ℕ, List, map, Some, None, refl, sym, ◌∙◌, ap, subst}
 use Rattle.std.specs.Bool.{Decides}
 use Rattle.std.specs.Cmp.{nat_cmp_total}
 use Rattle.std.specs.FinMap as finite
 use Rattle.std.specs.FinMap.{nat_cmp-IsAntisymmetric}
 use Rattle.std.specs.FinSet as set
-use Rattle.std.specs.List.{Contains, IsDistinct}
-use Rattle.std.specs.Map.{keys_of}
+use Rattle.std.specs.List.{Contains}
 use Rattle.std.specs.Ordering.{nat_cmp}
 use Rattle.slab.specs.Slab.{get}
 use Rattle.slab.proofs.SlabLemmas.{Contains-entries}
@@ -19,7 +18,7 @@ use Rattle.gpu_alloc_base.proofs.Maps.{one_value}
 use Rattle.gpu_alloc_base.proofs.SlabViews.{in_set, map_absent, map_there}
 use Rattle.gpu_alloc_base.proofs.Slots.{slot_exact, slot_total}
 use Rattle.gpu_alloc_block.specs.Parts.{HaveOwnObjects}
-use Rattle.gpu_alloc_block.specs.State.{HeldObject, Span, span_cmp}
+use Rattle.gpu_alloc_block.specs.State.{Span, span_cmp}
 use Rattle.gpu_alloc_block.specs.declared.block.Kind.TheVariants.{FreeListChunk}
 use Rattle.gpu_alloc_freelist.specs.Chunks.{ListsChunks, chunk_of}
 use Rattle.gpu_alloc_freelist.specs.FreeListSound.{IsSoundFreeList}
@@ -28,12 +27,12 @@ use Rattle.gpu_alloc_freelist.specs.Live.{ListsSlots}
 use Rattle.gpu_alloc_freelist.specs.declared.freelist.chunks.NumberedChunk.{NumberedChunk}
 use Rattle.gpu_alloc.specs.Inside.{list_object, span_of_slot}
 use Rattle.gpu_alloc.specs.Listing.{AreOnce}
-use Rattle.gpu_alloc.specs.Spans.{held_entry_of, held_objects_in, span_in}
+use Rattle.gpu_alloc.specs.Spans.{span_in}
 use Rattle.gpu_alloc.specs.Whole.{list_part}
 use Rattle.gpu_alloc.specs.declared.spans.HeldRow.{HeldRow}
 use Rattle.gpu_alloc_base.specs.declared.buddy_block.Leaf.{Leaf as LiveSpan}
 use Rattle.gpu_alloc.proofs.Tables.Listed.{mapped_twice, once_named, rows_apart}
-use Rattle.gpu_alloc.proofs.WholeRows.{held_count, held_rows_are, held_rows_once, listed_held, spans_are, unlisted_unheld}
+use Rattle.gpu_alloc.proofs.WholeRows.{AreRowsOf, rows_of, spans_are}
 use Rattle.gpu_alloc.proofs.Wholes.{one_slot}
 
 -- A free list's chunks.
@@ -82,26 +81,10 @@ module _ {M : Type 0} (object : M → ℕ) (l : FreeListState) (named : HaveOwnO
   apart : AreNamedApart (λ (e : ℕ × NumberedChunk M). object e.1.memory) listed
   apart = subst (AreNamedApart (λ (e : ℕ × NumberedChunk M). object e.1.memory)) (sym lists.are) (rows_apart (λ (row : NumberedChunk M). object row.memory) lists.rows one_key)
 
-  -- a listed chunk is held as its row says
-  pub chunk_held : (e : ℕ × NumberedChunk M) → Contains listed e → finite.get (list_part l).held (object e.1.memory) ≡ Some (list_object l e.1.number (chunk_of object e.1))
-  chunk_held = listed_held number said (list_object l) l.space.chunks named listed as_held entry_for apart
-
-  -- and no other is held
-  pub chunk_unheld : (q : ℕ) → ((e : ℕ × NumberedChunk M) → Contains listed e → object e.1.memory ≢ q) → finite.get (list_part l).held q ≡ None
-  chunk_unheld = unlisted_unheld number said (list_object l) l.space.chunks named listed as_held entry_for apart
-
-  module _ (memory_type : ℕ) (typed : l.memory_type ≡ memory_type) where
-    says : (e : ℕ × NumberedChunk M) → ◌≡◌ {A = ℕ × HeldObject} (held_entry_of (chunk_row object memory_type e)) (object e.1.memory, list_object l (number e) (said e))
-    says e i = (object e.1.memory, record { memory_type = sym typed i; counted = e.1.size; kind = FreeListChunk e.1.number })
-
-    pub chunk_rows_are : held_objects_in (map (chunk_row object memory_type) listed) ≡ (list_part l).held
-    chunk_rows_are = held_rows_are number said (list_object l) l.space.chunks named listed as_held entry_for apart (chunk_row object memory_type) says
-
-    pub chunk_rows_once : IsDistinct nat_eq (keys_of (map (chunk_row object memory_type) listed))
-    chunk_rows_once = held_rows_once number said (list_object l) l.space.chunks named listed as_held entry_for apart (chunk_row object memory_type) says
-
-  pub chunk_count : finite.len (list_part l).held ≡ length listed
-  chunk_count = held_count number said (list_object l) l.space.chunks named listed as_held entry_for apart
+  pub chunk_rows : (memory_type : ℕ) → l.memory_type ≡ memory_type → AreRowsOf (list_part l).held (chunk_row object memory_type) listed
+  chunk_rows memory_type typed =
+      rows_of named (record { held = as_held; all = entry_for; apart = apart }) (list_object l) (chunk_row object memory_type)
+      (λ e i. (object e.1.memory, record { memory_type = sym typed i; counted = e.1.size; kind = FreeListChunk e.1.number }))
 
 -- Its live blocks.
 

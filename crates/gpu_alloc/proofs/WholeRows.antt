@@ -1,5 +1,5 @@
 -- The chunks and the live blocks of any part, as they are listed and counted.
-use Rattle.std.proofs.Common.{◌≡◌, ◌≢◌, inl, inr, ℕ, List, [], ◌∷◌, map, length, nat_eq, option_map, Some, None, true, Equal, refl, sym, ◌∙◌, ap, subst}
+use Rattle.std.proofs.Common.{◌≡◌, ◌≢◌, inl, inr, ℕ, List, [], ◌∷◌, map, length, nat_eq, Option, option_map, Some, None, true, Equal, refl, sym, ◌∙◌, ap, subst}
 use Rattle.std.proofs.lemmas.Bool.Decides.{same_from_decides}
 use Rattle.std.proofs.lemmas.Map.Keys.{IsDistinct-tail}
 use Rattle.std.specs.Bool.{Decides}
@@ -14,18 +14,18 @@ use Rattle.std.specs.Ordering.{nat_cmp, eq_by_cmp}
 use Rattle.slab.specs.Slab.{Slab, entries, get}
 use Rattle.slab.proofs.SlabLemmas.{Contains-entries}
 use Rattle.gpu_alloc_base.specs.Chunks.{Chunk}
-use Rattle.gpu_alloc_base.specs.SlabViews.{HasOneKeyEach, by_key}
+use Rattle.gpu_alloc_base.specs.SlabViews.{by_key}
 use Rattle.gpu_alloc_base.proofs.Lists.{contains_cases, contains_head, contains_later, contains_none, head_is_other}
 use Rattle.gpu_alloc_base.proofs.ListSets.{in_set, key_test}
 use Rattle.gpu_alloc_base.proofs.ListViews.{IsOneToOne, AreNamedApart, in_names, named_absent, named_len, named_there, seek_name}
 use Rattle.gpu_alloc_base.proofs.SlabViews.{found_by_key, get_by_key}
-use Rattle.gpu_alloc_block.specs.Parts.{Chunks, HaveOwnObjects, by_name, by_span}
+use Rattle.gpu_alloc_block.specs.Parts.{Chunks, HaveOwnObjects, Held, by_name, by_span}
 use Rattle.gpu_alloc_block.specs.State.{HeldObject, Span, span_cmp}
 use Rattle.gpu_alloc_block.proofs.LiveSpans.{span_exact, span_total}
 use Rattle.gpu_alloc_block.proofs.Parts.ByName.{name_there}
 use Rattle.gpu_alloc_block.proofs.Parts.Entries.{item_there, there_entry}
-use Rattle.gpu_alloc.specs.Listing.{AreOnce}
-use Rattle.gpu_alloc.specs.Spans.{held_entry_of, held_objects_in}
+use Rattle.gpu_alloc.specs.Listing.{AreOnce, IsRowOf}
+use Rattle.gpu_alloc.specs.Spans.{held_entry_of, held_objects_in, held_of}
 use Rattle.gpu_alloc.specs.declared.spans.HeldRow.{HeldRow}
 use Rattle.gpu_alloc.proofs.Tables.Listed.{distinct_named, mapped_twice, once_named, rows_apart}
 
@@ -43,96 +43,84 @@ one_called f (e ∷ es) apart a b has_a has_b same = elim (contains_cases e a es
   ]
 ]
 
--- Chunks, as a list has them: what it says of a chunk is held under the chunk's key, and each chunk is in it.
+-- Chunks, as a list has them: what it says of a chunk is held under the chunk's key, each chunk is in it, and no two have one
+-- object.
+pub record AreListed {E : Type 0} (key : E → ℕ) (said : E → Chunk) (chunks : Chunks) (listed : List E) : Type 0 where
+  pub held : (e : E) → Contains listed e → finite.get chunks (key e) ≡ Some (said e)
+  pub all : (k : ℕ) (c : Chunk) → finite.get chunks k ≡ Some c → (e : E) × Contains listed e × (said e ≡ c)
+  pub apart : AreNamedApart (λ (e : E). (said e).object) listed
 
-module _ {E : Type 0} (key : E → ℕ) (said : E → Chunk) (object_of : ℕ → Chunk → HeldObject) (chunks : Chunks) (named : HaveOwnObjects chunks) (listed : List E)
-    (is_held : (e : E) → Contains listed e → finite.get chunks (key e) ≡ Some (said e))
-    (entry_for : (k : ℕ) (c : Chunk) → finite.get chunks k ≡ Some c → (e : E) × Contains listed e × (said e ≡ c))
-    (apart : AreNamedApart (λ (e : E). (said e).object) listed) where
+-- What is held under names, as rows of a list have it: the row that has a name is what is held under it, and none where none has
+-- it; and they are all of it, each once.
+pub record AreRowsOf {E : Type 0} (held : Held) (row : E → ℕ × HeldRow) (listed : List E) : Type 0 where
+  pub found : (object : ℕ) (r : Option HeldRow) → IsRowOf row listed object r → option_map held_of r ≡ finite.get held object
+  pub rows : held_objects_in (map row listed) ≡ held
+  pub once : IsDistinct nat_eq (keys_of (map row listed))
+  pub count : finite.len held ≡ length listed
+
+module _ {E : Type 0} {key : E → ℕ} {said : E → Chunk} {chunks : Chunks} {listed : List E} (named : HaveOwnObjects chunks) (are : AreListed key said chunks listed)
+    (object_of : ℕ → Chunk → HeldObject) (row : E → ℕ × HeldRow) where
   abbrev name : E → ℕ
   name e = (said e).object
 
   abbrev value : E → HeldObject
   value e = object_of (key e) (said e)
 
-  -- a listed chunk is held as its row says
-  pub listed_held : (e : E) → Contains listed e → finite.get (by_name object_of chunks) (name e) ≡ Some (value e)
-  listed_held e has = name_there object_of chunks named (key e) (said e) (is_held e has)
+  abbrev held : Held
+  held = by_name object_of chunks
+
+  -- a listed chunk is held as it says
+  listed_held : (e : E) → Contains listed e → finite.get held (name e) ≡ Some (value e)
+  listed_held e has = name_there object_of chunks named (key e) (said e) (are.held e has)
 
   -- and no other is held
-  pub unlisted_unheld : (q : ℕ) → ((e : E) → Contains listed e → name e ≢ q) → finite.get (by_name object_of chunks) q ≡ None
+  unlisted_unheld : (q : ℕ) → ((e : E) → Contains listed e → name e ≢ q) → finite.get held q ≡ None
   unlisted_unheld q none =
       named_absent nat_cmp_total nat_cmp-IsAntisymmetric (λ (e : ℕ × Chunk). e.1.object) (λ e. object_of e.0 e.1) (finite.entries chunks) q (λ e has same.
-      let its = entry_for e.0 e.1 (there_entry chunks e.0 e.1 has) in
+      let its = are.all e.0 e.1 (there_entry chunks e.0 e.1 has) in
       none its.0 its.1 (ap (λ (c : Chunk). c.object) its.2 ∙ same))
 
-  by_rows : finite.from_entries {R = nat_cmp} (map (λ (e : E). (name e, value e)) listed) ≡ by_name object_of chunks
+  by_rows : finite.from_entries {R = nat_cmp} (map (λ (e : E). (name e, value e)) listed) ≡ held
   by_rows = finite.same_map nat_cmp_total nat_cmp-IsAntisymmetric _ _ (λ q. elim (seek_name nat_cmp_total nat_cmp-IsAntisymmetric name (λ e. e) listed q) [
-    | inl found ↦ subst (λ n. finite.get (finite.from_entries {R = nat_cmp} (map (λ (e : E). (name e, value e)) listed)) n ≡ finite.get (by_name object_of chunks) n) found.2
-        (named_there nat_cmp_total nat_cmp-IsAntisymmetric name value listed found.0 (one_called name listed apart) found.1 ∙ sym (listed_held found.0 found.1))
+    | inl found ↦ subst (λ n. finite.get (finite.from_entries {R = nat_cmp} (map (λ (e : E). (name e, value e)) listed)) n ≡ finite.get held n) found.2
+        (named_there nat_cmp_total nat_cmp-IsAntisymmetric name value listed found.0 (one_called name listed are.apart) found.1 ∙ sym (listed_held found.0 found.1))
     | inr none ↦ named_absent nat_cmp_total nat_cmp-IsAntisymmetric name value listed q none ∙ sym (unlisted_unheld q none)
   ])
 
-  -- rows that say the same are all that is held, each once
-  module _ (row : E → ℕ × HeldRow) (says : (e : E) → ◌≡◌ {A = ℕ × HeldObject} (held_entry_of (row e)) (name e, value e)) where
-    pub held_rows_are : held_objects_in (map row listed) ≡ by_name object_of chunks
-    held_rows_are = ap (λ (es : List (ℕ × HeldObject)). finite.from_entries es) (mapped_twice row held_entry_of (λ e. (name e, value e)) says listed) ∙ by_rows
+  pub rows_of : ((e : E) → ◌≡◌ {A = ℕ × HeldObject} (held_entry_of (row e)) (name e, value e)) → AreRowsOf held row listed
+  rows_of says = record {
+    found = found;
+    rows = ap (λ (es : List (ℕ × HeldObject)). finite.from_entries es) (mapped_twice row held_entry_of (λ e. (name e, value e)) says listed) ∙ by_rows;
+    once = subst (IsDistinct nat_eq) (sym (mapped_twice row (λ x. x.0) name named_so listed)) (distinct_named name listed are.apart);
+    count = ap (λ (m : Held). finite.len m) (sym by_rows) ∙ named_len nat_cmp_total nat_cmp-IsAntisymmetric name value listed are.apart;
+  }
+    where
+      named_so : (e : E) → (row e).0 ≡ name e
+      named_so e = ap (λ (x : ℕ × HeldObject). x.0) (says e)
 
-    pub held_rows_once : IsDistinct nat_eq (keys_of (map row listed))
-    held_rows_once = subst (IsDistinct nat_eq) (sym (mapped_twice row (λ x. x.0) name (λ e. ap (λ (x : ℕ × HeldObject). x.0) (says e)) listed)) (distinct_named name listed apart)
-
-  -- there are as many as are listed
-  pub held_count : finite.len (by_name object_of chunks) ≡ length listed
-  held_count = ap (λ (m : finite.FinMap nat_cmp HeldObject). finite.len m) (sym by_rows) ∙ named_len nat_cmp_total nat_cmp-IsAntisymmetric name value listed apart
+      found : (object : ℕ) (r : Option HeldRow) → IsRowOf row listed object r → option_map held_of r ≡ finite.get held object
+      found object None none = sym (unlisted_unheld object (λ e has same. none e has (named_so e ∙ same)))
+      found object (Some r) of =
+          let is = ap held_entry_of (sym of.2) ∙ says of.0 in
+          sym (ap (finite.get held) (ap (λ (x : ℕ × HeldObject). x.0) is) ∙ listed_held of.0 of.1 ∙ ap (λ (x : ℕ × HeldObject). Some x.1) (sym is))
 
 -- So it is where they are the rows of a slab, each chunk under its row's key.
 
-module _ {Row : Type 0} (said : Row → Chunk) (object_of : Chunk → HeldObject) (chunks : Chunks) (named : HaveOwnObjects chunks) (rows : Slab Row) (exact : chunks ≡ by_key said rows) (listed : List (ℕ × Row)) (are : listed ≡ entries rows) where
-  abbrev of_key : ℕ → Chunk → HeldObject
-  of_key key c = object_of c
-
-  abbrev key_of : ℕ × Row → ℕ
-  key_of e = e.0
-
-  abbrev said_of : ℕ × Row → Chunk
-  said_of e = said e.1
-
+module _ {Row : Type 0} (said : Row → Chunk) (chunks : Chunks) (named : HaveOwnObjects chunks) (rows : Slab Row) (exact : chunks ≡ by_key said rows) (listed : List (ℕ × Row)) (are : listed ≡ entries rows) where
   pub key_listed : (e : ℕ × Row) → Contains listed e → get rows e.0 ≡ Some e.1
   key_listed e has = (Contains-entries rows e.0 e.1).0 (subst (λ (es : List (ℕ × Row)). Contains es e) are has)
 
   at_key : (key : ℕ) (row : Row) → get rows key ≡ Some row → finite.get chunks key ≡ Some (said row)
   at_key key row at = ap (λ (m : Chunks). finite.get m key) exact ∙ get_by_key said rows key ∙ ap (option_map said) at
 
-  key_held : (e : ℕ × Row) → Contains listed e → finite.get chunks (key_of e) ≡ Some (said_of e)
-  key_held e has = at_key e.0 e.1 (key_listed e has)
-
-  entry_by_key : (key : ℕ) (c : Chunk) → finite.get chunks key ≡ Some c → (e : ℕ × Row) × Contains listed e × (said_of e ≡ c)
-  entry_by_key key c is =
-      let row = found_by_key said rows key c (ap (λ (m : Chunks). finite.get m key) (sym exact) ∙ is) in
-      ((key, row.0), subst (λ (es : List (ℕ × Row)). Contains es (key, row.0)) (sym are) ((Contains-entries rows key row.0).1 row.1), row.2)
-
-  -- no two have one object
-  one_key : HasOneKeyEach (λ (row : Row). (said row).object) rows
-  one_key i k x y at_i at_k same = named i k (said x) (said y) (at_key i x at_i) (at_key k y at_k) same
-
-  keys_apart : AreNamedApart (λ (e : ℕ × Row). (said_of e).object) listed
-  keys_apart = subst (AreNamedApart (λ (e : ℕ × Row). (said_of e).object)) (sym are) (rows_apart (λ (row : Row). (said row).object) rows one_key)
-
-  pub keyed_held : (e : ℕ × Row) → Contains listed e → finite.get (by_name of_key chunks) (said_of e).object ≡ Some (object_of (said_of e))
-  keyed_held = listed_held key_of said_of of_key chunks named listed key_held entry_by_key keys_apart
-
-  pub keyed_unheld : (q : ℕ) → ((e : ℕ × Row) → Contains listed e → (said_of e).object ≢ q) → finite.get (by_name of_key chunks) q ≡ None
-  keyed_unheld = unlisted_unheld key_of said_of of_key chunks named listed key_held entry_by_key keys_apart
-
-  module _ (row : ℕ × Row → ℕ × HeldRow) (says : (e : ℕ × Row) → ◌≡◌ {A = ℕ × HeldObject} (held_entry_of (row e)) ((said_of e).object, object_of (said_of e))) where
-    pub keyed_rows_are : held_objects_in (map row listed) ≡ by_name of_key chunks
-    keyed_rows_are = held_rows_are key_of said_of of_key chunks named listed key_held entry_by_key keys_apart row says
-
-    pub keyed_rows_once : IsDistinct nat_eq (keys_of (map row listed))
-    keyed_rows_once = held_rows_once key_of said_of of_key chunks named listed key_held entry_by_key keys_apart row says
-
-  pub keyed_count : finite.len (by_name of_key chunks) ≡ length listed
-  keyed_count = held_count key_of said_of of_key chunks named listed key_held entry_by_key keys_apart
+  pub listed_by_key : AreListed (λ (e : ℕ × Row). e.0) (λ e. said e.1) chunks listed
+  listed_by_key = record {
+    held = λ e has. at_key e.0 e.1 (key_listed e has);
+    all = λ key c is.
+        let row = found_by_key said rows key c (ap (λ (m : Chunks). finite.get m key) (sym exact) ∙ is) in
+        ((key, row.0), subst (λ (es : List (ℕ × Row)). Contains es (key, row.0)) (sym are) ((Contains-entries rows key row.0).1 row.1), row.2);
+    apart = subst (AreNamedApart (λ (e : ℕ × Row). (said e.1).object)) (sym are) (rows_apart (λ (row : Row). (said row).object) rows (λ i k x y at_i at_k same. named i k (said x) (said y) (at_key i x at_i) (at_key k y at_k) same));
+  }
 
 -- Live blocks, as a list has them: a block is live exactly where it is listed.
 

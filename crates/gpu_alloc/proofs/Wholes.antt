@@ -1,8 +1,7 @@
 -- What all parts hold, as one of them changes: the objects of one block, or a memory type's buddy allocator, free list or
 -- allocator of fit chunks.
-use Rattle.std.proofs.Common.{◌≡◌, ◌≢◌, ◌⊎◌, inl, inr, false, true, ℕ, zero, suc, ◌+◌, ◌<◌, List, [], ◌∷◌, ◌++◌, length, map, get_or, slice_get, Some, None, IsTrue, refl, sym, ◌∙◌, ap, subst, arith}
+use Rattle.std.proofs.Common.{◌≡◌, ◌⊎◌, inl, inr, false, true, ℕ, zero, suc, ◌+◌, ◌<◌, List, [], ◌∷◌, ◌++◌, length, map, get_or, slice_get, Some, None, IsTrue, refl, sym, ◌∙◌, ap, subst, arith}
 use Rattle.std.proofs.Math.ListN.{set}
-use Rattle.std.proofs.lemmas.List.{length-set}
 use Rattle.std.specs.Cmp.{nat_cmp_total}
 use Rattle.std.specs.FinMap as finite
 use Rattle.std.specs.FinMap.{nat_cmp-IsAntisymmetric}
@@ -16,14 +15,13 @@ use Rattle.gpu_alloc_base.specs.declared.free_list_block.Slot.{Slot}
 use Rattle.gpu_alloc_base.proofs.Leaves.{leaf_total, leaf_exact}
 use Rattle.gpu_alloc_base.proofs.ListViews.{named_absent}
 use Rattle.gpu_alloc_base.proofs.Slots.{slot_total, slot_exact}
-use Rattle.gpu_alloc_block.specs.Parts.{Held, Live, Part, Chunks, HasLive, IsAt, Makes, by_name, by_span}
+use Rattle.gpu_alloc_block.specs.Parts.{Held, Live, Part, Chunks, HasLive, IsAt, Makes, by_name}
 use Rattle.gpu_alloc_block.specs.State.{HeldObject, Span, is_shared, span_cmp}
 use Rattle.gpu_alloc_block.specs.declared.block.Kind.TheVariants.{BuddyChunk, FreeListChunk, FitChunk}
 use Rattle.gpu_alloc_block.proofs.LiveSpans.{not_live, span_exact, span_total}
 use Rattle.gpu_alloc_block.proofs.Parts.ByName.{span_row_there}
 use Rattle.gpu_alloc_block.proofs.Parts.Entries.{there_entry}
 use Rattle.gpu_alloc_block.proofs.Parts.Steps.{holds_of, own_part, part_span, object_comes, last_goes}
-use Rattle.gpu_alloc_block.proofs.Parts.Stores as store
 use Rattle.gpu_alloc_block.proofs.Parts.Unions.{none_at, none_of, live_at}
 use Rattle.gpu_alloc_buddy.specs.BuddySound.{IsSoundBuddy}
 use Rattle.gpu_alloc_buddy.specs.BuddyState.{Buddy, IsLiveBuddyLeaf, space_of}
@@ -184,56 +182,17 @@ module _ (own now : OwnTable) (buddies : List Buddy) (lists : List FreeListState
 
 -- A memory type's buddy allocator.
 
-module _ (own : OwnTable) (buddies : List Buddy) (lists : List FreeListState) (fits : List FitState) (apart : AreOneWhole own buddies lists fits) (index : ℕ) (b : Buddy) (at : IsAt buddies index b) (inside : index < length buddies) (sound : IsSoundBuddy b) (typed : b.memory_type ≡ index) where
-  abbrev types : ℕ
-  types = length buddies
+-- no two live blocks have one span
+pub one_buddy : (b : Buddy) → IsSoundBuddy b → (x y : Leaf) → IsLiveBuddyLeaf b x → IsLiveBuddyLeaf b y → ◌≡◌ {A = Span} (span_of_leaf x) (span_of_leaf y) → x ≡ y
+one_buddy b sound x y live also same = one_leaf (space_of b) sound.space x y live also (ap (λ (s : Span). s.object) same) (ap (λ (s : Span). s.offset) same)
 
-  abbrev object_in : ℕ → Chunk → HeldObject
-  object_in key c = chunk_object b c
-
+-- where its part stands, and another one in its place
+module _ (own : OwnTable) (buddies : List Buddy) (lists : List FreeListState) (fits : List FitState) (index : ℕ) (b : Buddy) (at : IsAt buddies index b) where
   pub at_buddy : IsAt (parts_of own buddies lists fits) (suc index) (buddy_part b)
   at_buddy = at_first buddy_part buddies (map list_part lists ++ map fit_part fits) index b at
 
-  one_span : (x y : Leaf) → IsLiveBuddyLeaf b x → IsLiveBuddyLeaf b y → ◌≡◌ {A = Span} (span_of_leaf x) (span_of_leaf y) → x ≡ y
-  one_span x y live also same = one_leaf (space_of b) sound.space x y live also (ap (λ (s : Span). s.object) same) (ap (λ (s : Span). s.offset) same)
-
-  module _ (new : Buddy) (same : new.memory_type ≡ b.memory_type) where
-    buddy_held_as : (chunks : Chunks) → new.chunks ≡ chunks → (buddy_part new).held ≡ by_name object_in chunks
-    buddy_held_as chunks is = λ k. by_name (λ _ c. record { memory_type = same k; counted = c.size; kind = BuddyChunk }) (is k)
-
-    makes : {held : Held} {live : Live} → Makes (IsPartFor types (length lists)) (set (parts_of own buddies lists fits) (suc index) (buddy_part new)) held live → Makes (IsPartFor (length (set buddies index new)) (length lists)) (parts_of own (set buddies index new) lists fits) held live
-    makes {held} {live} it =
-        subst (λ n. Makes (IsPartFor n (length lists)) (parts_of own (set buddies index new) lists fits) held live) (sym (length-set buddies index new))
-        (subst (λ rest. Makes (IsPartFor types (length lists)) (part_of_own own ∷ rest) held live) (set_first buddy_part buddies (map list_part lists ++ map fit_part fits) index b new at) it)
-
-    pub leaf_comes : (leaf : Leaf) (c : Chunk) → finite.get b.chunks leaf.chunk ≡ Some c → leaf.object ≡ c.object → new.chunks ≡ b.chunks → new.live ≡ set_of.insert b.live leaf
-        → Makes (IsPartFor (length (set buddies index new)) (length lists)) (parts_of own (set buddies index new) lists fits) (whole own buddies lists fits).held (set_of.insert (whole own buddies lists fits).live (span_of_leaf leaf))
-    leaf_comes leaf c is named chunks live =
-        makes (store.row_comes leaf_total leaf_exact span_of_leaf (IsPartFor types (length lists)) (parts_of own buddies lists fits) apart (suc index) object_in b.chunks b.live sound.space.one_object at_buddy (buddy_part new) leaf leaf.chunk c is named
-        (buddy_held_as b.chunks chunks) (ap (by_span span_of_leaf) live))
-
-    pub buddy_chunk_comes : (leaf : Leaf) (c : Chunk) → finite.get (whole own buddies lists fits).held leaf.object ≡ None → leaf.object ≡ c.object → finite.get b.chunks leaf.chunk ≡ None
-        → new.chunks ≡ finite.insert b.chunks leaf.chunk c → new.live ≡ set_of.insert b.live leaf
-        → Makes (IsPartFor (length (set buddies index new)) (length lists)) (parts_of own (set buddies index new) lists fits) (finite.insert (whole own buddies lists fits).held leaf.object (chunk_object b c)) (set_of.insert (whole own buddies lists fits).live (span_of_leaf leaf))
-    buddy_chunk_comes leaf c none named free chunks live =
-        makes (store.chunk_comes leaf_total leaf_exact span_of_leaf (IsPartFor types (length lists)) (parts_of own buddies lists fits) apart (suc index) object_in b.chunks b.live sound.space.one_object at_buddy (buddy_part new) leaf leaf.chunk c none named free
-        (inl (refl, typed, inside)) (buddy_held_as _ chunks) (ap (by_span span_of_leaf) live))
-
-    pub leaf_goes : (leaf : Leaf) → IsLiveBuddyLeaf b leaf → new.chunks ≡ b.chunks → new.live ≡ set_of.remove b.live leaf
-        → Makes (IsPartFor (length (set buddies index new)) (length lists)) (parts_of own (set buddies index new) lists fits) (whole own buddies lists fits).held (set_of.remove (whole own buddies lists fits).live (span_of_leaf leaf))
-    leaf_goes leaf was chunks live =
-        let lies = sound.space.inside leaf was in
-        makes (store.row_goes leaf_total leaf_exact span_of_leaf (IsPartFor types (length lists)) (parts_of own buddies lists fits) apart (suc index) object_in b.chunks b.live sound.space.one_object at_buddy (buddy_part new) one_span leaf was leaf.chunk lies.chunk lies.held lies.object
-        (ap (by_span span_of_leaf) live) (buddy_held_as b.chunks chunks))
-
-    pub last_leaf_goes : (leaf : Leaf) → IsLiveBuddyLeaf b leaf → ((other : Leaf) → IsLiveBuddyLeaf b other → other.chunk ≡ leaf.chunk → other ≡ leaf) → new.chunks ≡ finite.remove b.chunks leaf.chunk → new.live ≡ set_of.remove b.live leaf
-        → Makes (IsPartFor (length (set buddies index new)) (length lists)) (parts_of own (set buddies index new) lists fits) (finite.remove (whole own buddies lists fits).held leaf.object) (set_of.remove (whole own buddies lists fits).live (span_of_leaf leaf))
-    last_leaf_goes leaf was last chunks live =
-        let lies = sound.space.inside leaf was in
-        makes (store.last_row_goes leaf_total leaf_exact span_of_leaf (IsPartFor types (length lists)) (parts_of own buddies lists fits) apart (suc index) object_in b.chunks b.live sound.space.one_object at_buddy (buddy_part new) one_span leaf was leaf.chunk lies.chunk lies.held lies.object
-        (ap (by_span span_of_leaf) live)
-        (λ other stood named. let of = sound.space.inside other stood in last other stood (sound.space.one_object other.chunk leaf.chunk of.chunk lies.chunk of.held lies.held (sym of.object ∙ named)))
-        (buddy_held_as _ chunks))
+  pub set_buddy : (new : Buddy) → set (parts_of own buddies lists fits) (suc index) (buddy_part new) ≡ parts_of own (set buddies index new) lists fits
+  set_buddy new = ap (λ ps. part_of_own own ∷ ps) (set_first buddy_part buddies (map list_part lists ++ map fit_part fits) index b new at)
 
 -- A memory type's free list.
 
@@ -246,51 +205,14 @@ one_slot l sound a b live_a live_b same =
     let number = sound.one_object a.chunk b.chunk in_a.chunk in_b.chunk in_a.held in_b.held objects in
     λ k. record { object = (same k).object; chunk = number k; offset = (same k).offset; size = (same k).size }
 
-module _ (own : OwnTable) (buddies : List Buddy) (lists : List FreeListState) (fits : List FitState) (apart : AreOneWhole own buddies lists fits) (index : ℕ) (l : FreeListState) (at : IsAt lists index l) (sound : IsSoundFreeList l) (typed : l.memory_type ≡ index) where
-  abbrev types_before : ℕ
-  types_before = length buddies
-
-  pub at_list : IsAt (parts_of own buddies lists fits) (suc (types_before + index)) (list_part l)
+-- where its part stands, and another one in its place
+module _ (own : OwnTable) (buddies : List Buddy) (lists : List FreeListState) (fits : List FitState) (index : ℕ) (l : FreeListState) (at : IsAt lists index l) where
+  pub at_list : IsAt (parts_of own buddies lists fits) (suc (length buddies + index)) (list_part l)
   at_list = at_later buddy_part buddies (map list_part lists ++ map fit_part fits) index (list_part l) (at_first list_part lists (map fit_part fits) index l at)
 
-  module _ (new : FreeListState) (same : new.memory_type ≡ l.memory_type) where
-    list_held_as : (chunks : Chunks) → new.space.chunks ≡ chunks → (list_part new).held ≡ by_name (list_object l) chunks
-    list_held_as chunks is = λ k. by_name (λ number c. record { memory_type = same k; counted = c.size; kind = FreeListChunk number }) (is k)
-
-    makes_list : {held : Held} {live : Live} → Makes (IsPartFor types_before (length lists)) (set (parts_of own buddies lists fits) (suc (types_before + index)) (list_part new)) held live
-        → Makes (IsPartFor types_before (length (set lists index new))) (parts_of own buddies (set lists index new) fits) held live
-    makes_list {held} {live} it =
-        subst (λ n. Makes (IsPartFor types_before n) (parts_of own buddies (set lists index new) fits) held live) (sym (length-set lists index new))
-        (subst (λ rest. Makes (IsPartFor types_before (length lists)) (part_of_own own ∷ rest) held live)
-        (set_later buddy_part buddies (map list_part lists ++ map fit_part fits) index (list_part new) ∙ ap (λ ys. map buddy_part buddies ++ ys) (set_first list_part lists (map fit_part fits) index l new at)) it)
-
-    pub slot_comes : (slot : Slot) (c : Chunk) → finite.get l.space.chunks slot.chunk ≡ Some c → slot.object ≡ c.object → new.space.chunks ≡ l.space.chunks → new.space.live ≡ set_of.insert l.space.live slot
-        → Makes (IsPartFor types_before (length (set lists index new))) (parts_of own buddies (set lists index new) fits) (whole own buddies lists fits).held (set_of.insert (whole own buddies lists fits).live (span_of_slot slot))
-    slot_comes slot c is named chunks live =
-        makes_list (store.row_comes slot_total slot_exact span_of_slot (IsPartFor types_before (length lists)) (parts_of own buddies lists fits) apart (suc (types_before + index)) (list_object l) l.space.chunks l.space.live sound.one_object at_list (list_part new) slot slot.chunk c is named
-        (list_held_as l.space.chunks chunks) (ap (by_span span_of_slot) live))
-
-    pub list_chunk_comes : (slot : Slot) (number : ℕ) (c : Chunk) → finite.get (whole own buddies lists fits).held slot.object ≡ None → slot.object ≡ c.object → finite.get l.space.chunks number ≡ None
-        → new.space.chunks ≡ finite.insert l.space.chunks number c → new.space.live ≡ set_of.insert l.space.live slot
-        → Makes (IsPartFor types_before (length (set lists index new))) (parts_of own buddies (set lists index new) fits) (finite.insert (whole own buddies lists fits).held slot.object (list_object l number c)) (set_of.insert (whole own buddies lists fits).live (span_of_slot slot))
-    list_chunk_comes slot number c none named free chunks live =
-        makes_list (store.chunk_comes slot_total slot_exact span_of_slot (IsPartFor types_before (length lists)) (parts_of own buddies lists fits) apart (suc (types_before + index)) (list_object l) l.space.chunks l.space.live sound.one_object at_list (list_part new) slot number c none named free
-        (inr (inl (number, refl, ap (λ n. types_before + n) typed))) (list_held_as _ chunks) (ap (by_span span_of_slot) live))
-
-    pub slot_goes : (slot : Slot) → IsLiveSlot l.space slot → new.space.chunks ≡ l.space.chunks → new.space.live ≡ set_of.remove l.space.live slot
-        → Makes (IsPartFor types_before (length (set lists index new))) (parts_of own buddies (set lists index new) fits) (whole own buddies lists fits).held (set_of.remove (whole own buddies lists fits).live (span_of_slot slot))
-    slot_goes slot was chunks live =
-        let lies = sound.space.inside slot was in
-        makes_list (store.row_goes slot_total slot_exact span_of_slot (IsPartFor types_before (length lists)) (parts_of own buddies lists fits) apart (suc (types_before + index)) (list_object l) l.space.chunks l.space.live sound.one_object at_list (list_part new) (one_slot l sound) slot was slot.chunk lies.chunk lies.held lies.object
-        (ap (by_span span_of_slot) live) (list_held_as l.space.chunks chunks))
-
-    pub list_chunk_goes : (number : ℕ) (c : Chunk) → finite.get l.space.chunks number ≡ Some c → ((slot : Slot) → IsLiveSlot l.space slot → slot.chunk ≢ number)
-        → new.space.chunks ≡ finite.remove l.space.chunks number → new.space.live ≡ l.space.live
-        → Makes (IsPartFor types_before (length (set lists index new))) (parts_of own buddies (set lists index new) fits) (finite.remove (whole own buddies lists fits).held c.object) (whole own buddies lists fits).live
-    list_chunk_goes number c is unused chunks live =
-        makes_list (store.chunk_goes slot_total slot_exact span_of_slot (IsPartFor types_before (length lists)) (parts_of own buddies lists fits) apart (suc (types_before + index)) (list_object l) l.space.chunks l.space.live sound.one_object at_list (list_part new) number c is
-        (λ slot stood named. let lies = sound.space.inside slot stood in unused slot stood (sound.one_object slot.chunk number lies.chunk c lies.held is (sym lies.object ∙ named)))
-        (list_held_as _ chunks) (ap (by_span span_of_slot) live))
+  pub set_list : (new : FreeListState) → set (parts_of own buddies lists fits) (suc (length buddies + index)) (list_part new) ≡ parts_of own buddies (set lists index new) fits
+  set_list new = ap (λ ps. part_of_own own ∷ ps) (set_later buddy_part buddies (map list_part lists ++ map fit_part fits) index (list_part new)
+      ∙ ap (λ ys. map buddy_part buddies ++ ys) (set_first list_part lists (map fit_part fits) index l new at))
 
 -- A memory type's allocator of fit chunks.
 

@@ -1,21 +1,19 @@
 -- What a return and a cleanup leave of an allocator.
-use Rattle.std.proofs.Common.{◌≡◌, inl, inr, ℕ, List, Option, Some, None, true, false, sym, ◌∙◌, ap, subst, refl}
+use Rattle.std.proofs.Common.{◌≡◌, ℕ, Option, Some, None, true, sym, ◌∙◌, ap, subst, refl}
 use Rattle.std.specs.Prelude.{IfNone, IfSome}
 use Rattle.std.specs.FinMap as map
 use Rattle.std.specs.FinSet as set
-use Rattle.gpu_alloc_types.specs.Device.{Event, Object}
-use Rattle.gpu_alloc_base.specs.Accounts.{Account}
 use Rattle.gpu_alloc_base.specs.declared.free_list_block.Slot.{Slot}
 use Rattle.gpu_alloc_base.proofs.InHand.{no_chunks, none_in}
 use Rattle.gpu_alloc_base.proofs.Maps.{kept_key}
 use Rattle.gpu_alloc_base.proofs.Slots.{slot_removed}
-use Rattle.gpu_alloc_fit.specs.Fit.{Cleans, FitState, ObjectsCleaned}
+use Rattle.gpu_alloc_fit.specs.Fit.{FitState}
 use Rattle.gpu_alloc_fit.specs.FitRule.{fit_rule}
 use Rattle.gpu_alloc_fit.specs.FitSound.{IsSoundFit}
 use Rattle.gpu_alloc_fits.specs.Fits.{PutsBack}
 use Rattle.gpu_alloc_fits.specs.Space as spaces
 use Rattle.gpu_alloc_fits.specs.Space.{FitSpace, IsLiveSlot, IsSoundFitSpace, IsWhollyFree}
-use Rattle.gpu_alloc_shared.specs.Shared.{ReleasesNext, without_block, without_chunk}
+use Rattle.gpu_alloc_shared.specs.Shared.{without_block, without_chunk}
 
 -- What is sound stays so, with fewer blocks and fewer chunks.
 sound_less : (f : FitState) (s : FitSpace) → IsSoundFit f → ((k : ℕ) → (c : _) → map.get s.chunks k ≡ Some c → map.get f.space.chunks k ≡ Some c) → ((q : Slot) → IsLiveSlot s q → IsLiveSlot f.space q) → IsSoundFitSpace s
@@ -48,16 +46,6 @@ module _ {M : Type 0} (object : M → ℕ) (f : FitState) (new : FitSpace) (Is :
   sound_returned sound now slot (Some gone) back =
       sound_less f new sound (λ k c at. (kept_key f.space.chunks slot.chunk k c (ap (λ (s : FitSpace). map.get s.chunks k) (sym back.1.1) ∙ at)).1)
       (λ q live. ((slot_removed f.space.live slot q).0 (subst (λ (s : FitSpace). IsLiveSlot s q) back.1.1 live)).1) now
-
--- What a cleanup releases, and what the device then holds.
-module _ (a new : Account FitState) (es : List Event) (old_objects new_objects : ℕ → Option Object) where
-  pub cleans_so : ReleasesNext fit_rule a false es new old_objects new_objects → Cleans a es new
-  cleans_so (inl none) = inl (none.0, (none.1, none.2))
-  cleans_so (inr gone) = inr (gone.0, (gone.1, gone.2))
-
-  pub objects_so : ReleasesNext fit_rule a false es new old_objects new_objects → ObjectsCleaned a.allocator old_objects new_objects
-  objects_so (inl none) = inl (none.0, none.3)
-  objects_so (inr gone) = inr (gone.0, (gone.1, (gone.2.0, gone.2.1, gone.3)))
 
 -- What is left when the wholly free chunk is released.
 module _ {X : Type 0} (P : Type 0) (Q R : X → Type 0) (f : FitState) (gone : Option X) (new : FitSpace) (sound : IsSoundFit f) (now : IsSoundFitSpace new) where

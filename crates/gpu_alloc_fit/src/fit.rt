@@ -15,8 +15,8 @@ ghost use Rattle.gpu_alloc_base.specs.RangeOrder.{AreInOrder};
 ghost use Rattle.gpu_alloc_base.specs.Sizes.{up};
 ghost use Rattle.gpu_alloc_base.specs.Wanted.{requested, wanted};
 ghost use Rattle.gpu_alloc_base.specs.declared.free_list_block.Slot.{Slot as LiveSlot};
-ghost use Rattle.gpu_alloc_fit.specs.Fit.{Adds, Agrees, CallAllocates, CallCleans, Cleans, Frees, HoldsNothing};
-ghost use Rattle.gpu_alloc_fit.specs.Fit.{IsGranted, KeepsSettings, Leaves, LeavesNoRest, ObjectsAfter, ObjectsCleaned};
+ghost use Rattle.gpu_alloc_fit.specs.Fit.{Adds, Agrees, CallAllocates, Cleans, Frees, HoldsNothing};
+ghost use Rattle.gpu_alloc_fit.specs.Fit.{IsGranted, KeepsSettings, Leaves, LeavesNoRest, ObjectsAfter};
 ghost use Rattle.gpu_alloc_fit.specs.Fit.{ObjectsFreed, Removes, case_of, opened};
 ghost use Rattle.gpu_alloc_fit.specs.FitSound.{IsSoundFit};
 ghost use Rattle.gpu_alloc_fits.specs.Choice.{BeginsClass};
@@ -369,10 +369,9 @@ impl<M: MemoryObject, A: Allocator> FitAllocator<M, A> {
     /// chunks, and how many more objects may be held plus the number of held chunks must fit 32 bits. Both hold again
     /// after the call.
     ///
-    /// One chunk is both what the device was asked to release and what it no longer has (`gives`). Each block that a
-    /// caller has in hand is still live (`leaves`). Where no block is live, no chunk is held afterwards (`rest`), and
-    /// [`close`](FitAllocator::close) may be called without a test. The settings stay (`settings`), and the ledger does
-    /// not grow (`ledger`).
+    /// Each block that a caller has in hand is still live (`leaves`). Where no block is live, no chunk is held
+    /// afterwards (`rest`), and [`close`](FitAllocator::close) may be called without a test. The settings stay
+    /// (`settings`), and the ledger does not grow (`ledger`).
     pub fn cleanup<D: ObjectDevice<M>>(
         &mut self,
         device: &mut D,
@@ -384,11 +383,7 @@ impl<M: MemoryObject, A: Allocator> FitAllocator<M, A> {
 
         ensures cleans { Asked D.step device.old device.new
             (λ es. Cleans (account self.old heap.old allocations_remains.old) es
-            (account self.new heap.new allocations_remains.new)) }
-        ensures objects { ObjectsCleaned self.old (D.objects device.old) (D.objects device.new) }
-        ensures gives { CallCleans D.step D.objects device.old device.new
-            (account self.old heap.old allocations_remains.old)
-            (account self.new heap.new allocations_remains.new) }
+            (account self.new heap.new allocations_remains.new) (D.objects device.old) (D.objects device.new)) }
         ensures agrees { Agrees self.new (D.properties device.new) (D.objects device.new) }
         ensures properties { D.properties device.new ≡ D.properties device.old }
         ensures leaves { Leaves self.old self.new }

@@ -12,9 +12,8 @@ use Rattle.gpu_alloc.specs.FitSharing.{IsFitChunk, grain_of}
 use Rattle.gpu_alloc.specs.FreeBytes.{IsFreeByte}
 use Rattle.gpu_alloc.specs.FreeRanges.{IsFreeRangeOf}
 use Rattle.gpu_alloc.specs.Sound.{IsSound}
-use Rattle.gpu_alloc.proofs.Buddies.Serving.{first_byte}
 use Rattle.gpu_alloc.proofs.Fits.Small.{sized_is_small}
-use Rattle.gpu_alloc.proofs.Shared.Free.{AreFreeBeside, run_ends, run_starts}
+use Rattle.gpu_alloc.proofs.Shared.Free.{AreFreeBeside, first_byte, run_ends, run_starts}
 
 multiple_sum : (n x y : ℕ) → IsMultipleOf n x → IsMultipleOf n y → IsMultipleOf n (x + y)
 multiple_sum n x y (m, x_is) (k, y_is) = (m + k, omega (arith, x_is, y_is, add-mul m k n))

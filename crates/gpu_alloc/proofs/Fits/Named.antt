@@ -266,3 +266,7 @@ fit_at_once f slot s c is linked plain = record {
 pub span_there : (f : FitState) (block : Block) (slot : Slot) (object offset size : ℕ) → IsBlockOf fit_named f slot block → object ≡ block.object → offset ≡ block.offset → size ≡ block.size → IsLiveFitSpan f.space object offset size slot
 span_there f block slot object offset size is named from long =
     record { live = is.live; of_object = sym (named ∙ ap (λ (x : Span). x.object) is.span); starts = sym (from ∙ ap (λ (x : Span). x.offset) is.span); of_size = sym (long ∙ ap (λ (x : Span). x.size) is.span) }
+
+-- and the other way round
+pub slot_is : (f : FitState) (block : Block) (slot : Slot) → block.kind ≡ FitChunk → IsLiveFitSpan f.space block.object block.offset block.size slot → IsBlockOf fit_named f slot block
+slot_is f block slot kind is = record { live = is.live; span = λ k. record { object = sym is.of_object k; offset = sym is.starts k; size = sym is.of_size k }; kind = kind }

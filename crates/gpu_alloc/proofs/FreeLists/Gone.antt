@@ -1,42 +1,40 @@
--- Which chunks of a memory type's free list may go, as the free list and as the whole allocator's state say.
-use Rattle.std.proofs.Common.{◌≡◌, ◌≢◌, inl, inr, ℕ, zero, suc, ◌<◌, Bool, false, List, [], ◌∷◌, length, get_or, map, Some, IsSome, IsTrue, Contains, refl, sym, ◌∙◌, ap, subst, arith}
-use Rattle.std.proofs.lemmas.List.{get_or-map, length-map}
-use Rattle.std.proofs.lemmas.List.Elements.{Contains-append_cases, Contains-get_or}
+-- Chunks that go out of a memory type's free list: which may go, as the free list and as the whole allocator's state say, and
+-- what is left of the fields when they went.
+use Rattle.std.proofs.Common.{◌≡◌, ℕ, ◌+◌, ◌<◌, Bool, true, List, [], ◌∷◌, length, get_or, map, Option, Some, None, IsSome, Contains, refl, sym, ◌∙◌, ap, subst, arith, set-set}
+use Rattle.std.proofs.Math.ListN.{set}
+use Rattle.std.proofs.lemmas.List.{get_or-map, get_or-set_same, length-map}
+use Rattle.std.proofs.lemmas.List.Elements.{Contains-get_or}
+use Rattle.std.proofs.lemmas.Simd.{map-map}
 use Rattle.std.specs.FinMap as finite
-use Rattle.std.specs.FinSet as set
+use Rattle.gpu_alloc_types.specs.Device.{Event, Object, put as put_object}
+use Rattle.gpu_alloc_types.specs.Device.Event.{Deallocated}
+use Rattle.gpu_alloc_types.specs.Properties.{Properties}
+use Rattle.gpu_alloc_base.specs.Accounts.{Account, account}
 use Rattle.gpu_alloc_base.specs.Chunks.{Chunk, object_in}
-use Rattle.gpu_alloc_freelist.specs.FreeList as list
-use Rattle.gpu_alloc_freelist.specs.FreeListAllocator.{AreReleased, object_of}
-use Rattle.gpu_alloc_freelist.specs.FreeListState.{FreeListState}
-use Rattle.gpu_alloc.specs.Inside.{list_object, span_of_slot}
-use Rattle.gpu_alloc.specs.FitSharing.{IsFitChunk}
-use Rattle.gpu_alloc.specs.FreeListSharing.{IsListChunk, IsFreeInChunk}
-use Rattle.gpu_alloc.specs.Release.{IsUnused, IsUnusedFit, HasLastListRun, ListChunkMayGo, AreChunksReleased, AreFitChunksReleased, AreReleasedOfType, AreAllReleased, without_all}
-use Rattle.gpu_alloc.proofs.Links.{IsNumberedChunk, slot_at}
-use Rattle.gpu_alloc_block.specs.State.{HeldObject, Span, span_cmp, State, IsLive}
-use Rattle.gpu_alloc_block.specs.declared.block.Kind.{Kind}
-use Rattle.gpu_alloc_block.specs.declared.block.Kind.TheVariants.{Dedicated, Imported, BuddyChunk, FreeListChunk, FitChunk}
-use Rattle.gpu_alloc.proofs.Ledgers.{Held}
-use Rattle.gpu_alloc_base.proofs.Lists.{contains_head, contains_later, contains_cases, contains_none}
-use Rattle.gpu_alloc.proofs.FreeLists.Serving.{ServesList, numbered_held, list_chunk_is, list_chunk_was, same_bytes}
-use Rattle.gpu_alloc_base.proofs.Maps.{one_value, kept_other, kept_key, found_value}
-use Rattle.gpu_alloc_base.proofs.SameRuns.{AreSameBytes, same_back, last_run_same}
-use Rattle.gpu_alloc.proofs.Buddies.Serving.{table_of}
+use Rattle.gpu_alloc_base.specs.declared.free_list_block.Slot.{Slot}
+use Rattle.gpu_alloc_base.specs.declared.heap.Heap.{Heap}
+use Rattle.gpu_alloc_base.proofs.Maps.{found_value}
+use Rattle.gpu_alloc_base.proofs.SameRuns.{last_run_same, same_back}
+use Rattle.gpu_alloc_block.specs.Agreement.{Agrees}
+use Rattle.gpu_alloc_block.specs.State.{Block, State, granted_block}
+use Rattle.gpu_alloc_block.specs.declared.block.Kind.TheVariants.{FreeListChunk}
+use Rattle.gpu_alloc_freelist.specs.FreeList.{IsWhollyFree, MayGo}
+use Rattle.gpu_alloc_freelist.specs.FreeListAllocator.{AreReleased, LetsWholeChunksGo, account_without, object_of, without_objects_of}
+use Rattle.gpu_alloc_freelist.specs.FreeListSound.{IsSoundFreeList}
+use Rattle.gpu_alloc_freelist.specs.FreeListState.{FreeListState, ListSpace}
+use Rattle.gpu_alloc_freelist.proofs.ForCallers.{account_without_chunk, all_go, sound_without_chunk, sound_without_slot}
+use Rattle.gpu_alloc.specs.FreeListSharing.{IsListChunk}
+use Rattle.gpu_alloc.specs.Own.{OwnTable}
+use Rattle.gpu_alloc.specs.Release.{AreChunksReleased, ListChunkMayGo, ReleasedWith, without_objects, without_span}
+use Rattle.gpu_alloc.specs.declared.limits.Limits.{Limits}
+use Rattle.gpu_alloc.proofs.Agreeing.{agrees_returned, agrees_without_span}
+use Rattle.gpu_alloc.proofs.FreeLists.Named.{chunk_is, chunk_was, list_bytes, list_is_named, list_named}
+use Rattle.gpu_alloc.proofs.GoneObjects.{without_these}
+use Rattle.gpu_alloc.proofs.HeapLists.{properties_kept}
+use Rattle.gpu_alloc.proofs.Shared.Calls.{Handed, IsBlockOf, IsLeft, IsReturned, Stood, are_all, are_set, as_returned, before, handed_then, heap_inside, its, keep, left_then, own_chunk, released, same_set, serves, state_of, stood, went}
+use Rattle.gpu_alloc.proofs.Shared.Stores.{AreFor, IsPlain, Serves, Stores, linked, plain_of, put, unused_is, unused_was}
 
--- the chunk of this number is held, and no block in it is live
-abbrev IsUnusedChunk : State → ℕ → ℕ → Type 0
-IsUnusedChunk s t number = (object : ℕ) × (IsListChunk s t number object × IsUnused s object)
-
-abbrev number_in : Kind → ℕ
-number_in Dedicated = 0
-number_in Imported = 0
-number_in BuddyChunk = 0
-number_in (FreeListChunk number) = number
-number_in FitChunk = 0
-
--- a held chunk has one number
-pub one_number : (s : State) (t m n object : ℕ) → IsListChunk s t m object → IsListChunk s t n object → m ≡ n
-one_number s t m n object x y = sym (ap number_in x.of_kind) ∙ ap (λ (h : HeldObject). number_in h.kind) (one_value _ x.chunk y.chunk x.held y.held) ∙ ap number_in y.of_kind
+-- Which may go.
 
 -- what a list has, and what its image has
 contains_map : (f : ℕ → ℕ) (xs : List ℕ) (x : ℕ) → Contains xs x → Contains (map f xs) (f x)
@@ -47,229 +45,134 @@ map_contains f xs y has =
     let within : has.0 < length xs = omega (arith, has.1, length-map xs f) in
     (get_or xs has.0 0, (Contains-get_or xs has.0 0 within, sym (get_or-map f xs has.0 0 y within) ∙ has.2))
 
-module _ (s : State) (index : ℕ) (l : FreeListState) (serves : ServesList s index l) where
-  -- Chunks that are wholly free.
+module _ (s : State) (i : ℕ) (l : FreeListState) (serves : Serves list_named s i l) where
+  plain : IsPlain list_named l
+  plain = plain_of list_is_named l serves.sound
 
-  pub unused_is : (number : ℕ) → list.IsWhollyFree l.space number → IsUnusedChunk s index number
-  unused_is number free =
-      let there = found_value _ free.held in
-      let own = numbered_held s index l serves number there.0 there.1 in (
-        there.0.object,
-        (
-          list_chunk_is s index l serves number there.0 there.1,
-          λ span live named.
-              let held = subst (λ o. IsNumberedChunk (table_of s) l.memory_type number o (list_object l number there.0)) (sym named) own in
-              free.unused (slot_at span number) (serves.of.linked.spans span number (list_object l number there.0) live held) refl,
-        ),
-      )
+  module _ (keep_last : Bool) where
+    goes_is : (number : ℕ) → MayGo l.space keep_last number → ListChunkMayGo s i keep_last number (object_of l.space number)
+    goes_is number (free, beside) =
+        let c = found_value _ free.held in
+        subst (ListChunkMayGo s i keep_last number) (sym (ap object_in c.1)) (record {
+          chunk = chunk_is s i l serves number c.0 c.1;
+          unused = unused_is s l serves.linked plain number c.0 c.1 free.unused;
+          not_last = λ kept (r, (last, in_chunk)). beside kept (r, (last_run_same (same_back (list_bytes s i l serves)) r last, in_chunk));
+        })
 
-  pub unused_was : (number : ℕ) → IsUnusedChunk s index number → list.IsWhollyFree l.space number
-  unused_was number (object, (chunk, unused)) =
-      let there = list_chunk_was s index l serves number object chunk in
-      record {
-        held = subst IsSome (sym there) refl;
-        unused = λ slot live in_chunk.
-            let lies = serves.of.sound.space.inside slot live in
-            let one = one_value _ lies.chunk _ lies.held (ap (finite.get l.space.chunks) in_chunk ∙ there) in
-            unused (span_of_slot slot) (serves.of.linked.slots slot live) (lies.object ∙ ap (λ (c : Chunk). c.object) one);
+    goes_was : (number object : ℕ) → ListChunkMayGo s i keep_last number object → MayGo l.space keep_last number
+    goes_was number object may =
+        let is = chunk_was s i l serves number object may.chunk in (
+          record { held = subst IsSome (sym is) refl; unused = unused_was s l serves.linked plain number _ is may.unused },
+          λ kept (r, (last, in_chunk)). may.not_last kept (r, (last_run_same (list_bytes s i l serves) r last, in_chunk)),
+        )
+
+    module _ (numbers : List ℕ) (gone : AreReleased l.space keep_last numbers) where
+      abbrev gone_objects : List ℕ
+      gone_objects = map (object_of l.space) numbers
+
+      -- where a number stands, its chunk's object does
+      number_at : (k d number : ℕ) → k < length gone_objects → IsListChunk s i number (get_or gone_objects k d) → (k < length numbers) × (number ≡ get_or numbers k 0)
+      number_at k d number within is =
+          let inside : k < length numbers = omega (arith, within, length-map numbers (object_of l.space)) in
+          let at : ℕ = get_or numbers k 0 in
+          let may = goes_is at ((gone.all at).0 (Contains-get_or numbers k 0 inside)) in
+          (inside, serves.sound.one_object number at _ _ (chunk_was s i l serves number _ is) (chunk_was s i l serves at _ may.chunk) (get_or-map (object_of l.space) numbers k 0 d inside))
+
+      -- both release the same
+      gone_is : AreChunksReleased s i keep_last gone_objects
+      gone_is = record {
+        rising = λ k j d m n less within first second.
+            let at_k = number_at k d m (omega (arith, less, within)) first in
+            let at_j = number_at j d n within second in
+            omega (arith, gone.rising k j 0 less at_j.0, at_k.1, at_j.1);
+        all = λ object. (
+          (λ has.
+              let from = map_contains (object_of l.space) numbers object has in
+              (from.0, subst (ListChunkMayGo s i keep_last from.0) from.1.1 (goes_is from.0 ((gone.all from.0).0 from.1.0)))),
+          (λ (number, may).
+              let has = (gone.all number).1 (goes_was number object may) in
+              subst (Contains gone_objects) (ap object_in (chunk_was s i l serves number object may.chunk)) (contains_map (object_of l.space) numbers number has)),
+        );
       }
 
-  -- the last run
+-- All that may go go.
 
-  pub last_is : (number : ℕ) → list.HasLastRun l.space number → HasLastListRun s index number
-  last_is number (r, (last, in_chunk)) = (r, (last_run_same (same_bytes s index l serves) r last, in_chunk))
+-- the device's objects, by numbers
+objects_named : (s : ListSpace) (objects : ℕ → Option Object) (gone : List ℕ) → without_objects_of s objects gone ≡ without_objects objects (map (object_of s) gone)
+objects_named s objects [] = refl
+objects_named s objects (n ∷ gone) = objects_named s (put_object objects (object_of s n) None) gone
 
-  pub last_was : (number : ℕ) → HasLastListRun s index number → list.HasLastRun l.space number
-  last_was number (r, (last, in_chunk)) = (r, (last_run_same (same_back (same_bytes s index l serves)) r last, in_chunk))
+module _ {X : Type 0} {l : Limits X} {heaps : List Heap} {ss : Stores} {own : OwnTable} {remaining i j : ℕ} {x : FreeListState} {heap : Heap} (h : Handed list_named l heaps ss own remaining i j x heap) where
+  -- the fields with this free list, heap and count, in these lists, stand for this state
+  abbrev StoodIn : List Heap → Stores → Account FreeListState → State → Type 0
+  StoodIn hs ts a s = Stood list_named l hs ts own a.remaining i a.allocator × (state_of l hs ts own a.remaining ≡ s)
 
-  -- Chunks that may go.
+  abbrev StoodFor : Account FreeListState → State → Type 0
+  StoodFor a s = StoodIn (set heaps j a.heap) (put list_named ss i a.allocator) a s
 
-  pub goes_is : (keep_last : Bool) (number : ℕ) → list.MayGo l.space keep_last number → (object : ℕ) × ListChunkMayGo s index keep_last number object
-  goes_is keep_last number (free, beside) =
-      let chunk = unused_is number free in
-      (chunk.0, record { chunk = chunk.1.0; unused = chunk.1.1; not_last = λ kept last. beside kept (last_was number last) })
+  abbrev ReleasesChunk : Account FreeListState → List ℕ → Account FreeListState → Type 0
+  ReleasesChunk a names new = (s : State) (p : Properties) (objects : ℕ → Option Object) → StoodFor a s → Agrees s p objects → StoodFor new (without_these s names) × Agrees (without_these s names) p (without_objects objects names)
 
-  pub goes_was : (keep_last : Bool) (number object : ℕ) → ListChunkMayGo s index keep_last number object → list.MayGo l.space keep_last number
-  goes_was keep_last number object may = (unused_was number (object, (may.chunk, may.unused)), λ kept last. may.not_last kept (last_is number last))
+  none_goes : (a : Account FreeListState) → ReleasesChunk a [] a
+  none_goes a s p objects fields agrees = subst (λ n. StoodFor a (record s { remaining = n }) × Agrees (record s { remaining = n }) p objects) same (fields, agrees)
+    where
+      same : s.remaining ≡ s.remaining + 0
+      same = omega arith
 
-  -- the object that a number names
-  object_is : (number object : ℕ) → IsListChunk s index number object → object_of l.space number ≡ object
-  object_is number object is = ap object_in (list_chunk_was s index l serves number object is)
+  one_goes : (a new : Account FreeListState) (n : ℕ) (chunk : Chunk) (names : List ℕ) → IsSoundFreeList a.allocator → finite.get a.allocator.space.chunks n ≡ Some chunk → IsWhollyFree a.allocator.space n → ReleasesChunk (account_without_chunk a n chunk) names new → ReleasesChunk a (chunk.object ∷ names) new
+  one_goes a new n chunk names sound found free rest s p objects fields agrees =
+      let then = account_without_chunk a n chunk in
+      let at_heap = sym (get_or-set_same heaps j a.heap a.heap (heap_inside list_is_named h)) in
+      let goes = released list_is_named fields.0 j a.heap h.here at_heap n chunk found free.unused (plain_of list_is_named then.allocator (sound_without_chunk a.allocator n sound free)) in
+      let now : State = record s { held = finite.remove s.held chunk.object; remaining = s.remaining + 1 } in
+      let fields_now : StoodFor then now =
+      subst (λ hs. StoodIn hs (put list_named ss i then.allocator) then now) (set-set heaps j a.heap then.heap)
+      (subst (λ ls. StoodIn (set (set heaps j a.heap) j then.heap) (record ss { lists = ls }) then now) (set-set ss.lists i a.allocator then.allocator)
+      (goes.0, goes.1 ∙ ap (λ (z : State). record z { held = finite.remove z.held chunk.object; remaining = z.remaining + 1 }) fields.1))
+      in
+      let as_block = granted_block s 0 (FreeListChunk n) (record { object = chunk.object; offset = 0; size = 0 }) in
+      subst (λ m. StoodFor new (record (without_these s (chunk.object ∷ names)) { remaining = m }) × Agrees (record (without_these s (chunk.object ∷ names)) { remaining = m }) p (without_objects objects (chunk.object ∷ names))) count
+      (rest now p (put_object objects chunk.object None) fields_now (agrees_returned s now p p objects _ as_block agrees refl refl refl refl (λ span live. live)))
+    where
+      count : s.remaining + 1 + length names ≡ s.remaining + length (chunk.object ∷ names)
+      count = omega arith
 
-  module _ (keep_last : Bool) (numbers : List ℕ) (gone : AreReleased l.space keep_last numbers) where
-    abbrev objects : List ℕ
-    objects = map (object_of l.space) numbers
+  pub names_gone : (keep_last : Bool) (gone : List ℕ) → AreReleased x.space keep_last gone → AreChunksReleased (before h) i keep_last (map (object_of x.space) gone)
+  names_gone keep_last gone all = gone_is (before h) i x (serves list_is_named h.has) keep_last gone all
 
-    -- where a number stands, its chunk's object does
-    number_at : (i d number : ℕ) → i < length objects → IsListChunk s index number (get_or objects i d) → (i < length numbers) × (number ≡ get_or numbers i 0)
-    number_at i d number within is =
-        let inside : i < length numbers = omega (arith, within, length-map numbers (object_of l.space)) in
-        let at : ℕ = get_or numbers i 0 in
-        let goes = goes_is keep_last at ((gone.all at).0 (Contains-get_or numbers i 0 inside)) in
-        let here : get_or objects i d ≡ goes.0 = get_or-map (object_of l.space) numbers i 0 d inside ∙ object_is at goes.0 goes.1.chunk in
-        (inside, one_number s index number at goes.0 (subst (IsListChunk s index number) here is) goes.1.chunk)
+  pub chunks_go : {keep_last : Bool} {after : Account FreeListState} {gone : List ℕ} {es : List Event} {p q : Properties} {old new : ℕ → Option Object} → IsSoundFreeList after.allocator → Agrees (before h) p old → q ≡ p
+      → LetsWholeChunksGo keep_last (account x heap remaining) gone es after old new → IsLeft h (before h) (map (object_of x.space) gone) after es q old new
+  chunks_go {keep_last} {after} {gone} {es} {p} {q} {old} {new} sound agrees properties gives =
+      let first : StoodFor (account x heap remaining) (before h) =
+      subst (λ hs. StoodIn hs (put list_named ss i x) (account x heap remaining) (before h)) (sym (same_set heaps j heap h.at_heap))
+      (subst (λ ls. StoodIn heaps (record ss { lists = ls }) (account x heap remaining) (before h)) (sym (same_set ss.lists i x h.has.at)) (stood list_is_named h.has, refl))
+      in
+      let left = all_go ReleasesChunk none_goes one_goes (account x heap remaining) after keep_last gone es (its list_is_named h.has).1 gives.0 gives.1.0 (before h) p old first agrees in
+      let names = map (object_of x.space) gone in
+      let objects = gives.1.1 ∙ objects_named x.space old gone in
+      let offers = properties_kept l heaps j after.heap heap h.at_heap (ap (λ (a : Account FreeListState). a.heap.size) gives.1.0.1) in
+      let are = are_set list_is_named l.config _ ss i after.allocator (subst (λ a. AreFor l.config a ss) (sym offers) (are_all list_is_named h.has)) left.0.0.of sound in
+      record {
+        kept = keep l left.0.0 are;
+        lets = (gives.1.0.0 ∙ sym (map-map Deallocated (object_of x.space) gone), left.0.1);
+        objects = objects;
+        agreed = subst (λ z. Agrees z q new) (sym left.0.1) (subst (λ z. Agrees (without_these (before h) names) z new) (sym properties) (subst (Agrees (without_these (before h) names) p) (sym objects) left.1));
+      }
 
-    -- both release the same
-    pub gone_is : AreChunksReleased s index keep_last objects
-    gone_is = record {
-      rising = λ i j d m n before within first second.
-          let at_i = number_at i d m (omega (arith, before, within)) first in
-          let at_j = number_at j d n within second in
-          omega (arith, gone.rising i j 0 before at_j.0, at_i.1, at_j.1);
-      all = λ object. (
-        (λ has.
-            let from = map_contains (object_of l.space) numbers object has in
-            let goes = goes_is keep_last from.0 ((gone.all from.0).0 from.1.0) in
-            let same : goes.0 ≡ object = sym (object_is from.0 goes.0 goes.1.chunk) ∙ from.1.1 in
-            (from.0, subst (ListChunkMayGo s index keep_last from.0) same goes.1)),
-        (λ (number, may).
-            let has = (gone.all number).1 (goes_was keep_last number object may) in
-            subst (Contains objects) (object_is number object may.chunk) (contains_map (object_of l.space) numbers number has)),
-      );
-    }
-
--- Two states that hold the same of one memory type.
-
--- the same objects of this memory type are held, and the same spans are live
-pub record AgreeOnType (s s' : State) (t : ℕ) : Type 0 where
-  pub to : (object : ℕ) (h : HeldObject) → h.memory_type ≡ t → finite.get s.held object ≡ Some h → finite.get s'.held object ≡ Some h
-  pub from : (object : ℕ) (h : HeldObject) → h.memory_type ≡ t → finite.get s'.held object ≡ Some h → finite.get s.held object ≡ Some h
-  pub live : s'.live ≡ s.live
-
-pub agree_back : (s s' : State) (t : ℕ) → AgreeOnType s s' t → AgreeOnType s' s t
-agree_back s s' t agree = record { to = agree.from; from = agree.to; live = sym agree.live }
-
-module _ (s s' : State) (t : ℕ) (agree : AgreeOnType s s' t) where
-  pub chunk_agrees : (number object : ℕ) → IsListChunk s t number object → IsListChunk s' t number object
-  chunk_agrees number object is = record { chunk = is.chunk; held = agree.to object is.chunk is.of_type is.held; of_type = is.of_type; of_kind = is.of_kind }
-
-  was_live : (span : Span) → IsLive s' span → IsLive s span
-  was_live span = subst (λ (live : set.FinSet span_cmp). IsTrue (set.contains live span)) agree.live
-
-  pub free_agrees : (number at : ℕ) → IsFreeInChunk s t number at → IsFreeInChunk s' t number at
-  free_agrees number at (object, free) = (
-    object,
-    record {
-      chunk = free.chunk;
-      held = agree.to object free.chunk free.of_type free.held;
-      of_type = free.of_type;
-      of_kind = free.of_kind;
-      inside = free.inside;
-      unused = λ span live. free.unused span (was_live span live);
-    },
-  )
-
--- both describe the same free bytes
-pub bytes_agree : (s s' : State) (t : ℕ) → AgreeOnType s s' t → AreSameBytes (IsFreeInChunk s t) (IsFreeInChunk s' t)
-bytes_agree s s' t agree = record { to = free_agrees s s' t agree; from = free_agrees s' s t (agree_back s s' t agree) }
-
-goes_agrees : (s s' : State) (t : ℕ) → AgreeOnType s s' t → (keep_last : Bool) (number object : ℕ) → ListChunkMayGo s t keep_last number object → ListChunkMayGo s' t keep_last number object
-goes_agrees s s' t agree keep_last number object may = record {
-  chunk = chunk_agrees s s' t agree number object may.chunk;
-  unused = λ span live. may.unused span (was_live s s' t agree span live);
-  not_last = λ kept last. may.not_last kept (last.0, (last_run_same (bytes_agree s' s t (agree_back s s' t agree)) last.0 last.1.0, last.1.1));
-}
-
--- what is released of one is released of the other
-pub gone_agrees : (s s' : State) (t : ℕ) → AgreeOnType s s' t → (keep_last : Bool) (gone : List ℕ) → AreChunksReleased s t keep_last gone → AreChunksReleased s' t keep_last gone
-gone_agrees s s' t agree keep_last gone chunks =
-    let back = agree_back s s' t agree in
-    record {
-      rising = λ i j d m n before within first second. chunks.rising i j d m n before within (chunk_agrees s' s t back m (get_or gone i d) first) (chunk_agrees s' s t back n (get_or gone j d) second);
-      all = λ object. (
-        (λ has. let may = (chunks.all object).0 has in (may.0, goes_agrees s s' t agree keep_last may.0 object may.1)),
-        (λ (number, may). (chunks.all object).1 (number, goes_agrees s' s t back keep_last number object may)),
-      );
-    }
-
--- The same of its fit chunks.
-
--- the same fit chunks of this memory type are held, and the same spans are live
-pub record AgreeOnFits (s s' : State) (t : ℕ) : Type 0 where
-  pub to : (object : ℕ) → IsFitChunk s t object → IsFitChunk s' t object
-  pub from : (object : ℕ) → IsFitChunk s' t object → IsFitChunk s t object
-  pub live : s'.live ≡ s.live
-
-pub fits_back : (s s' : State) (t : ℕ) → AgreeOnFits s s' t → AgreeOnFits s' s t
-fits_back s s' t agree = record { to = agree.from; from = agree.to; live = sym agree.live }
-
-fit_chunk_agrees : (s s' : State) (t : ℕ) → AgreeOnType s s' t → (object : ℕ) → IsFitChunk s t object → IsFitChunk s' t object
-fit_chunk_agrees s s' t agree object is = record { chunk = is.chunk; held = agree.to object is.chunk is.of_type is.held; of_type = is.of_type; of_kind = is.of_kind }
-
-pub agree_on_fits : (s s' : State) (t : ℕ) → AgreeOnType s s' t → AgreeOnFits s s' t
-agree_on_fits s s' t agree = record { to = fit_chunk_agrees s s' t agree; from = fit_chunk_agrees s' s t (agree_back s s' t agree); live = agree.live }
-
-unused_fit_agrees : (s s' : State) (t : ℕ) → AgreeOnFits s s' t → (object : ℕ) → IsUnusedFit s t object → IsUnusedFit s' t object
-unused_fit_agrees s s' t agree object is = record {
-  chunk = agree.to object is.chunk;
-  unused = λ span live. is.unused span (subst (λ (spans : set.FinSet span_cmp). IsTrue (set.contains spans span)) agree.live live);
-}
-
--- what is released of them in one is released in the other
-pub fits_agree : (s s' : State) (t : ℕ) → AgreeOnFits s s' t → (gone : List ℕ) → AreFitChunksReleased s t gone → AreFitChunksReleased s' t gone
-fits_agree s s' t agree gone fits = record {
-  few = fits.few;
-  all = λ object. (
-    (λ has. unused_fit_agrees s s' t agree object ((fits.all object).0 has)),
-    (λ unused. (fits.all object).1 (unused_fit_agrees s' s t (fits_back s s' t agree) object unused)),
-  );
-}
-
--- what a cleanup takes of the memory type in one it takes in the other
-pub type_agrees : (s s' : State) (t : ℕ) → AgreeOnType s s' t → (gone : List ℕ) → AreReleasedOfType s t gone → AreReleasedOfType s' t gone
-type_agrees s s' t agree gone of_type = record {
-  listed = of_type.listed;
-  fitted = of_type.fitted;
-  both = of_type.both;
-  of_list = gone_agrees s s' t agree false of_type.listed of_type.of_list;
-  of_fits = fits_agree s s' t (agree_on_fits s s' t agree) of_type.fitted of_type.of_fits;
-}
-
--- Some objects of another memory type fewer.
-
--- what is held once some objects are gone was held, and has another name
-pub kept_was : (held : Held) (gone : List ℕ) (object : ℕ) (h : HeldObject) → finite.get (without_all held gone) object ≡ Some h → (Contains gone object → ⊥) × (finite.get held object ≡ Some h)
-kept_was held [] object h is = ((λ has. contains_none object has), is)
-kept_was held (name ∷ gone) object h is =
-    let later = kept_was (finite.remove held name) gone object h is in
-    let first = kept_key held name object h later.1 in
-    ((λ has. elim (contains_cases name object gone has) [ inl same ↦ first.0 same | inr rest ↦ later.0 rest ]), first.1)
-
--- another name is held as before
-pub kept_is : (held : Held) (gone : List ℕ) (object : ℕ) → (Contains gone object → ⊥) → finite.get (without_all held gone) object ≡ finite.get held object
-kept_is held [] object other = refl
-kept_is held (name ∷ gone) object other =
-    kept_is (finite.remove held name) gone object (λ has. other (contains_later name object gone has))
-    ∙ kept_other held name object (λ same. other (subst (Contains (name ∷ gone)) (sym same) (contains_head name gone)))
-
-pub agree_without : (s s' : State) (t : ℕ) (gone : List ℕ) → s'.held ≡ without_all s.held gone → s'.live ≡ s.live
-    → ((object : ℕ) (h : HeldObject) → Contains gone object → finite.get s.held object ≡ Some h → h.memory_type ≢ t) → AgreeOnType s s' t
-agree_without s s' t gone held live other = record {
-  to = λ object h of_type is. ap (λ (m : Held). finite.get m object) held ∙ kept_is s.held gone object (λ has. other object h has is of_type) ∙ is;
-  from = λ object h of_type is. (kept_was s.held gone object h (ap (λ (m : Held). finite.get m object) (sym held) ∙ is)).1;
-  live = live;
-}
-
--- What went of each memory type before one.
-
--- what is released of a memory type is held of it
-pub gone_held : (s : State) (t : ℕ) (gone : List ℕ) → AreReleasedOfType s t gone → (object : ℕ) → Contains gone object → (h : HeldObject) × (finite.get s.held object ≡ Some h) × (h.memory_type ≡ t)
-gone_held s t gone of_type object has = elim (Contains-append_cases of_type.listed of_type.fitted object (subst (λ names. Contains names object) of_type.both has)) [
-  | inl listed ↦ let is = ((of_type.of_list.all object).0 listed).1.chunk in (is.chunk, is.held, is.of_type)
-  | inr fitted ↦ let is = ((of_type.of_fits.all object).0 fitted).chunk in (is.chunk, is.held, is.of_type)
-]
-
--- each is of an earlier memory type
-pub earlier_type : (s : State) (t : ℕ) (gone : List ℕ) → AreAllReleased s t gone → (object : ℕ) (h : HeldObject) → Contains gone object → finite.get s.held object ≡ Some h → h.memory_type < t
-earlier_type s zero gone none object h has is = absurd (contains_none object (subst (λ names. Contains names object) none has))
-earlier_type s (suc t) gone (earlier, own, both, all, chunks) object h has is =
-    elim (Contains-append_cases earlier own object (subst (λ names. Contains names object) both has)) [
-      | inl before ↦ omega (arith, earlier_type s t earlier all object h before is)
-      | inr now ↦
-          let own_held = gone_held s t own chunks object now in
-          omega (arith, ap (λ (x : HeldObject). x.memory_type) (one_value _ h own_held.0 is own_held.1), own_held.2)
-    ]
-
--- so the rest of the memory types are as they were
-pub agree_after : (s s' : State) (t : ℕ) (gone : List ℕ) → AreAllReleased s t gone → s'.held ≡ without_all s.held gone → s'.live ≡ s.live → AgreeOnType s s' t
-agree_after s s' t gone all held live = agree_without s s' t gone held live (λ object h has is same. omega (arith, earlier_type s t gone all object h has is, same))
+-- A block comes back, and then all chunks go that may.
+module _ {X : Type 0} {l : Limits X} {heaps : List Heap} {ss : Stores} {own : OwnTable} {remaining i j : ℕ} {x : FreeListState} {heap : Heap} (h : Handed list_named l heaps ss own remaining i j x heap) where
+  pub came_back : {b : Slot} {block : Block} (its_block : IsBlockOf list_named x b block) {after : Account FreeListState} {gone : List ℕ} {es : List Event} {p q : Properties} {old new : ℕ → Option Object} → IsSoundFreeList after.allocator → Agrees (before h) p old → q ≡ p
+      → LetsWholeChunksGo true (account_without (account x heap remaining) b) gone es after old new → IsReturned h block after es q old new
+  came_back {b} {block} its_block {gone = gone} {p = p} {old = old} sound agrees properties gives =
+      let rest = without_span (before h) block in
+      let then = handed_then list_is_named h its_block (sound_without_slot x b (its list_is_named h.has).1) in
+      let state = (went list_is_named h its_block).1 in
+      let agrees_then = subst (λ z. Agrees z p old) (sym state) (agrees_without_span (before h) p p old block agrees refl) in
+      let chunk = own_chunk list_is_named h its_block in
+      let st = stood list_is_named h.has in
+      let names = map (object_of x.space) gone in
+      let all = subst (λ z. AreChunksReleased z i true names) state (names_gone then true gone gives.0) in
+      let with_it : ReleasedWith (FreeListChunk b.chunk) rest chunk.0.object names =
+      (_, (linked list_is_named st.stands).chunks b.chunk chunk.0 chunk.1.0, subst (λ n. AreChunksReleased rest n true names) (sym st.stands.of_type) all)
+      in
+      as_returned list_is_named h its_block chunk.0 chunk.1.1 names (left_then list_is_named h its_block _ (chunks_go then sound agrees_then properties gives)) with_it

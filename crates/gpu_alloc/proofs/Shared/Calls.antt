@@ -33,7 +33,7 @@ use Rattle.gpu_alloc.specs.BuddySharing.{with_span}
 use Rattle.gpu_alloc.specs.FirstTypes.{first_type_state, first_types}
 use Rattle.gpu_alloc.specs.Inside.{IsBooked, IsChosen, limit_of, lists_in, properties_in, state_in, types_in}
 use Rattle.gpu_alloc.specs.Own.{OwnTable}
-use Rattle.gpu_alloc.specs.Release.{Frees, ObjectsFreed, ReleasedWith, Releases, without_objects, without_span}
+use Rattle.gpu_alloc.specs.Release.{Frees, ObjectsFreed, ReleasedWith, Releases, without_all, without_objects, without_span}
 use Rattle.gpu_alloc.specs.Sound.{is_chosen}
 use Rattle.gpu_alloc.specs.Stores.{block_span}
 use Rattle.gpu_alloc.specs.Whole.{IsKept}
@@ -97,10 +97,19 @@ module _ {T A B : Type 0} {r : Rule T A B} {n : Named r} (named : IsNamed n) whe
   types_kept : (types : List TypeState) (ss : Stores) (i : ℕ) (x : T) → x ≡ get_or (n.all ss) i x → (chunks : HeldChunks) (live : set_of.FinSet r.order) → types_from types (put n ss i (r.with_space x chunks live)) ≡ types_from types ss
   types_kept types ss i x at chunks live = named.types_set types ss i (r.with_space x chunks live) ∙ ap (λ h. changed h (types_from types ss) i) (named.sizes_kept x chunks live) ∙ sym (types_own types ss i x at)
 
+  -- what is read of them is its own
+  pub sizes_read : (types : List TypeState) (ss : Stores) (i : ℕ) (x : T) → x ≡ get_or (n.all ss) i x → i < length (types_from types ss) → (read : Option TypeState → ℕ) (m : ℕ) → ((type : TypeState) → read (Some (n.sizes x type)) ≡ m) → read (slice_get (types_from types ss) i) ≡ m
+  sizes_read types ss i x at inside read m is = ap (λ ts. read (slice_get ts i)) (types_own types ss i x at) ∙ read_changed read (n.sizes x) _ i m inside is
+
   pub are_set : (c : Config) (p : Properties) (ss : Stores) (i : ℕ) (x : T) → AreFor c p ss → n.IsOf c p i x → r.IsSound x → AreFor c p (put n ss i x)
   are_set c p ss i x are of sound =
       let each = named.each c p ss are in
       named.are c p ss (set (n.all ss) i x) are (length-set (n.all ss) i x ∙ each.0, each_set (n.IsFor c p) (n.all ss) i x (named.for_of c p i x of sound) (λ q other. each.1 q))
+
+-- a memory type with each store has sizes
+pub types_there : (types : List TypeState) (ss : Stores) (i : ℕ) → i < length types → i < length ss.buddies → i < length ss.lists → i < length ss.fits → i < length (types_from types ss)
+types_there types ss i within in_buddies in_lists in_fits =
+    types_within _ (lists_in (types_in types ss.buddies) ss.lists) ss.fits i (types_within _ (types_in types ss.buddies) ss.lists i (types_within _ types ss.buddies i within in_buddies) in_lists) in_fits
 
 -- With stores that are as they have to be, all is kept.
 pub keep : {T A B : Type 0} {r : Rule T A B} {n : Named r} {X : Type 0} (l : Limits X) {heaps : List Heap} {ss : Stores} {own : OwnTable} {remaining i : ℕ} {x : T} → Stood n l heaps ss own remaining i x → AreFor l.config (properties_in l heaps) ss → Keep l heaps ss own remaining
@@ -179,17 +188,15 @@ module _ {T A B : Type 0} {r : Rule T A B} {n : Named r} (named : IsNamed n) {X 
     }
 
     in_types : i < length (types_from (first_types l.config (properties_in l heaps)) ss)
-    in_types =
-        let first = first_types l.config (properties_in l heaps) in
-        types_within _ (lists_in (types_in first ss.buddies) ss.lists) ss.fits i (types_within _ (types_in first ss.buddies) ss.lists i (types_within _ first ss.buddies i (omega (arith, has.known, length-map (properties_in l heaps).memory_types (first_type_state l.config (properties_in l heaps)))) (omega (arith, has.known, has.kept.shared.count)))
-        (omega (arith, has.known, has.kept.listed.count))) (omega (arith, has.known, has.kept.fitted.count))
+    in_types = types_there (first_types l.config (properties_in l heaps)) ss i (omega (arith, has.known, length-map (properties_in l heaps).memory_types (first_type_state l.config (properties_in l heaps))))
+        (omega (arith, has.known, has.kept.shared.count)) (omega (arith, has.known, has.kept.listed.count)) (omega (arith, has.known, has.kept.fitted.count))
 
     pub serves : Serves n (state_of l heaps ss own remaining) i x
     serves = record {
       linked = linked named stood.stands;
       of = its.0;
       sound = its.1;
-      next = λ read m is. ap (λ ts. read (slice_get ts i)) (types_own named (first_types l.config (properties_in l heaps)) ss i x has.at) ∙ read_changed read (n.sizes x) _ i m in_types is;
+      next = sizes_read named (first_types l.config (properties_in l heaps)) ss i x has.at in_types;
     }
 
 module _ {T A B : Type 0} {r : Rule T A B} {n : Named r} {X : Type 0} {l : Limits X} {heaps : List Heap} {ss : Stores} {own : OwnTable} {remaining i j : ℕ} {x : T} {heap : Heap} (h : Handed n l heaps ss own remaining i j x heap) where
@@ -249,13 +256,16 @@ module _ {T A B : Type 0} {r : Rule T A B} {n : Named r} (named : IsNamed n) {X 
   abbrev t : State
   t = before h
 
+  pub heap_inside : j < length heaps
+  heap_inside = omega (arith, h.here, heap_there offered heaps (whole_in own ss) remaining h.has.kept.books refl i h.has.known)
+
   -- What the store asks.
 
   pub agrees_before : (q : Properties) (objects : ℕ → Option Object) → agreement.Agrees t q objects → Agrees r x q objects
   agrees_before q objects agrees = serving.agrees named t i x (serves named h.has) q objects h.has.known agrees
 
   pub counted_before : IsCounted (r.chunks x) heap remaining
-  counted_before = serving.counted named t i x (serves named h.has) heaps j heap h.has.kept.books h.here (omega (arith, h.here, heap_there offered heaps (whole_in own ss) remaining h.has.kept.books refl i h.has.known)) h.at_heap
+  counted_before = serving.counted named t i x (serves named h.has) heaps j heap h.has.kept.books h.here heap_inside h.at_heap
 
   -- with a store that keeps its chunks
   with_kept : (y : T) (s : State) → StandFor l heaps (put n ss i y) own remaining s → With h (account y heap remaining) s
@@ -416,53 +426,61 @@ module _ {T A B : Type 0} {r : Rule T A B} {n : Named r} (named : IsNamed n) {X 
         inr (gone.0, gone.1, goes.0, goes.1, refl),
       )
 
-  -- A live block of the whole allocator is one of its memory type's store.
-  pub block_there : {block : Block} → IsOwned t block → i ≡ block.memory_type → (key : ℕ) → block.kind ≡ n.kind key → (b : B) × IsBlockOf n x b block
-  block_there {block} owned typed key kind =
-      let both = (serves named h.has).linked in
-      let of_type = (stood named h.has).stands.of_type in
-      let there = both.spans (span_of block) owned.held.0 owned.live (record { key = key; held = owned.held.1; of_kind = owned.held.3 ∙ kind; of_type = owned.held.2 ∙ sym typed ∙ sym of_type }) in
-      let lies = (stood named h.has).stands.plain.of_chunk there.0 there.1 in
-      let found = ap (map.get t.held) (sym lies.1.1 ∙ ap (λ (z : Span). z.object) there.2) ∙ owned.held.1 in
-      let same = one_value _ owned.held.0 (row n x (r.key there.0) lies.0) found (both.chunks (r.key there.0) lies.0 lies.1.0) in
-      (there.0, record { live = there.1; span = sym there.2; kind = sym owned.held.3 ∙ ap (λ (o : HeldObject). o.kind) same })
-
-  -- It comes back, and its chunk goes with it or stays.
-  module _ {b : B} {block : Block} (its_block : IsBlockOf n x b block) (at_once : (s : State) (c : Chunk) → map.get (r.chunks (without_block r x b)) (r.key b) ≡ Some c → IsLinked n (table_of s) (without_block r x b) → IsPlain n (without_block r x b) → ReleasesAtOnce n x b s c) where
+  -- It comes back.
+  module _ {b : B} {block : Block} (its_block : IsBlockOf n x b block) where
     abbrev y : T
     y = without_block r x b
 
     abbrev rest : State
     rest = without_span t block
 
-    went : Stood n l heaps (put n ss i y) own remaining i y × (state_of l heaps (put n ss i y) own remaining ≡ rest)
+    pub went : Stood n l heaps (put n ss i y) own remaining i y × (state_of l heaps (put n ss i y) own remaining ≡ rest)
     went = let it = without named (stood named h.has) b its_block.live in (it.0, it.1 ∙ (λ k. record t { live = set_of.remove t.live (sym its_block.span k) }))
 
     put_again : (z : T) → put n (put n ss i y) i z ≡ put n ss i z
     put_again z = named.twice ss (set (n.all ss) i y) _ ∙ ap (n.with_all ss) (ap (λ xs. set xs i z) (named.all_are ss (set (n.all ss) i y)) ∙ set-set (n.all ss) i y z)
 
     -- its chunk
-    own_chunk : (c : Chunk) × ((map.get (r.chunks y) (r.key b) ≡ Some c) × ((r.bytes b).object ≡ c.object))
+    pub own_chunk : (c : Chunk) × ((map.get (r.chunks y) (r.key b) ≡ Some c) × ((r.bytes b).object ≡ c.object))
     own_chunk = let lies = (stood named h.has).stands.plain.of_chunk b its_block.live in (lies.0, (ap (λ m. map.get m (r.key b)) (named.lawful.its_chunks x _ _) ∙ lies.1.0, lies.1.1))
 
-    goes_with : (c : Chunk) → map.get (r.chunks y) (r.key b) ≡ Some c → ReleasesAtOnce n x b rest c
-    goes_with c is = at_once rest c is (subst (λ z. IsLinked n (table_of z) y) went.1 (linked named went.0.stands)) went.0.stands.plain
+    pub as_returned : {after : Account T} {es : List Event} {q : Properties} {old new : ℕ → Option Object} (c : Chunk) → (r.bytes b).object ≡ c.object → (names : List ℕ) → IsLeft h rest names after es q old new → ReleasedWith (n.kind (r.key b)) rest c.object names → IsReturned h block after es q old new
+    as_returned c is names left with_it =
+        let gone = subst (λ k. ReleasedWith k rest block.object names) (sym its_block.kind) (subst (λ o. ReleasedWith (n.kind (r.key b)) rest o names) (sym (ap (λ (z : Span). z.object) its_block.span ∙ is)) with_it) in
+        record { kept = left.kept; frees = (names, gone, left.lets); freed = (names, gone, left.objects); agreed = left.agreed }
 
-    module _ {after : Account T} {es : List Event} {p q : Properties} {old new : ℕ → Option Object} (sound : r.IsSound after.allocator) (agrees : agreement.Agrees t p old) (properties : q ≡ p) where
-      as_returned : (c : Chunk) → (r.bytes b).object ≡ c.object → (names : List ℕ) → IsLeft h rest names after es q old new → ReleasedWith (n.kind (r.key b)) rest c.object names → IsReturned h block after es q old new
-      as_returned c is names left with_it =
-          let gone = subst (λ k. ReleasedWith k rest block.object names) (sym its_block.kind) (subst (λ o. ReleasedWith (n.kind (r.key b)) rest o names) (sym (ap (λ (z : Span). z.object) its_block.span ∙ is)) with_it) in
-          record { kept = left.kept; frees = (names, gone, left.lets); freed = (names, gone, left.objects); agreed = left.agreed }
+    -- Where the store is sound then, it is handed on.
+    module _ (sound : r.IsSound y) where
+      pub handed_then : Handed n l heaps (put n ss i y) own remaining i j y heap
+      handed_then = handed n l (keep l went.0 (are_set named l.config offered ss i y (are_all named h.has) went.0.of sound)) h.has.known went.0.stands.at h.here h.at_heap
 
-      pub back : shared.Frees r (account x heap remaining) b es after → shared.ObjectsFreed r x b old new → IsReturned h block after es q old new
-      back (inl kept) (inl same) =
-          let sound_now : r.IsSound y = subst r.IsSound (ap (λ (a : Account T). a.allocator) kept.1.1) sound in
-          let fields = with_kept y rest (keep l went.0 (are_set named l.config offered ss i y (are_all named h.has) went.0.of sound_now), went.1) in
-          as_returned own_chunk.0 own_chunk.1.1 [] (none_left (agrees_without_span t p p old block agrees refl) properties (subst (λ a. With h a rest) (sym kept.1.1) fields) kept.1.0 same.1) ((goes_with own_chunk.0 own_chunk.1.0).stays kept.0)
-      back (inl kept) (inr lost) = absurd (kept.0 lost.0)
-      back (inr gone) (inl same) = absurd (same.0 gone.0)
-      back (inr gone) (inr lost) =
-          let goes = gone.1 in
-          let also = goes_with goes.0 goes.1 in
-          let object = own_chunk.1.1 ∙ ap (λ (c : Chunk). c.object) (one_value _ own_chunk.0 goes.0 own_chunk.1.0 goes.1) in
-          as_returned goes.0 object (goes.0.object ∷ []) (one_left (agrees_without_span t p p old block agrees refl) properties went.0 went.1 put_again (r.key b) (also.goes gone.0).0 goes sound (lost.1 ∙ ap (λ o. put_object old o None) object)) (also.goes gone.0).1
+      -- what is left in the end is left of what was handed first
+      pub left_then : {names : List ℕ} {after : Account T} {es : List Event} {q : Properties} {old new : ℕ → Option Object} → IsLeft handed_then (before handed_then) names after es q old new → IsLeft h rest names after es q old new
+      left_then {names} {after} {q = q} {new = new} left =
+          let again = put_again after.allocator in
+          let at_last = λ (ts : Stores). state_of l (set heaps j after.heap) ts own after.remaining in
+          record {
+            kept = subst (λ ts. Keep l (set heaps j after.heap) ts own after.remaining) again left.kept;
+            lets = (left.lets.0, ap at_last (sym again) ∙ left.lets.1 ∙ (λ k. record (went.1 k) { held = without_all (went.1 k).held names; remaining = (went.1 k).remaining + length names }));
+            objects = left.objects;
+            agreed = subst (λ ts. agreement.Agrees (at_last ts) q new) again left.agreed;
+          }
+
+    -- Its chunk goes with it or stays.
+    module _ (at_once : (s : State) (c : Chunk) → map.get (r.chunks y) (r.key b) ≡ Some c → IsLinked n (table_of s) y → IsPlain n y → ReleasesAtOnce n x b s c) where
+      goes_with : (c : Chunk) → map.get (r.chunks y) (r.key b) ≡ Some c → ReleasesAtOnce n x b rest c
+      goes_with c is = at_once rest c is (subst (λ z. IsLinked n (table_of z) y) went.1 (linked named went.0.stands)) went.0.stands.plain
+
+      module _ {after : Account T} {es : List Event} {p q : Properties} {old new : ℕ → Option Object} (sound : r.IsSound after.allocator) (agrees : agreement.Agrees t p old) (properties : q ≡ p) where
+        pub back : shared.Frees r (account x heap remaining) b es after → shared.ObjectsFreed r x b old new → IsReturned h block after es q old new
+        back (inl kept) (inl same) =
+            let sound_now : r.IsSound y = subst r.IsSound (ap (λ (a : Account T). a.allocator) kept.1.1) sound in
+            let fields = with_kept y rest (keep l went.0 (are_set named l.config offered ss i y (are_all named h.has) went.0.of sound_now), went.1) in
+            as_returned own_chunk.0 own_chunk.1.1 [] (none_left (agrees_without_span t p p old block agrees refl) properties (subst (λ a. With h a rest) (sym kept.1.1) fields) kept.1.0 same.1) ((goes_with own_chunk.0 own_chunk.1.0).stays kept.0)
+        back (inl kept) (inr lost) = absurd (kept.0 lost.0)
+        back (inr gone) (inl same) = absurd (same.0 gone.0)
+        back (inr gone) (inr lost) =
+            let goes = gone.1 in
+            let also = goes_with goes.0 goes.1 in
+            let object = own_chunk.1.1 ∙ ap (λ (c : Chunk). c.object) (one_value _ own_chunk.0 goes.0 own_chunk.1.0 goes.1) in
+            as_returned goes.0 object (goes.0.object ∷ []) (one_left (agrees_without_span t p p old block agrees refl) properties went.0 went.1 put_again (r.key b) (also.goes gone.0).0 goes sound (lost.1 ∙ ap (λ o. put_object old o None) object)) (also.goes gone.0).1

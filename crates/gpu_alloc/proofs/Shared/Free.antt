@@ -2,11 +2,16 @@
 use Rattle.std.proofs.Common.{◌≡◌, ℕ, ◌+◌, ◌<◌, sym, subst, arith, inl, inr, ◌-◌, ◌%◌, ◌∙◌, ap}
 use Rattle.gpu_alloc_base.specs.FreeRuns.{AreFree, IsFreeRun, IsListPlace}
 use Rattle.std.proofs.lemmas.Bool.{cases_eq, cases_lt}
+use Rattle.std.proofs.lemmas.Nat.{pow_pos}
 use Rattle.std.proofs.Math.Nat.{zero-mod}
-use Rattle.gpu_alloc_base.specs.FreeSpace.{IsIn, IsMultipleOf}
+use Rattle.gpu_alloc_base.specs.FreeSpace.{IsFreePiece, IsIn, IsMultipleOf, IsPlace}
 use Rattle.gpu_alloc_base.proofs.FreeRuns.{run_stops}
 use Rattle.gpu_alloc_base.proofs.Multiples.{mod_from_multiple, multiple_from_mod}
 use Rattle.gpu_alloc_block.specs.State.{Span}
+
+-- a place has a first byte
+pub first_byte : (F : ℕ → ℕ → Type 0) (object start length : ℕ) → IsPlace F object start length → F object start
+first_byte F object start length place = let some = pow_pos place.power.0 in place.free start (record { from = omega arith; to = omega (arith, some, place.power.1) })
 
 -- Two descriptions that have other names for the same chunks.
 pub record IsCopy (F G : ℕ → ℕ → Type 0) (name : ℕ → ℕ) : Type 0 where
@@ -53,6 +58,37 @@ module _ {F G : ℕ → ℕ → Type 0} {name : ℕ → ℕ} (copy : IsCopy F G 
     room_from some (object, start, place) =
         let first = copy.from object start (place.free start (omega arith) (omega (arith, some))) in
         (first.0, start, record { aligned = place.aligned; free = range_from first.0 start first.2 start (start + size) (subst (λ o. AreFree G o start (start + size)) (sym first.1) place.free) })
+
+  -- so are places, and the longest ones
+
+  place_to : (key start length : ℕ) → IsPlace F key start length → IsPlace G (name key) start length
+  place_to key start length place = record { power = place.power; aligned = place.aligned; free = λ at here. copy.to key at (place.free at here) }
+
+  place_back : (key first : ℕ) → F key first → (start length : ℕ) → IsPlace G (name key) start length → IsPlace F key start length
+  place_back key first some start length place =
+      record { power = place.power; aligned = place.aligned; free = λ at here. range_from key first some start (start + length) (λ at from to. place.free at (record { from = from; to = to })) at here.from here.to }
+
+  pub piece_to : (key start length : ℕ) → IsFreePiece F key start length → IsFreePiece G (name key) start length
+  piece_to key start length piece = record {
+    place = place_to key start length piece.place;
+    longest = λ start' length' place. piece.longest start' length' (place_back key start (first_byte F key start length piece.place) start' length' place);
+  }
+
+  place_from : (object start length : ℕ) → IsPlace G object start length → (key : ℕ) × (name key ≡ object) × IsPlace F key start length
+  place_from object start length place =
+      let first = copy.from object start (first_byte G object start length place) in
+      (first.0, first.1, place_back first.0 start first.2 start length (subst (λ o. IsPlace G o start length) (sym first.1) place))
+
+  pub piece_from : (object start length : ℕ) → IsFreePiece G object start length → (key : ℕ) × (name key ≡ object) × IsFreePiece F key start length
+  piece_from object start length piece =
+      let w = place_from object start length piece.place in
+      (w.0, w.1, record { place = w.2; longest = λ start' length' place. piece.longest start' length' (subst (λ o. IsPlace G o start' length') w.1 (place_to w.0 start' length' place)) })
+
+  pub some_place_to : (length : ℕ) → (key start : ℕ) × IsPlace F key start length → (object start : ℕ) × IsPlace G object start length
+  some_place_to length (key, start, place) = (name key, start, place_to key start length place)
+
+  pub some_place_from : (length : ℕ) → (object start : ℕ) × IsPlace G object start length → (key start : ℕ) × IsPlace F key start length
+  some_place_from length (object, start, place) = let w = place_from object start length place in (w.0, start, w.2)
 
 -- a byte of the chunk x is free where it lies in it, and in none of its live spans
 pub record AreFreeBeside (F : ℕ → ℕ → Type 0) (x counted : ℕ) (Has : Span → Type 0) : Type 0 where

@@ -339,11 +339,11 @@ shared_there BuddyChunk s name counted o shared is = is
 shared_there (FreeListChunk number) s name counted o shared is = is
 shared_there FitChunk s name counted o shared is = is
 
-module _ {T A B : Type 0} {r : Rule T A B} {n : Named r} (s : State) (x : T) (linked : IsLinked n (table_of s) x) (plain : IsPlain n x) where
+module _ {T A B : Type 0} {r : Rule T A B} {n : Named r} (t : Table) (x : T) (linked : IsLinked n t x) (plain : IsPlain n x) where
   -- a live span of a chunk's object is a block of the chunk
-  block_there : (key : ℕ) (c : Chunk) (span : Span) → map.get (r.chunks x) key ≡ Some c → span.object ≡ c.object → IsLiveIn (table_of s) span → (b : B) × IsLive r x b × (block_span r b ≡ span) × (r.key b ≡ key)
+  pub block_there : (key : ℕ) (c : Chunk) (span : Span) → map.get (r.chunks x) key ≡ Some c → span.object ≡ c.object → IsLiveIn t span → (b : B) × IsLive r x b × (block_span r b ≡ span) × (r.key b ≡ key)
   block_there key c span is named live =
-      let held = subst (λ o. map.get s.held o ≡ Some (row n x key c)) (sym named) (linked.chunks key c is) in
+      let held = subst (λ o. map.get t.held o ≡ Some (row n x key c)) (sym named) (linked.chunks key c is) in
       let there = linked.spans span (row n x key c) live (record { key = key; held = held; of_kind = refl; of_type = refl }) in
       let lies = plain.of_chunk there.0 there.1 in
       (there.0, there.1, there.2, plain.own_object (r.key there.0) key lies.0 c lies.1.0 is (sym lies.1.1 ∙ ap (λ (x : Span). x.object) there.2 ∙ named))
@@ -354,13 +354,13 @@ module _ {T A B : Type 0} {r : Rule T A B} {n : Named r} (s : State) (x : T) (li
       let lies = plain.of_chunk b live in
       lies.1.1 ∙ ap (λ (d : Chunk). d.object) (one_value _ lies.0 c lies.1.0 (ap (map.get (r.chunks x)) in_chunk ∙ is))
 
-  -- no block of a chunk is live exactly where no span of its object is
-
+-- no block of a chunk is live exactly where no span of its object is
+module _ {T A B : Type 0} {r : Rule T A B} {n : Named r} (s : State) (x : T) (linked : IsLinked n (table_of s) x) (plain : IsPlain n x) where
   pub unused_is : (key : ℕ) (c : Chunk) → map.get (r.chunks x) key ≡ Some c → ((b : B) → IsLive r x b → r.key b ≢ key) → IsUnused s c.object
-  unused_is key c is unused span live named = let there = block_there key c span is named live in unused there.0 there.1 there.3
+  unused_is key c is unused span live named = let there = block_there (table_of s) x linked plain key c span is named live in unused there.0 there.1 there.3
 
   pub unused_was : (key : ℕ) (c : Chunk) → map.get (r.chunks x) key ≡ Some c → IsUnused s c.object → (b : B) → IsLive r x b → r.key b ≢ key
-  unused_was key c is unused b live in_chunk = unused (block_span r b) (linked.blocks b live) (object_there key c b is live in_chunk)
+  unused_was key c is unused b live in_chunk = unused (block_span r b) (linked.blocks b live) (object_there (table_of s) x linked plain key c b is live in_chunk)
 
 module _ {T A B : Type 0} {r : Rule T A B} {n : Named r} (named : IsNamed n) (s : State) (i : ℕ) (x : T) (serves : Serves n s i x) where
   plain : IsPlain n x
@@ -381,7 +381,7 @@ module _ {T A B : Type 0} {r : Rule T A B} {n : Named r} (named : IsNamed n) (s 
         of_kind = refl;
         inside = omega (arith, free.inside, ap (λ (d : Chunk). d.size) (one_value _ free.held c free.is is));
         unused = λ span live of_it at_in.
-            let there = block_there s x serves.linked plain key c span is of_it live in
+            let there = block_there (table_of s) x serves.linked plain key c span is of_it live in
             free.unused there.0 there.1 there.3 (subst (λ (q : Span). IsIn q.offset q.size at) (sym there.2) at_in);
       }
 
@@ -390,7 +390,7 @@ module _ {T A B : Type 0} {r : Rule T A B} {n : Named r} (named : IsNamed n) (s 
     held = c;
     is = is;
     inside = omega (arith, free.inside, ap (λ (h : HeldObject). h.counted) (one_value _ free.chunk (row n x key c) free.held (serves.linked.chunks key c is)));
-    unused = λ b live in_chunk at_in. free.unused (block_span r b) (serves.linked.blocks b live) (object_there s x serves.linked plain key c b is live in_chunk) at_in;
+    unused = λ b live in_chunk at_in. free.unused (block_span r b) (serves.linked.blocks b live) (object_there (table_of s) x serves.linked plain key c b is live in_chunk) at_in;
   })
 
   -- where all chunks are of one kind

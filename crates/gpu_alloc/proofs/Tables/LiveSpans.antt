@@ -1,15 +1,10 @@
 -- Live spans of a table, as one is added or removed.
-use Rattle.std.proofs.Common.{◌≡◌, ◌≢◌, inl, inr, false, None, IsTrue, sym, ◌∙◌, subst, ℕ, ap}
-use Rattle.std.specs.FinMap as map
+use Rattle.std.proofs.Common.{◌≡◌, ◌≢◌, inl, inr, IsTrue, sym, ◌∙◌, subst, ℕ, ap}
 use Rattle.std.specs.FinSet.{contains, insert, remove}
-use Rattle.gpu_alloc.specs.Inside.{IsLiveIn, IsOfObject}
+use Rattle.gpu_alloc.specs.Inside.{IsLiveIn}
 use Rattle.gpu_alloc.specs.Spans.{Table}
 use Rattle.gpu_alloc_block.specs.State.{Span}
-use Rattle.gpu_alloc_block.proofs.LiveSpans.{live_before, live_other, live_still, live_kept, not_live}
-
--- the object of one that is live is held
-pub not_live_new : (t : Table) (span : Span) → ((other : Span) → IsLiveIn t other → IsOfObject t other) → map.get t.held span.object ≡ None → contains t.live span ≡ false
-not_live_new t span of_objects free = not_live t.live span (λ live. let held = (of_objects span live).held in absurd (cc))
+use Rattle.gpu_alloc_block.proofs.LiveSpans.{live_before, live_other, live_still, live_kept}
 
 -- Tables in which the same spans of an object are live.
 

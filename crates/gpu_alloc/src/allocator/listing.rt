@@ -1,6 +1,6 @@
 //! What an allocator holds and has given out, and what its device offers, for reports.
 
-ghost use Rattle.std.specs.Prelude.{◌≡◌, ◌++◌, ◌<◌, ◌^◌, ℕ, List, IfOk, OnOk, length, map as mapped, nat_eq};
+ghost use Rattle.std.specs.Prelude.{◌≡◌, ◌++◌, ◌<◌, ◌^◌, ℕ, Contains, List, IfOk, OnOk, length, map as mapped, nat_eq};
 ghost use Rattle.std.specs.List.{IsDistinct};
 ghost use Rattle.std.specs.Map.{keys_of};
 ghost use Rattle.std.specs.FinMap as map;
@@ -9,18 +9,18 @@ ghost use Rattle.std.specs.Option.{option_map};
 ghost use Rattle.gpu_alloc.specs.Budget.{heap_bytes};
 ghost use Rattle.gpu_alloc.specs.Sound as Sound;
 ghost use Rattle.gpu_alloc.specs.Spans.{held_objects_in, held_of, span_in};
-ghost use Rattle.gpu_alloc.specs.Listing.{AreOfKnownTypes, AreOnce};
-ghost use Rattle.gpu_alloc.specs.Whole.{buddy_part, fit_part, list_part};
-ghost use Rattle.gpu_alloc_block.specs.Parts.{HaveOwnObjects};
+ghost use Rattle.gpu_alloc.specs.Listing.{AreOfKnownTypes, AreOnce, IsRowOf};
+ghost use Rattle.gpu_alloc.specs.Whole.{list_part};
 ghost use Rattle.gpu_alloc_freelist.specs.FreeListSound.{IsSoundFreeList};
 
 use super::GpuAllocator;
 use crate::spans::{HeldRow, LiveSpan};
 use gpu_alloc_block::Kind;
-use gpu_alloc_buddy::{BuddyAllocator, Chunk};
-use gpu_alloc_fit::{Chunk as FitChunk, FitAllocator};
+use gpu_alloc_buddy::Chunk;
+use gpu_alloc_fit::Chunk as FitChunk;
 use gpu_alloc_freelist::{FreeListAllocator, NumberedChunk};
 use gpu_alloc_types::MemoryObject;
+use slab::Iter;
 use std::alloc::{AllocError, Allocator};
 
 impl<M: MemoryObject, A: Allocator> GpuAllocator<M, A> {
@@ -55,19 +55,19 @@ impl<M: MemoryObject, A: Allocator> GpuAllocator<M, A> {
         }
         for memory_type in 0..self.type_count() {
             let buddy = &self.buddies[memory_type as usize];
-            if let Some(row) = buddy_chunk_of(buddy, memory_type, object) {
+            if let Some(row) = row_of(buddy.chunks(), memory_type, object) {
                 return Some(row);
             }
         }
         for memory_type in 0..self.type_count() {
             let list = &self.free_lists[memory_type as usize];
-            if let Some(row) = chunk_of(list, memory_type, object) {
+            if let Some(row) = row_of(list.chunks(), memory_type, object) {
                 return Some(row);
             }
         }
         for memory_type in 0..self.type_count() {
             let fit = &self.fits[memory_type as usize];
-            if let Some(row) = fit_chunk_of(fit, memory_type, object) {
+            if let Some(row) = row_of(fit.chunks(), memory_type, object) {
                 return Some(row);
             }
         }
@@ -86,15 +86,15 @@ impl<M: MemoryObject, A: Allocator> GpuAllocator<M, A> {
         self.own.list_objects(&mut rows)?;
         for memory_type in 0..self.type_count() {
             let buddy = &self.buddies[memory_type as usize];
-            list_buddy_chunks(buddy, memory_type, &mut rows)?;
+            list_chunks(buddy.chunks(), memory_type, &mut rows)?;
         }
         for memory_type in 0..self.type_count() {
             let list = &self.free_lists[memory_type as usize];
-            list_chunks(list, memory_type, &mut rows)?;
+            list_chunks(list.chunks(), memory_type, &mut rows)?;
         }
         for memory_type in 0..self.type_count() {
             let fit = &self.fits[memory_type as usize];
-            list_fit_chunks(fit, memory_type, &mut rows)?;
+            list_chunks(fit.chunks(), memory_type, &mut rows)?;
         }
         Ok(rows)
     }
@@ -123,106 +123,102 @@ impl<M: MemoryObject, A: Allocator> GpuAllocator<M, A> {
     }
 }
 
-/// A chunk of a memory type's buddy allocator as a row.
-fn buddy_row_of<M: MemoryObject>(chunk: &Chunk<M>, memory_type: u32) -> HeldRow
-    requires { (chunk.now).order < 64 }
-    ensures { result ≡ record { memory_type = memory_type; counted = 2 ^ (chunk.now).order; kind = Kind.BuddyChunk } }
-{
-    HeldRow {
-        memory_type,
-        counted: chunk.size(),
-        kind: Kind::BuddyChunk,
+/// A held chunk, as it is listed.
+trait ListedChunk {
+    ghost use Rattle.gpu_alloc.specs.declared.spans.HeldRow.{HeldRow};
+
+    /// Its object's name and its row, where it is of this memory type.
+    ghost listed: { Self → ℕ → ℕ × HeldRow };
+
+    /// Its size fits 64 bits.
+    ghost IsShort: { Self → Type 0 };
+
+    fn entry(&self, memory_type: u32) -> (u64, HeldRow)
+        requires { IsShort self.now }
+        ensures { result ≡ listed self.now memory_type };
+}
+
+impl<M: MemoryObject> ListedChunk for Chunk<M> {
+    ghost use Rattle.gpu_alloc.specs.Listing.{listed_as};
+    ghost use Rattle.gpu_alloc_block.specs.declared.block.Kind.TheVariants.{BuddyChunk};
+
+    ghost listed = { λ chunk memory_type. listed_as (M.object chunk.memory) memory_type (2 ^ chunk.order) BuddyChunk };
+
+    ghost IsShort = { λ chunk. chunk.order < 64 };
+
+    fn entry(&self, memory_type: u32) -> (u64, HeldRow) {
+        let row = HeldRow {
+            memory_type,
+            counted: self.size(),
+            kind: Kind::BuddyChunk,
+        };
+        (self.object(), row)
     }
 }
 
-/// The row of an object of this name, or `None` where it is not a chunk of a memory type's buddy allocator. It searches
-/// all of them.
-fn buddy_chunk_of<M: MemoryObject, A: Allocator>(
-    buddy: &BuddyAllocator<M, A>,
-    memory_type: u32,
-    object: u64,
-) -> Option<HeldRow>
-    requires typed { (buddy.now).memory_type ≡ memory_type }
-    requires named { HaveOwnObjects (buddy.now).chunks }
-    ensures { option_map held_of result ≡ map.get (buddy_part buddy.now).held object }
+impl<M: MemoryObject> ListedChunk for NumberedChunk<M> {
+    ghost use Rattle.gpu_alloc.specs.Listing.{listed_as};
+    ghost use Rattle.gpu_alloc_block.specs.declared.block.Kind.TheVariants.{FreeListChunk};
+
+    ghost listed = { λ chunk memory_type. listed_as (M.object chunk.memory) memory_type chunk.size (FreeListChunk chunk.number) };
+
+    ghost IsShort = { λ chunk. Unit {0} };
+
+    fn entry(&self, memory_type: u32) -> (u64, HeldRow) {
+        let row = HeldRow {
+            memory_type,
+            counted: self.size(),
+            kind: Kind::FreeListChunk(self.number()),
+        };
+        (self.object(), row)
+    }
+}
+
+impl<M: MemoryObject> ListedChunk for FitChunk<M> {
+    ghost use Rattle.gpu_alloc.specs.Listing.{listed_as};
+    ghost use Rattle.gpu_alloc_block.specs.declared.block.Kind.TheVariants.{FitChunk};
+
+    ghost listed = { λ chunk memory_type. listed_as (M.object chunk.memory) memory_type chunk.size FitChunk };
+
+    ghost IsShort = { λ chunk. Unit {0} };
+
+    fn entry(&self, memory_type: u32) -> (u64, HeldRow) {
+        let row = HeldRow {
+            memory_type,
+            counted: self.size(),
+            kind: Kind::FitChunk,
+        };
+        (self.object(), row)
+    }
+}
+
+/// The row of an object of this name, or `None` where no chunk of a memory type's is of it. It searches all of them.
+fn row_of<C: ListedChunk>(chunks: Iter<'_, C>, memory_type: u32, object: u64) -> Option<HeldRow>
+    requires { (e : ℕ × C) → Contains chunks e → C.IsShort e.1 }
+    ensures { IsRowOf (λ e. C.listed e.1 memory_type) chunks.entry object result }
 {
-    for (_, chunk) in buddy.chunks() {
-        if chunk.object() == object {
-            return Some(buddy_row_of(chunk, memory_type));
+    for (_, chunk) in chunks {
+        let (name, row) = chunk.entry(memory_type);
+        if name == object {
+            return Some(row);
         }
     }
     None
 }
 
-/// Adds the row of each chunk of a memory type's buddy allocator to a list, each once with its name, in no particular
-/// order.
+/// Adds the row of each of a memory type's chunks to a list, with its name, in their order.
 ///
 /// The only error is want of memory. Nothing else changes.
-fn list_buddy_chunks<M: MemoryObject, A: Allocator, B: Allocator>(
-    buddy: &BuddyAllocator<M, A>,
+fn list_chunks<C: ListedChunk, B: Allocator>(
+    chunks: Iter<'_, C>,
     memory_type: u32,
     rows: &mut Vec<(u64, HeldRow), B>,
 ) -> Result<(), AllocError>
-    requires typed { (buddy.now).memory_type ≡ memory_type }
-    requires named { HaveOwnObjects (buddy.now).chunks }
-    ensures { OnOk result ((chunks : List (ℕ × HeldRow)) × (rows.new.items ≡ rows.old.items ++ chunks)
-        × ((held_objects_in chunks ≡ (buddy_part buddy.now).held) × IsDistinct nat_eq (keys_of chunks))) }
+    requires { (e : ℕ × C) → Contains chunks e → C.IsShort e.1 }
+    ensures { OnOk result (rows.new.items ≡ rows.old.items ++ mapped (λ e. C.listed e.1 memory_type) chunks.entry) }
 {
-    for (_, chunk) in buddy.chunks() {
-        rows.push((chunk.object(), buddy_row_of(chunk, memory_type)))?;
-    }
-    Ok(())
-}
-
-/// A chunk of a memory type's free list as a row.
-fn row_of<M: MemoryObject>(chunk: &NumberedChunk<M>, memory_type: u32) -> HeldRow
-    ensures { result ≡ record {
-      memory_type = memory_type;
-      counted = (chunk.now).size;
-      kind = Kind.FreeListChunk (chunk.now).number;
-    } }
-{
-    HeldRow {
-        memory_type,
-        counted: chunk.size(),
-        kind: Kind::FreeListChunk(chunk.number()),
-    }
-}
-
-/// The row of an object of this name, or `None` where it is not a chunk of a memory type's free list. It searches all
-/// of them.
-fn chunk_of<M: MemoryObject, A: Allocator>(
-    list: &FreeListAllocator<M, A>,
-    memory_type: u32,
-    object: u64,
-) -> Option<HeldRow>
-    requires typed { (list.now).memory_type ≡ memory_type }
-    requires named { HaveOwnObjects (list.now).space.chunks }
-    ensures { option_map held_of result ≡ map.get (list_part list.now).held object }
-{
-    for (_, chunk) in list.chunks() {
-        if chunk.object() == object {
-            return Some(row_of(chunk, memory_type));
-        }
-    }
-    None
-}
-
-/// Adds the row of each chunk of a memory type's free list to a list, each once with its name, in no particular order.
-///
-/// The only error is want of memory. Nothing else changes.
-fn list_chunks<M: MemoryObject, A: Allocator, B: Allocator>(
-    list: &FreeListAllocator<M, A>,
-    memory_type: u32,
-    rows: &mut Vec<(u64, HeldRow), B>,
-) -> Result<(), AllocError>
-    requires typed { (list.now).memory_type ≡ memory_type }
-    requires named { HaveOwnObjects (list.now).space.chunks }
-    ensures { OnOk result ((chunks : List (ℕ × HeldRow)) × (rows.new.items ≡ rows.old.items ++ chunks)
-        × ((held_objects_in chunks ≡ (list_part list.now).held) × IsDistinct nat_eq (keys_of chunks))) }
-{
-    for (_, chunk) in list.chunks() {
-        rows.push((chunk.object(), row_of(chunk, memory_type)))?;
+    for (_, chunk) in chunks {
+        rows.push(chunk.entry(memory_type))?;
     }
     Ok(())
 }
@@ -246,54 +242,6 @@ fn list_slots<M: MemoryObject, A: Allocator, B: Allocator>(
             chunk: 0,
             index: key,
         })?;
-    }
-    Ok(())
-}
-
-/// A fit chunk of a memory type as a row.
-fn fit_row_of<M: MemoryObject>(chunk: &FitChunk<M>, memory_type: u32) -> HeldRow
-    ensures { result ≡ record { memory_type = memory_type; counted = (chunk.now).size; kind = Kind.FitChunk } }
-{
-    HeldRow {
-        memory_type,
-        counted: chunk.size(),
-        kind: Kind::FitChunk,
-    }
-}
-
-/// The row of an object of this name, or `None` where it is not a fit chunk of a memory type. It searches all of them.
-fn fit_chunk_of<M: MemoryObject, A: Allocator>(
-    fit: &FitAllocator<M, A>,
-    memory_type: u32,
-    object: u64,
-) -> Option<HeldRow>
-    requires typed { (fit.now).memory_type ≡ memory_type }
-    requires named { HaveOwnObjects (fit.now).space.chunks }
-    ensures { option_map held_of result ≡ map.get (fit_part fit.now).held object }
-{
-    for (_, chunk) in fit.chunks() {
-        if chunk.object() == object {
-            return Some(fit_row_of(chunk, memory_type));
-        }
-    }
-    None
-}
-
-/// Adds the row of each fit chunk of a memory type to a list, each once with its name, in no particular order.
-///
-/// The only error is want of memory. Nothing else changes.
-fn list_fit_chunks<M: MemoryObject, A: Allocator, B: Allocator>(
-    fit: &FitAllocator<M, A>,
-    memory_type: u32,
-    rows: &mut Vec<(u64, HeldRow), B>,
-) -> Result<(), AllocError>
-    requires typed { (fit.now).memory_type ≡ memory_type }
-    requires named { HaveOwnObjects (fit.now).space.chunks }
-    ensures { OnOk result ((chunks : List (ℕ × HeldRow)) × (rows.new.items ≡ rows.old.items ++ chunks)
-        × ((held_objects_in chunks ≡ (fit_part fit.now).held) × IsDistinct nat_eq (keys_of chunks))) }
-{
-    for (_, chunk) in fit.chunks() {
-        rows.push((chunk.object(), fit_row_of(chunk, memory_type)))?;
     }
     Ok(())
 }

@@ -25,11 +25,11 @@ given : (g : Over) (c : goal.After-self-2-1 g)
     → Handed fit_named c.self.inside.limits c.self.inside.heaps.items (record { buddies = c.self.inside.buddies.items; lists = c.self.inside.free_lists.items; fits = c.self.inside.fits.items }) c.self.inside.own c.self.inside.allocations_remains c.args.memory_type c.heap_index-heap.result c.index_mut.result.now c.index_mut-2.result.now
 given g c = let known = rw (← c.self.view_is) at c.requires.known in handed fit_named c.self.inside.limits c.self.invariant known c.index_mut.ensures.value c.heap_index-heap.ensures c.index_mut-2.ensures.value
 
-left : (g : Over) (c : goal.After-self-2-1 g) → (names : List ℕ) × IsLeft (given g c) (before (given g c)) names (account c.cleanup.new.self c.cleanup.new.heap c.cleanup.new.allocations_remains) c.cleanup.ensures.gives.0
+left : (g : Over) (c : goal.After-self-2-1 g) → (names : List ℕ) × IsLeft (given g c) (before (given g c)) names (account c.cleanup.new.self c.cleanup.new.heap c.cleanup.new.allocations_remains) c.cleanup.ensures.cleans.0
     (g.D.ObjectDevice.properties c.cleanup.new.device) (g.D.ObjectDevice.objects c.args.device.now) (g.D.ObjectDevice.objects c.cleanup.new.device) × IsNextGone fit_named c.index_mut.result.now false names
 left g c =
     let agrees = rw (← c.self.view_is) at c.requires.agrees in
-    cleaned fit_is_named (given g c) agrees c.cleanup.ensures.properties c.cleanup.ensures.sound false (λ key free. free.unused) c.cleanup.ensures.gives.2
+    cleaned fit_is_named (given g c) agrees c.cleanup.ensures.properties c.cleanup.ensures.sound false (λ key free. free.unused) c.cleanup.ensures.cleans.2
 
 released : (g : Over) (c : goal.After-self-2-1 g) → AreFitChunksReleased (before (given g c)) c.args.memory_type (left g c).0
 released g c =
@@ -41,8 +41,8 @@ invariant_of-self g c = (left g c).1.kept
 
 pub returns-clause-gives : goal.returns-clause-gives
 returns-clause-gives g c =
-    let gives = c.cleanup.ensures.gives in
-    rw (← c.self.view_is) ((left g c).0, gives.0, gives.1, record { chunks = released g c; lets = (left g c).1.lets; objects = (left g c).1.objects })
+    let cleans = c.cleanup.ensures.cleans in
+    rw (← c.self.view_is) ((left g c).0, cleans.0, cleans.1, record { chunks = released g c; lets = (left g c).1.lets; objects = (left g c).1.objects })
 
 pub returns-clause-agrees : goal.returns-clause-agrees
 returns-clause-agrees g c = (left g c).1.agreed

@@ -1,6 +1,6 @@
 use Rattle.std.proofs.Common.{◌++◌}
 use Rattle.gpu_alloc_types.specs.Chains.{chain_append}
-use Rattle.gpu_alloc.proofs.FreeLists.Cleanups.{type_goes}
+use Rattle.gpu_alloc.proofs.Cleanups.{type_goes}
 use Rattle.gpu_alloc.proofs.allocator.GpuAllocator.clean_type.Goals as goal
 
 pub returns-clause-gives : goal.returns-clause-gives

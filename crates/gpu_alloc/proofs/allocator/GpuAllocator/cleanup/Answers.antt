@@ -4,7 +4,7 @@ use Rattle.gpu_alloc.specs.Release.{AreAllReleased}
 use Rattle.gpu_alloc.proofs.Linked.{consistent}
 use Rattle.gpu_alloc.proofs.Agreed.{chain_keeps}
 use Rattle.gpu_alloc.proofs.BlocksAgreed.{cleanup_keeps_blocks}
-use Rattle.gpu_alloc.proofs.FreeLists.Cleanups.{cleaning_goes_on, all_gone, left_is}
+use Rattle.gpu_alloc.proofs.Cleanups.{cleaning_goes_on, all_gone, left_is}
 use Rattle.gpu_alloc.proofs.GoneBack.{cleanup_goes_back}
 use Rattle.gpu_alloc.proofs.InHand.{all_outside, cleanup_in_hand}
 use Rattle.gpu_alloc.proofs.Owning.{cleans_leave, none_live}

@@ -1,6 +1,6 @@
 use Rattle.std.proofs.Common.{ℕ, List}
 use Rattle.gpu_alloc_types.specs.Device.{Event, Chain}
-use Rattle.gpu_alloc.proofs.FreeLists.Cleanups.{IsCleaning}
+use Rattle.gpu_alloc.proofs.Cleanups.{IsCleaning}
 use Rattle.gpu_alloc.proofs.allocator.GpuAllocator.cleanup.Given as goal
 
 -- what may go of the memory types before this one went

@@ -1,8 +1,8 @@
 use Rattle.std.proofs.Common.{nat_le, refl, ◌∙◌}
 use Rattle.gpu_alloc_base.specs.Sizes.{up}
-use Rattle.gpu_alloc.proofs.Linked.{consistent}
-use Rattle.gpu_alloc.proofs.FreeLists.Types.{own_listing}
+use Rattle.gpu_alloc.proofs.FreeLists.Named.{list_is_named, list_named}
 use Rattle.gpu_alloc.proofs.HandedOn.{below}
+use Rattle.gpu_alloc.proofs.Shared.Calls.{its}
 use Rattle.gpu_alloc.proofs.allocator.GpuAllocator.fits_a_chunk.Goals as goal
 
 pub index-requires : goal.index-requires
@@ -11,5 +11,5 @@ index-requires g c = below refl (c.self.inside.free_lists.ok.0 ∙ c.self.invari
 pub returns : goal.returns
 returns g c =
     let known = rw (← c.self.view_is) at c.requires.known in
-    let given = (own_listing c.self.inside.limits _ _ _ _ _ _ c.args.memory_type c.index.result.now (consistent _ _ _ _ _ _ _ _ _ c.self.invariant) known c.index.ensures).for_type in
+    let given = (its {n = list_named} list_is_named {l = c.self.inside.limits} (record { kept = c.self.invariant; known = known; at = c.index.ensures })).0 in
     rw (← c.self.view_is) (c.fits_a_chunk.ensures ∙ (λ k. nat_le (up c.args.request.size (given.atom k)) (given.final_chunk k)))

@@ -1,13 +1,17 @@
-use Rattle.gpu_alloc.proofs.WholeOwned.{fit_found_owned, unknown_unowned}
+use Rattle.std.proofs.Common.{refl, arith}
+use Rattle.gpu_alloc.proofs.Fits.Named.{fit_is_named, fit_named, slot_is, span_there}
+use Rattle.gpu_alloc.proofs.Shared.Calls.{Has}
+use Rattle.gpu_alloc.proofs.Shared.Owned.{found_owned}
+use Rattle.gpu_alloc.proofs.WholeOwned.{unknown_unowned}
 use Rattle.gpu_alloc.proofs.allocator.GpuAllocator.has_in_fit.Goals as goal
 
 pub returns-in-Some : goal.returns-in-Some
 returns-in-Some g c =
-    let fits = c.self.inside.fits.items in
-    let b = c.args.block.now in
     let at = rw (c.deref.ensures.value, c.memory_type.ensures) at c.in-Some.ensures.lookup in
     let found = rw (c.object-object.ensures, c.memory.ensures, c.offset-offset.ensures, c.size-size.ensures) at c.find.ensures.found in
-    let owned = fit_found_owned c.self.inside.limits _ _ _ fits _ _ c.self.invariant b c.requires c.in-Some.fit.now at.3.0 at.1 c.find.result found in
+    let has : Has fit_named c.self.inside.limits c.self.inside.heaps.items (record { buddies = c.self.inside.buddies.items; lists = c.self.inside.free_lists.items; fits = c.self.inside.fits.items }) c.self.inside.own c.self.inside.allocations_remains c.args.block.now.memory_type c.in-Some.fit.now
+        = record { kept = c.self.invariant; known = omega (arith, at.3.0, c.self.invariant.fitted.count); at = at.1 } in
+    let owned = found_owned fit_is_named has refl (λ found. found.0) c.find.result 0 c.requires found (λ slot is none. none slot (span_there _ _ slot _ _ _ is refl refl refl)) (λ found is. slot_is _ _ found.0 c.requires is) in
     rw (← c.self.view_is, c.is_some.ensures) owned
 
 pub returns-in-None : goal.returns-in-None

@@ -1,15 +1,23 @@
-use Rattle.gpu_alloc.proofs.WholeOwned.{list_owned, unknown_unowned}
+use Rattle.std.proofs.Common.{refl, arith}
+use Rattle.gpu_alloc_block.specs.State.{span_of}
+use Rattle.gpu_alloc.proofs.FreeLists.Named.{list_is_named, list_named, slot_of_block}
+use Rattle.gpu_alloc.proofs.Links.{slot_at}
+use Rattle.gpu_alloc.proofs.Shared.Calls.{Has}
+use Rattle.gpu_alloc.proofs.Shared.Owned.{block_of, owned_of}
+use Rattle.gpu_alloc.proofs.WholeOwned.{unknown_unowned}
 use Rattle.gpu_alloc.proofs.allocator.GpuAllocator.has_in_list.Goals as goal
 
 pub returns-in-Some : goal.returns-in-Some
 returns-in-Some g c =
-    let lists = c.self.inside.free_lists.items in
-    let b = c.args.block.now in
-    let list = c.in-Some.list.now in
-    let found = rw (c.deref.ensures.value, c.memory_type.ensures) at c.in-Some.ensures.lookup in
-    let owned = list_owned c.self.inside.limits _ _ lists _ _ _ c.self.invariant b c.args.number c.requires list found.3.0 found.1 in
+    let at = rw (c.deref.ensures.value, c.memory_type.ensures) at c.in-Some.ensures.lookup in
     let tells = rw (c.object.ensures, c.memory.ensures, c.offset.ensures, c.size.ensures) at c.is_live.ensures in
-    rw (← c.self.view_is) (λ yes. owned.0 (tells.0 yes), λ is. tells.1 (owned.1 is))
+    let has : Has list_named c.self.inside.limits c.self.inside.heaps.items (record { buddies = c.self.inside.buddies.items; lists = c.self.inside.free_lists.items; fits = c.self.inside.fits.items }) c.self.inside.own c.self.inside.allocations_remains c.args.block.now.memory_type c.in-Some.list.now
+        = record { kept = c.self.invariant; known = omega (arith, at.3.0, c.self.invariant.listed.count); at = at.1 } in
+    let slot = slot_at (span_of c.args.block.now) c.args.number in
+    rw (← c.self.view_is) (
+      λ yes. owned_of list_is_named has refl slot (record { live = tells.0 yes; span = refl; kind = c.requires }),
+      λ owned. tells.1 (slot_of_block {slot = slot} (block_of list_is_named has refl owned c.args.number c.requires) c.requires refl).live,
+    )
 
 pub returns-in-None : goal.returns-in-None
 returns-in-None g c =

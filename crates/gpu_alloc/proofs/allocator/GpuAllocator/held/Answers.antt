@@ -1,9 +1,12 @@
-use Rattle.std.proofs.Common.{◌≤◌, ◌∙◌, ◌+◌, List, ap, drop, map, sym, arith}
+use Rattle.std.proofs.Common.{◌≤◌, ◌∙◌, ◌+◌, List, Some, None, ap, drop, map, sym, arith}
 use Rattle.std.specs.FinMap as finite
 use Rattle.std.specs.Ordering.{nat_cmp}
 use Rattle.gpu_alloc_block.specs.Parts.{Part, held_in_parts}
 use Rattle.gpu_alloc.specs.Spans.{held_of}
 use Rattle.gpu_alloc.specs.Whole.{buddy_part, fit_part, list_part, own_part}
+use Rattle.gpu_alloc.proofs.WholeBuddies.{buddy_rows, is_short}
+use Rattle.gpu_alloc.proofs.WholeFits.{fit_rows}
+use Rattle.gpu_alloc.proofs.WholeLists.{chunk_rows}
 use Rattle.gpu_alloc.proofs.WholeParts.{first_holds, fits_left, left_from, lists_from, lists_left, next_buddy, next_buddy_left, next_fit, next_fit_left, next_left, next_list, none_left, rest_holds}
 use Rattle.gpu_alloc.proofs.allocator.GpuAllocator.held.Goals as goal
 
@@ -17,31 +20,31 @@ pub loop-memory_type-init : goal.loop-memory_type-init
 loop-memory_type-init g c =
     rw (← c.self.view_is) (rest_holds (own_part c.self.inside.own) (left_from c.self.inside.buddies.items c.self.inside.free_lists.items c.self.inside.fits.items 0) c.args.object (sym c.in_default.ensures))
 
-pub buddy_chunk_of-requires-clause-typed : goal.buddy_chunk_of-requires-clause-typed
-buddy_chunk_of-requires-clause-typed g c =
+pub row_of-requires : goal.row_of-requires
+row_of-requires g c =
     let count = rw (← c.self.view_is) at c.type_count-memory_type-end.ensures in
-    (next_buddy c.self.inside.limits _ _ _ _ _ _ c.self.invariant _ count c.loop-memory_type.memory_type c.index-buddy.result.now c.loop-memory_type-test.true c.index-buddy.ensures).for_type.memory_type
+    let its = next_buddy c.self.inside.limits _ _ _ _ _ _ c.self.invariant _ count c.loop-memory_type.memory_type c.index-buddy.result.now c.loop-memory_type-test.true c.index-buddy.ensures in
+    is_short g.M.MemoryObject.object c.index-buddy.result.now its.sound.space.one_object c.chunks.result c.chunks.ensures
 
-pub buddy_chunk_of-requires-clause-named : goal.buddy_chunk_of-requires-clause-named
-buddy_chunk_of-requires-clause-named g c =
+pub returns-in-Some-row_of : goal.returns-in-Some-row_of
+returns-in-Some-row_of g c =
     let count = rw (← c.self.view_is) at c.type_count-memory_type-end.ensures in
-    (next_buddy c.self.inside.limits _ _ _ _ _ _ c.self.invariant _ count c.loop-memory_type.memory_type c.index-buddy.result.now c.loop-memory_type-test.true c.index-buddy.ensures).sound.space.one_object
-
-pub returns-in-Some-buddy_chunk_of : goal.returns-in-Some-buddy_chunk_of
-returns-in-Some-buddy_chunk_of g c =
-    let count = rw (← c.self.view_is) at c.type_count-memory_type-end.ensures in
+    let its = next_buddy c.self.inside.limits _ _ _ _ _ _ c.self.invariant _ count c.loop-memory_type.memory_type c.index-buddy.result.now c.loop-memory_type-test.true c.index-buddy.ensures in
+    let rows = buddy_rows g.M.MemoryObject.object c.index-buddy.result.now its.sound.space.one_object c.chunks.result c.chunks.ensures c.loop-memory_type.memory_type its.for_type.memory_type in
     let left = next_buddy_left c.self.inside.limits _ _ _ _ _ _ c.self.invariant _ count c.loop-memory_type.memory_type c.index-buddy.result.now c.loop-memory_type-test.true c.index-buddy.ensures in
     let rest = left_from c.self.inside.buddies.items c.self.inside.free_lists.items c.self.inside.fits.items (c.loop-memory_type.memory_type + 1) in
-    let here = first_holds (buddy_part c.index-buddy.result.now) rest c.args.object (held_of c.in-Some-buddy_chunk_of.row) (sym c.in-Some-buddy_chunk_of.ensures) in
+    let here = first_holds (buddy_part c.index-buddy.result.now) rest c.args.object (held_of c.in-Some-row_of.row) (sym (rows.found c.args.object (Some c.in-Some-row_of.row) c.in-Some-row_of.ensures)) in
     sym (c.loop-memory_type.invariant ∙ ap (λ (ps : List Part). finite.get (held_in_parts ps) c.args.object) left ∙ here)
 
 pub loop-memory_type-preserved : goal.loop-memory_type-preserved
 loop-memory_type-preserved g c =
     let count = rw (← c.self.view_is) at c.type_count-memory_type-end.ensures in
+    let its = next_buddy c.self.inside.limits _ _ _ _ _ _ c.self.invariant _ count c.loop-memory_type.memory_type c.index-buddy.result.now c.loop-memory_type-test.true c.index-buddy.ensures in
+    let rows = buddy_rows g.M.MemoryObject.object c.index-buddy.result.now its.sound.space.one_object c.chunks.result c.chunks.ensures c.loop-memory_type.memory_type its.for_type.memory_type in
     let left = next_buddy_left c.self.inside.limits _ _ _ _ _ _ c.self.invariant _ count c.loop-memory_type.memory_type c.index-buddy.result.now c.loop-memory_type-test.true c.index-buddy.ensures in
     let rest = left_from c.self.inside.buddies.items c.self.inside.free_lists.items c.self.inside.fits.items (c.loop-memory_type.memory_type + 1) in
     c.loop-memory_type.invariant ∙ ap (λ (ps : List Part). finite.get (held_in_parts ps) c.args.object) left
-    ∙ rest_holds (buddy_part c.index-buddy.result.now) rest c.args.object (sym c.in_default-buddy_chunk_of.ensures)
+    ∙ rest_holds (buddy_part c.index-buddy.result.now) rest c.args.object (sym (rows.found c.args.object None c.in_default-row_of.ensures))
 
 -- The free lists.
 
@@ -52,31 +55,25 @@ loop-memory_type-2-init g c =
     let left = lists_left c.self.inside.limits _ _ _ _ _ _ c.self.invariant _ count c.loop-memory_type.memory_type past in
     c.loop-memory_type.invariant ∙ ap (λ (ps : List Part). finite.get (held_in_parts ps) c.args.object) left
 
-pub chunk_of-requires-clause-typed : goal.chunk_of-requires-clause-typed
-chunk_of-requires-clause-typed g c =
+pub returns-in-Some-row_of-2 : goal.returns-in-Some-row_of-2
+returns-in-Some-row_of-2 g c =
     let count = rw (← c.self.view_is) at c.type_count-memory_type-end-2.ensures in
-    (next_list c.self.inside.limits _ _ _ _ _ _ c.self.invariant _ count c.loop-memory_type-2.memory_type c.index-list.result.now c.loop-memory_type-2-test.true c.index-list.ensures).for_type.memory_type
-
-pub chunk_of-requires-clause-named : goal.chunk_of-requires-clause-named
-chunk_of-requires-clause-named g c =
-    let count = rw (← c.self.view_is) at c.type_count-memory_type-end-2.ensures in
-    (next_list c.self.inside.limits _ _ _ _ _ _ c.self.invariant _ count c.loop-memory_type-2.memory_type c.index-list.result.now c.loop-memory_type-2-test.true c.index-list.ensures).sound.one_object
-
-pub returns-in-Some-chunk_of : goal.returns-in-Some-chunk_of
-returns-in-Some-chunk_of g c =
-    let count = rw (← c.self.view_is) at c.type_count-memory_type-end-2.ensures in
+    let its = next_list c.self.inside.limits _ _ _ _ _ _ c.self.invariant _ count c.loop-memory_type-2.memory_type c.index-list.result.now c.loop-memory_type-2-test.true c.index-list.ensures in
+    let rows = chunk_rows g.M.MemoryObject.object c.index-list.result.now its.sound.one_object c.chunks-in-loop-memory_type-2.result c.chunks-in-loop-memory_type-2.ensures c.loop-memory_type-2.memory_type its.for_type.memory_type in
     let left = next_left c.self.inside.limits _ _ _ _ _ _ c.self.invariant _ count c.loop-memory_type-2.memory_type c.index-list.result.now c.loop-memory_type-2-test.true c.index-list.ensures in
     let rest = lists_from c.self.inside.free_lists.items c.self.inside.fits.items (c.loop-memory_type-2.memory_type + 1) in
-    let here = first_holds (list_part c.index-list.result.now) rest c.args.object (held_of c.in-Some-chunk_of.row) (sym c.in-Some-chunk_of.ensures) in
+    let here = first_holds (list_part c.index-list.result.now) rest c.args.object (held_of c.in-Some-row_of-2.row) (sym (rows.found c.args.object (Some c.in-Some-row_of-2.row) c.in-Some-row_of-2.ensures)) in
     sym (c.loop-memory_type-2.invariant ∙ ap (λ (ps : List Part). finite.get (held_in_parts ps) c.args.object) left ∙ here)
 
 pub loop-memory_type-2-preserved : goal.loop-memory_type-2-preserved
 loop-memory_type-2-preserved g c =
     let count = rw (← c.self.view_is) at c.type_count-memory_type-end-2.ensures in
+    let its = next_list c.self.inside.limits _ _ _ _ _ _ c.self.invariant _ count c.loop-memory_type-2.memory_type c.index-list.result.now c.loop-memory_type-2-test.true c.index-list.ensures in
+    let rows = chunk_rows g.M.MemoryObject.object c.index-list.result.now its.sound.one_object c.chunks-in-loop-memory_type-2.result c.chunks-in-loop-memory_type-2.ensures c.loop-memory_type-2.memory_type its.for_type.memory_type in
     let left = next_left c.self.inside.limits _ _ _ _ _ _ c.self.invariant _ count c.loop-memory_type-2.memory_type c.index-list.result.now c.loop-memory_type-2-test.true c.index-list.ensures in
     let rest = lists_from c.self.inside.free_lists.items c.self.inside.fits.items (c.loop-memory_type-2.memory_type + 1) in
     c.loop-memory_type-2.invariant ∙ ap (λ (ps : List Part). finite.get (held_in_parts ps) c.args.object) left
-    ∙ rest_holds (list_part c.index-list.result.now) rest c.args.object (sym c.in_default-chunk_of.ensures)
+    ∙ rest_holds (list_part c.index-list.result.now) rest c.args.object (sym (rows.found c.args.object None c.in_default-row_of-2.ensures))
 
 -- The allocators of fit chunks.
 
@@ -87,31 +84,25 @@ loop-memory_type-3-init g c =
     let left = fits_left c.self.inside.limits _ _ _ _ _ _ c.self.invariant _ count c.loop-memory_type-2.memory_type past in
     c.loop-memory_type-2.invariant ∙ ap (λ (ps : List Part). finite.get (held_in_parts ps) c.args.object) left
 
-pub fit_chunk_of-requires-clause-typed : goal.fit_chunk_of-requires-clause-typed
-fit_chunk_of-requires-clause-typed g c =
+pub returns-in-Some-row_of-3 : goal.returns-in-Some-row_of-3
+returns-in-Some-row_of-3 g c =
     let count = rw (← c.self.view_is) at c.type_count-memory_type-end-3.ensures in
-    (next_fit c.self.inside.limits _ _ _ _ _ _ c.self.invariant _ count c.loop-memory_type-3.memory_type c.index-fit.result.now c.loop-memory_type-3-test.true c.index-fit.ensures).for_type.memory_type
-
-pub fit_chunk_of-requires-clause-named : goal.fit_chunk_of-requires-clause-named
-fit_chunk_of-requires-clause-named g c =
-    let count = rw (← c.self.view_is) at c.type_count-memory_type-end-3.ensures in
-    (next_fit c.self.inside.limits _ _ _ _ _ _ c.self.invariant _ count c.loop-memory_type-3.memory_type c.index-fit.result.now c.loop-memory_type-3-test.true c.index-fit.ensures).sound.space.one_object
-
-pub returns-in-Some-fit_chunk_of : goal.returns-in-Some-fit_chunk_of
-returns-in-Some-fit_chunk_of g c =
-    let count = rw (← c.self.view_is) at c.type_count-memory_type-end-3.ensures in
+    let its = next_fit c.self.inside.limits _ _ _ _ _ _ c.self.invariant _ count c.loop-memory_type-3.memory_type c.index-fit.result.now c.loop-memory_type-3-test.true c.index-fit.ensures in
+    let rows = fit_rows g.M.MemoryObject.object c.index-fit.result.now its.sound.space.one_object c.chunks-in-loop-memory_type-3.result c.chunks-in-loop-memory_type-3.ensures c.loop-memory_type-3.memory_type its.for_type.memory_type in
     let left = next_fit_left c.self.inside.limits _ _ _ _ _ _ c.self.invariant _ count c.loop-memory_type-3.memory_type c.index-fit.result.now c.loop-memory_type-3-test.true c.index-fit.ensures in
     let rest = map fit_part (drop (c.loop-memory_type-3.memory_type + 1) c.self.inside.fits.items) in
-    let here = first_holds (fit_part c.index-fit.result.now) rest c.args.object (held_of c.in-Some-fit_chunk_of.row) (sym c.in-Some-fit_chunk_of.ensures) in
+    let here = first_holds (fit_part c.index-fit.result.now) rest c.args.object (held_of c.in-Some-row_of-3.row) (sym (rows.found c.args.object (Some c.in-Some-row_of-3.row) c.in-Some-row_of-3.ensures)) in
     sym (c.loop-memory_type-3.invariant ∙ ap (λ (ps : List Part). finite.get (held_in_parts ps) c.args.object) left ∙ here)
 
 pub loop-memory_type-3-preserved : goal.loop-memory_type-3-preserved
 loop-memory_type-3-preserved g c =
     let count = rw (← c.self.view_is) at c.type_count-memory_type-end-3.ensures in
+    let its = next_fit c.self.inside.limits _ _ _ _ _ _ c.self.invariant _ count c.loop-memory_type-3.memory_type c.index-fit.result.now c.loop-memory_type-3-test.true c.index-fit.ensures in
+    let rows = fit_rows g.M.MemoryObject.object c.index-fit.result.now its.sound.space.one_object c.chunks-in-loop-memory_type-3.result c.chunks-in-loop-memory_type-3.ensures c.loop-memory_type-3.memory_type its.for_type.memory_type in
     let left = next_fit_left c.self.inside.limits _ _ _ _ _ _ c.self.invariant _ count c.loop-memory_type-3.memory_type c.index-fit.result.now c.loop-memory_type-3-test.true c.index-fit.ensures in
     let rest = map fit_part (drop (c.loop-memory_type-3.memory_type + 1) c.self.inside.fits.items) in
     c.loop-memory_type-3.invariant ∙ ap (λ (ps : List Part). finite.get (held_in_parts ps) c.args.object) left
-    ∙ rest_holds (fit_part c.index-fit.result.now) rest c.args.object (sym c.in_default-fit_chunk_of.ensures)
+    ∙ rest_holds (fit_part c.index-fit.result.now) rest c.args.object (sym (rows.found c.args.object None c.in_default-row_of-3.ensures))
 
 pub returns : goal.returns
 returns g c =

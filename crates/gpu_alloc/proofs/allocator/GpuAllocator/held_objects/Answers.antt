@@ -2,9 +2,9 @@ use Rattle.std.proofs.Common.{◌≡◌, ◌<◌, ◌≤◌, ◌+◌, List, drop
 use Rattle.std.specs.FinMap as finite
 use Rattle.gpu_alloc_block.specs.Parts.{Part}
 use Rattle.gpu_alloc.specs.Whole.{buddy_part, fit_part, list_part}
-use Rattle.gpu_alloc.proofs.WholeBuddies.{buddy_count}
-use Rattle.gpu_alloc.proofs.WholeFits.{fit_count}
-use Rattle.gpu_alloc.proofs.WholeLists.{chunk_count}
+use Rattle.gpu_alloc.proofs.WholeBuddies.{buddy_rows}
+use Rattle.gpu_alloc.proofs.WholeFits.{fit_rows}
+use Rattle.gpu_alloc.proofs.WholeLists.{chunk_rows}
 use Rattle.gpu_alloc.proofs.WholeParts.{AreCounted, counted_all, counted_next, fits_left, left_from, lists_from, lists_left, next_buddy, next_buddy_left, next_fit, next_fit_left, next_left, next_list, none_left, own_counted}
 use Rattle.gpu_alloc.proofs.allocator.GpuAllocator.held_objects.Goals as goal
 
@@ -23,7 +23,7 @@ loop-buddy-preserved g c =
     let at : c.buddy-item.result ≡ get_or buddies c.loop-buddy.buddy-index c.buddy-item.result = rw (← c.deref-buddy-items.ensures.value) c.buddy-item.is in
     let left = next_buddy_left c.self.inside.limits _ buddies lists fits _ _ c.self.invariant (length buddies) c.self.invariant.shared.count c.loop-buddy.buddy-index c.buddy-item.result inside at in
     let its = next_buddy c.self.inside.limits _ buddies lists fits _ _ c.self.invariant (length buddies) c.self.invariant.shared.count c.loop-buddy.buddy-index c.buddy-item.result inside at in
-    let chunks = buddy_count g.M.MemoryObject.object c.buddy-item.result its.sound.space.one_object c.chunks.result c.chunks.ensures in
+    let chunks = (buddy_rows g.M.MemoryObject.object c.buddy-item.result its.sound.space.one_object c.chunks.result c.chunks.ensures _ its.for_type.memory_type).count in
     let rest = left_from buddies lists fits (c.loop-buddy.buddy-index + 1) in
     let counted : AreCounted (finite.len c.args.self.now.held) c.loop-buddy.count (left_from buddies lists fits c.loop-buddy.buddy-index) = rw (← c.deref-buddy-items.ensures.value) c.loop-buddy.invariant in
     rw c.deref-buddy-items.ensures.value (counted_next _ c.loop-buddy.count c.len-count-in-loop-buddy.result (buddy_part c.buddy-item.result) rest
@@ -54,7 +54,7 @@ loop-list-preserved g c =
     let at : c.list-item.result ≡ get_or lists c.loop-list.list-index c.list-item.result = rw (← c.deref-list-items.ensures.value) c.list-item.is in
     let left = next_left c.self.inside.limits _ _ lists fits _ _ c.self.invariant (length lists) c.self.invariant.listed.count c.loop-list.list-index c.list-item.result inside at in
     let its = next_list c.self.inside.limits _ _ lists fits _ _ c.self.invariant (length lists) c.self.invariant.listed.count c.loop-list.list-index c.list-item.result inside at in
-    let chunks = chunk_count g.M.MemoryObject.object c.list-item.result its.sound.one_object c.chunks-in-loop-list.result c.chunks-in-loop-list.ensures in
+    let chunks = (chunk_rows g.M.MemoryObject.object c.list-item.result its.sound.one_object c.chunks-in-loop-list.result c.chunks-in-loop-list.ensures _ its.for_type.memory_type).count in
     let rest = lists_from lists fits (c.loop-list.list-index + 1) in
     let counted : AreCounted (finite.len c.args.self.now.held) c.loop-list.count (lists_from lists fits c.loop-list.list-index) = rw (← c.deref-list-items.ensures.value) c.loop-list.invariant in
     rw c.deref-list-items.ensures.value (counted_next _ c.loop-list.count c.len-count-in-loop-list.result (list_part c.list-item.result) rest
@@ -83,7 +83,7 @@ loop-fit-preserved g c =
     let at : c.fit-item.result ≡ get_or fits c.loop-fit.fit-index c.fit-item.result = rw (← c.deref-fit-items.ensures.value) c.fit-item.is in
     let left = next_fit_left c.self.inside.limits _ _ _ fits _ _ c.self.invariant (length fits) c.self.invariant.fitted.count c.loop-fit.fit-index c.fit-item.result inside at in
     let its = next_fit c.self.inside.limits _ _ _ fits _ _ c.self.invariant (length fits) c.self.invariant.fitted.count c.loop-fit.fit-index c.fit-item.result inside at in
-    let chunks = fit_count g.M.MemoryObject.object c.fit-item.result its.sound.space.one_object c.chunks-in-loop-fit.result c.chunks-in-loop-fit.ensures in
+    let chunks = (fit_rows g.M.MemoryObject.object c.fit-item.result its.sound.space.one_object c.chunks-in-loop-fit.result c.chunks-in-loop-fit.ensures _ its.for_type.memory_type).count in
     let rest = map fit_part (drop (c.loop-fit.fit-index + 1) fits) in
     let counted = rw (c.deref-fit-items.ensures.value, left) at c.loop-fit.invariant in
     rw c.deref-fit-items.ensures.value (counted_next _ c.loop-fit.count c.len-count-in-loop-fit.result (fit_part c.fit-item.result) rest counted (omega (arith, chunks, c.len-count-in-loop-fit.ensures.value)))

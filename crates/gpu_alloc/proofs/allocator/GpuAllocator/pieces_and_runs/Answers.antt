@@ -4,9 +4,9 @@ use Rattle.gpu_alloc_base.specs.RangeOrder.{same_start}
 use Rattle.gpu_alloc.specs.FreeRanges.{IsFreeRangeOf}
 use Rattle.gpu_alloc_block.specs.State.{State}
 use Rattle.gpu_alloc.proofs.Linked.{consistent}
-use Rattle.gpu_alloc.proofs.Buddies.Grants.{serves as serves_buddy}
+use Rattle.gpu_alloc.proofs.Buddies.Named.{buddy_is_named, buddy_named}
 use Rattle.gpu_alloc.proofs.Fits.Named.{fit_is_named, fit_named}
-use Rattle.gpu_alloc.proofs.FreeLists.Types.{serves_own}
+use Rattle.gpu_alloc.proofs.FreeLists.Named.{list_is_named, list_named}
 use Rattle.gpu_alloc.proofs.Shared.Calls.{serves}
 use Rattle.gpu_alloc.proofs.FreeRanges.{pieces_and_runs, all_apart}
 use Rattle.gpu_alloc.proofs.allocator.GpuAllocator.pieces_and_runs.Goals as goal
@@ -15,8 +15,8 @@ pub put_in_order-requires : goal.put_in_order-requires
 put_in_order-requires g c =
     let known = rw (← c.self.view_is) at c.requires in
     let kept = consistent _ _ _ _ _ _ _ _ _ c.self.invariant in
-    let of_buddy = serves_buddy c.self.inside.limits _ _ _ _ _ _ c.args.memory_type c.index.result.now kept known c.index.ensures in
-    let of_list = serves_own c.self.inside.limits _ _ _ _ _ _ c.args.memory_type c.index-2.result.now kept known c.index-2.ensures in
+    let of_buddy = serves {n = buddy_named} buddy_is_named {l = c.self.inside.limits} (record { kept = c.self.invariant; known = known; at = c.index.ensures }) in
+    let of_list = serves {n = list_named} list_is_named {l = c.self.inside.limits} (record { kept = c.self.invariant; known = known; at = c.index-2.ensures }) in
     let of_fits = serves {n = fit_named} fit_is_named {l = c.self.inside.limits} (record { kept = c.self.invariant; known = known; at = c.index-3.ensures }) in
     let pieces = c.in_ok-ranges.ranges.items in
     let runs = c.in_ok-runs.runs.items in
@@ -30,8 +30,8 @@ pub returns-clause-exact : goal.returns-clause-exact
 returns-clause-exact g c r =
     let known = rw (← c.self.view_is) at c.requires in
     let kept = consistent _ _ _ _ _ _ _ _ _ c.self.invariant in
-    let of_buddy = serves_buddy c.self.inside.limits _ _ _ _ _ _ c.args.memory_type c.index.result.now kept known c.index.ensures in
-    let of_list = serves_own c.self.inside.limits _ _ _ _ _ _ c.args.memory_type c.index-2.result.now kept known c.index-2.ensures in
+    let of_buddy = serves {n = buddy_named} buddy_is_named {l = c.self.inside.limits} (record { kept = c.self.invariant; known = known; at = c.index.ensures }) in
+    let of_list = serves {n = list_named} list_is_named {l = c.self.inside.limits} (record { kept = c.self.invariant; known = known; at = c.index-2.ensures }) in
     let of_fits = serves {n = fit_named} fit_is_named {l = c.self.inside.limits} (record { kept = c.self.invariant; known = known; at = c.index-3.ensures }) in
     let pieces = c.in_ok-ranges.ranges.items in
     let runs = c.in_ok-runs.runs.items in

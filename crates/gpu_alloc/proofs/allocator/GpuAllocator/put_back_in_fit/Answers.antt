@@ -4,7 +4,8 @@ use Rattle.gpu_alloc_base.specs.declared.free_list_block.Slot.{Slot}
 use Rattle.gpu_alloc_fits.specs.Space.{IsLiveFitSpan}
 use Rattle.gpu_alloc.proofs.Linked.{consistent}
 use Rattle.gpu_alloc.proofs.Fits.Named.{fit_at_once, fit_is_named, fit_named, span_there}
-use Rattle.gpu_alloc.proofs.Shared.Calls.{Handed, agrees_before, counted_before, handed, IsBlockOf, IsReturned, back, block_there, known_type}
+use Rattle.gpu_alloc.proofs.Shared.Calls.{Handed, agrees_before, counted_before, handed, IsBlockOf, IsReturned, back, known_type}
+use Rattle.gpu_alloc.proofs.Shared.Owned.{block_of}
 use Rattle.gpu_alloc.proofs.Soundness.{sound_is}
 use Rattle.gpu_alloc.proofs.allocator.GpuAllocator.put_back_in_fit.Given.{Over}
 use Rattle.gpu_alloc.proofs.allocator.GpuAllocator.put_back_in_fit.Goals as goal
@@ -27,7 +28,7 @@ index_mut-requires-2 g c =
 pub dealloc_fit-requires-clause-live : goal.dealloc_fit-requires-clause-live
 dealloc_fit-requires-clause-live g c =
     let owned = rw (← c.self.view_is) at c.requires.owned in
-    let there = block_there fit_is_named (fields g c) owned c.memory_type-memory_type.ensures 0 c.requires.shared in
+    let there = block_of fit_is_named (fields g c).has c.memory_type-memory_type.ensures owned 0 c.requires.shared in
     (there.0, span_there _ _ there.0 _ _ _ there.1 c.into_memory-memory.ensures c.offset-offset.ensures c.size-size.ensures)
 
 pub dealloc_fit-requires-clause-agrees : goal.dealloc_fit-requires-clause-agrees
@@ -47,7 +48,7 @@ given g c =
 the_slot : (g : Over) (c : goal.After-self-2-1 g) → (slot : Slot) × IsBlockOf fit_named c.index_mut.result.now slot c.args.block
 the_slot g c =
     let owned = rw (← c.self.view_is) at c.requires.owned in
-    block_there fit_is_named (given g c) owned c.memory_type-memory_type.ensures 0 c.requires.shared
+    block_of fit_is_named (given g c).has c.memory_type-memory_type.ensures owned 0 c.requires.shared
 
 the_span : (g : Over) (c : goal.After-self-2-1 g) → IsLiveFitSpan c.index_mut.result.now.space (g.M.MemoryObject.object c.into_memory-memory.result) c.offset-offset.result c.size-size.result (the_slot g c).0
 the_span g c = span_there _ _ (the_slot g c).0 _ _ _ (the_slot g c).1 c.into_memory-memory.ensures c.offset-offset.ensures c.size-size.ensures

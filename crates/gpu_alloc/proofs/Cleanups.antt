@@ -27,8 +27,8 @@ use Rattle.gpu_alloc_base.specs.declared.heap.Heap.{Heap}
 use Rattle.gpu_alloc.specs.declared.limits.Limits.{Limits}
 use Rattle.gpu_alloc.proofs.Consistency.{known_object}
 use Rattle.gpu_alloc.proofs.Ledgers.{Held}
-use Rattle.gpu_alloc.proofs.FreeLists.Going.{objects_more, lets_more}
-use Rattle.gpu_alloc.proofs.FreeLists.Gone.{AgreeOnFits, AgreeOnType, agree_back, agree_after, fits_agree, fits_back, type_agrees, kept_was, kept_is}
+use Rattle.gpu_alloc.proofs.GoneObjects.{kept_is, kept_was, lets_more, objects_more}
+use Rattle.gpu_alloc.proofs.SameTypes.{AgreeOnFits, AgreeOnType, agree_after, agree_back, agree_without, fits_agree, type_agrees}
 use Rattle.gpu_alloc_base.proofs.Lists.{contains_none}
 use Rattle.gpu_alloc_base.proofs.Maps.{one_value}
 use Rattle.gpu_alloc.proofs.Soundness.{sound_is}
@@ -38,35 +38,17 @@ use Rattle.gpu_alloc_fit.specs.Fit.{FitState}
 
 -- what went of the free list leaves the fit chunks
 fits_stay : (s now : State) (t : ℕ) (listed : List ℕ) → AreChunksReleased s t false listed → now.held ≡ without_all s.held listed → now.live ≡ s.live → AgreeOnFits s now t
-fits_stay s now t listed chunks held live = record {
-  to = λ object is. record {
-    chunk = is.chunk;
-    held = ap (λ (m : Held). finite.get m object) held ∙ kept_is s.held listed object (λ has. other object is has) ∙ is.held;
-    of_type = is.of_type;
-    of_kind = is.of_kind;
-  };
-  from = λ object is. record {
-    chunk = is.chunk;
-    held = (kept_was s.held listed object is.chunk (ap (λ (m : Held). finite.get m object) (sym held) ∙ is.held)).1;
-    of_type = is.of_type;
-    of_kind = is.of_kind;
-  };
-  live = live;
-}
-  where
-    other : (object : ℕ) → IsFitChunk s t object → Contains listed object → ⊥
-    other object is has =
-        let may = (chunks.all object).0 has in
-        let one : is.chunk ≡ may.1.chunk.chunk = one_value _ is.chunk may.1.chunk.chunk is.held may.1.chunk.held in
-        let kinds : FitChunk ≡ FreeListChunk may.0 = sym is.of_kind ∙ ap (λ (h : HeldObject). h.kind) one ∙ may.1.chunk.of_kind in
-        cc
+fits_stay s now t listed chunks held live = agree_without _ s now listed held live (λ object h has is of.
+    let may = (chunks.all object).0 has in
+    let kinds : FitChunk ≡ FreeListChunk may.0 = sym of.1 ∙ ap (λ (x : HeldObject). x.kind) (one_value _ h may.1.chunk.chunk is may.1.chunk.held) ∙ may.1.chunk.of_kind in
+    absurd (cc))
 
 pub type_goes : (s now after : State) (objects objects_now objects_after : ℕ → Option Object) (t : ℕ) (listed fitted : List ℕ) (es fs : List Event) → ReleasesChunks s t false listed es now objects objects_now
     → ReleasesFitChunks now t fitted fs after objects_now objects_after → ReleasesType s t (listed ++ fitted) (es ++ fs) after objects objects_after
 type_goes s now after objects objects_now objects_after t listed fitted es fs first then =
     let stay = fits_stay s now t listed first.chunks (ap (λ (x : State). x.held) first.lets.1) (ap (λ (x : State). x.live) first.lets.1) in
     record {
-      chunks = record { listed = listed; fitted = fitted; both = refl; of_list = first.chunks; of_fits = fits_agree now s t (fits_back s now t stay) fitted then.chunks };
+      chunks = record { listed = listed; fitted = fitted; both = refl; of_list = first.chunks; of_fits = fits_agree (agree_back stay) fitted then.chunks };
       lets = lets_more s now after listed fitted es fs first.lets then.lets;
       objects = then.objects ∙ ap (λ f. without_objects f fitted) first.objects ∙ sym (objects_more objects listed fitted);
     }
@@ -84,7 +66,7 @@ pub cleaning_goes_on : (s now after : State) (p q : Properties) (objects objects
     → ReleasesType now t own fs after objects_now objects_after → Agrees after q objects_after → total after ≡ total now
     → IsCleaning s objects (t + 1) (gone ++ own) (es ++ fs) after q objects_after
 cleaning_goes_on s now after p q objects objects_now objects_after t gone own es fs w gives agrees whole = record {
-  all = subst (λ n. AreAllReleased s n (gone ++ own)) (sym (add-one t)) (gone, own, refl, w.all, type_agrees now s t (agree_back s now t same_type) own gives.chunks);
+  all = subst (λ n. AreAllReleased s n (gone ++ own)) (sym (add-one t)) (gone, own, refl, w.all, type_agrees (agree_back same_type) own gives.chunks);
   lets = lets_more s now after gone own es fs w.lets gives.lets;
   objects_are = gives.objects ∙ ap (λ f. without_objects f own) w.objects_are ∙ sym (objects_more objects gone own);
   agrees = agrees;
