@@ -16,7 +16,7 @@ use Rattle.gpu_alloc_block.specs.declared.block.Kind.TheVariants.{Dedicated, Imp
 use Rattle.gpu_alloc_buddy.specs.Buddy.{IsPieceOf}
 use Rattle.gpu_alloc_buddy.specs.BuddyState.{Buddy}
 use Rattle.gpu_alloc_fit.specs.Fit.{FitState}
-use Rattle.gpu_alloc_fits.specs.Space.{IsFitRunOf}
+use Rattle.gpu_alloc_runs.specs.Space.{IsFitRunOf}
 use Rattle.gpu_alloc_freelist.specs.FreeListAllocator.{IsRunOf}
 use Rattle.gpu_alloc_freelist.specs.FreeListState.{FreeListState, IsFreeIn}
 use Rattle.gpu_alloc.specs.FreeBytes.{IsFreeByte}

@@ -37,7 +37,7 @@ use Rattle.gpu_alloc.proofs.Atoms.{atom_power}
 use Rattle.gpu_alloc_base.proofs.Maps.{one_value}
 use Rattle.gpu_alloc_base.proofs.PowersOfTwo.{power_of_bit}
 use Rattle.gpu_alloc_fit.specs.Fit.{FitState}
-use Rattle.gpu_alloc_fits.specs.Space.{IsWhollyFree, IsLiveSlot as IsLiveFit}
+use Rattle.gpu_alloc_runs.specs.Space.{IsWhollyFree, IsLiveSlot as IsLiveFit}
 
 -- two ranges with no byte in both are apart
 pub ranges_apart : (a m b n : ℕ) → 0 < m → 0 < n → ((at : ℕ) → IsIn a m at → IsIn b n at → ⊥) → (a + m ≤ b) ⊎ (b + n ≤ a)

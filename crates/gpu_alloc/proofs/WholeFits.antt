@@ -11,9 +11,9 @@ use Rattle.gpu_alloc_block.specs.State.{Span, span_cmp}
 use Rattle.gpu_alloc_block.specs.declared.block.Kind.TheVariants.{FitChunk}
 use Rattle.gpu_alloc_fit.specs.Fit.{FitState}
 use Rattle.gpu_alloc_fit.specs.FitSound.{IsSoundFit}
-use Rattle.gpu_alloc_fits.specs.Inside.{chunk_of_row, leaf_of_slot}
-use Rattle.gpu_alloc_fits.specs.Listed.{ListsChunks}
-use Rattle.gpu_alloc_fits.specs.declared.fits.Chunk.{Chunk as Row}
+use Rattle.gpu_alloc_runs.specs.Inside.{chunk_of_row, leaf_of_slot}
+use Rattle.gpu_alloc_runs.specs.Listed.{ListsChunks}
+use Rattle.gpu_alloc_runs.specs.declared.fits.Chunk.{Chunk as Row}
 use Rattle.gpu_alloc.specs.Inside.{fit_object, span_of_slot}
 use Rattle.gpu_alloc.specs.Listing.{AreOnce}
 use Rattle.gpu_alloc.specs.Spans.{span_in}

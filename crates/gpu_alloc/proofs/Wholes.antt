@@ -29,7 +29,7 @@ use Rattle.gpu_alloc_pairs.proofs.LiveSpans.{one_leaf}
 use Rattle.gpu_alloc_freelist.specs.FreeListSound.{IsSoundFreeList}
 use Rattle.gpu_alloc_freelist.specs.FreeListState.{FreeListState, IsLiveSlot}
 use Rattle.gpu_alloc_fit.specs.FitSound.{IsSoundFit}
-use Rattle.gpu_alloc_fits.specs.Space.{IsLiveSlot as IsLiveFit}
+use Rattle.gpu_alloc_runs.specs.Space.{IsLiveSlot as IsLiveFit}
 use Rattle.gpu_alloc.specs.Inside.{chunk_object, fit_object, list_object, span_of_leaf, span_of_slot}
 use Rattle.gpu_alloc.specs.Own.{OwnTable, own_held, own_span, IsRowOf}
 use Rattle.gpu_alloc.specs.declared.own.OwnRow.{OwnRow}

@@ -11,7 +11,7 @@ use Rattle.gpu_alloc_base.specs.NewChunk.{ChunkQuestion, flags_of}
 use Rattle.gpu_alloc_base.specs.Sizes.{up, down, starting_size, final_size, grown_chunk, doubled_chunk}
 use Rattle.gpu_alloc_base.specs.declared.config.Config.{Config}
 use Rattle.gpu_alloc_base.specs.declared.region.FreeListRegion.{FreeListRegion}
-use Rattle.gpu_alloc_fits.specs.Choice.{IsChosenRun}
+use Rattle.gpu_alloc_runs.specs.Choice.{IsChosenRun}
 use Rattle.gpu_alloc_block.specs.State.{HeldObject, Span, Block, TypeState, State, granted_block}
 
 -- The grain of fit chunks, in bytes: 256, or the atom where that is larger. Fit chunks have whole grains, and blocks in

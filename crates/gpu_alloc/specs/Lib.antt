@@ -64,7 +64,7 @@ pub use Rattle.gpu_alloc_buddy.specs.BuddyState
 pub use Rattle.gpu_alloc_buddy.specs.BuddySteps
 pub use Rattle.gpu_alloc_fit.specs.Fit
 pub use Rattle.gpu_alloc_fit.specs.FitSound
-pub use Rattle.gpu_alloc_fits.specs.Space as FitSpace
+pub use Rattle.gpu_alloc_runs.specs.Space as FitSpace
 pub use Rattle.gpu_alloc_freelist.specs.FreeList
 pub use Rattle.gpu_alloc_freelist.specs.FreeListAllocator
 pub use Rattle.gpu_alloc_freelist.specs.FreeListSound

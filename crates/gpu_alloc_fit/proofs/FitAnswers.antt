@@ -19,8 +19,8 @@ use Rattle.gpu_alloc_base.proofs.Slots.{slot_inserted}
 use Rattle.gpu_alloc_fit.specs.Fit.{Adds, FitState, IsGranted, KeepsSettings, alignment, case_of, chunk_size, fitting_in_new_chunk, fitting_with_slot, next_size, rounded}
 use Rattle.gpu_alloc_fit.specs.FitRule.{IsFitAsk, Serves, fit_ask, fit_rule}
 use Rattle.gpu_alloc_fit.specs.FitSound.{IsSoundFit}
-use Rattle.gpu_alloc_fits.specs.Fits.{TakesFit}
-use Rattle.gpu_alloc_fits.specs.Space.{BeginsFitChunk, FitSpace, IsFitting, IsLiveSlot, IsSoundFitSpace, with_chunk, with_slot}
+use Rattle.gpu_alloc_runs.specs.Fits.{TakesFit}
+use Rattle.gpu_alloc_runs.specs.Space.{BeginsFitChunk, FitSpace, IsFitting, IsLiveSlot, IsSoundFitSpace, with_chunk, with_slot}
 use Rattle.gpu_alloc_shared.specs.Shared.{Takes}
 use Rattle.gpu_alloc_shared.specs.declared.store.Ask.{Ask}
 use Rattle.gpu_alloc_fit.proofs.FitSizes.{chunk_size_atoms, chunk_size_bound, chunk_size_enough, next_size_sound}

@@ -11,8 +11,8 @@ use Rattle.gpu_alloc_base.proofs.Multiples.{mod_from_multiple, multiple_from_mod
 use Rattle.gpu_alloc_fit.specs.Fit.{FitState}
 use Rattle.gpu_alloc_fit.specs.FitRule.{Looks, fit_rule}
 use Rattle.gpu_alloc_fit.specs.FitSound.{IsSoundFit}
-use Rattle.gpu_alloc_fits.specs.Choice.{AreFewLooks, BeginsClass, IsRun}
-use Rattle.gpu_alloc_fits.specs.Space.{FitSpace, IsFreeIn, LooksAtFew}
+use Rattle.gpu_alloc_runs.specs.Choice.{AreFewLooks, BeginsClass, IsRun}
+use Rattle.gpu_alloc_runs.specs.Space.{FitSpace, IsFreeIn, LooksAtFew}
 use Rattle.gpu_alloc_shared.specs.Shared.{Counted, CountsRefusing}
 use Rattle.gpu_alloc_shared.specs.declared.store.Ask.{Ask}
 

@@ -10,9 +10,9 @@ use Rattle.gpu_alloc_base.proofs.Slots.{slot_removed}
 use Rattle.gpu_alloc_fit.specs.Fit.{FitState}
 use Rattle.gpu_alloc_fit.specs.FitRule.{fit_rule}
 use Rattle.gpu_alloc_fit.specs.FitSound.{IsSoundFit}
-use Rattle.gpu_alloc_fits.specs.Fits.{PutsBack}
-use Rattle.gpu_alloc_fits.specs.Space as spaces
-use Rattle.gpu_alloc_fits.specs.Space.{FitSpace, IsLiveSlot, IsSoundFitSpace, IsWhollyFree}
+use Rattle.gpu_alloc_runs.specs.Fits.{PutsBack}
+use Rattle.gpu_alloc_runs.specs.Space as spaces
+use Rattle.gpu_alloc_runs.specs.Space.{FitSpace, IsLiveSlot, IsSoundFitSpace, IsWhollyFree}
 use Rattle.gpu_alloc_shared.specs.Shared.{without_block, without_chunk}
 
 -- What is sound stays so, with fewer blocks and fewer chunks.

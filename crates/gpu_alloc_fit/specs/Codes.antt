@@ -3,8 +3,8 @@ use Rattle.std.specs.Prelude.{ℕ, refl}
 use Rattle.std.specs.Coded.{Coded, code_by, coded×, coded_ℕ}
 use Rattle.gpu_alloc_fit.specs.FitState.{FitState}
 use Rattle.gpu_alloc_fit.specs.FitRule.{Stored}
-use Rattle.gpu_alloc_fits.specs.Codes.{fit_space_code}
-use Rattle.gpu_alloc_fits.specs.Space.{FitSpace}
+use Rattle.gpu_alloc_runs.specs.Codes.{fit_space_code}
+use Rattle.gpu_alloc_runs.specs.Space.{FitSpace}
 
 abbrev pub fitting_code : Coded FitState
 fitting_code =

@@ -7,7 +7,7 @@ use Rattle.gpu_alloc_base.specs.Slots.{slot_cmp}
 use Rattle.gpu_alloc_base.specs.declared.free_list_block.Slot.{Slot}
 use Rattle.gpu_alloc_fit.specs.FitState.{FitState, chunk_size, fitting_in_new_chunk}
 use Rattle.gpu_alloc_fit.specs.FitSound.{IsSoundFit}
-use Rattle.gpu_alloc_fits.specs.Space.{BeginsFitChunk, HasPlace, IsFitting, IsSpare, IsWhollyFree, LooksAtFew, bytes_of, neighbours, without_slot}
+use Rattle.gpu_alloc_runs.specs.Space.{BeginsFitChunk, HasPlace, IsFitting, IsSpare, IsWhollyFree, LooksAtFew, bytes_of, neighbours, without_slot}
 use Rattle.gpu_alloc_shared.specs.Rule.{IsLawful, Rule}
 use Rattle.gpu_alloc_shared.specs.declared.store.Ask.{Ask}
 

@@ -3,7 +3,7 @@ use Rattle.std.specs.Prelude.{ℕ, ◌+◌, max}
 use Rattle.gpu_alloc_base.specs.Sizes.{doubled_chunk, grown_chunk, up}
 use Rattle.gpu_alloc_base.specs.Wanted.{Wanted}
 use Rattle.gpu_alloc_base.specs.declared.free_list_block.Slot.{Slot}
-use Rattle.gpu_alloc_fits.specs.Space.{FitSpace, with_chunk, with_slot}
+use Rattle.gpu_alloc_runs.specs.Space.{FitSpace, with_chunk, with_slot}
 
 -- An allocator of exact runs: its space, the next chunk's least size, the largest chunk, the memory type with its
 -- property bits, and the atom, of which chunk and block sizes are multiples.

@@ -11,14 +11,14 @@ ghost use Rattle.gpu_alloc_base.specs.Wanted.{requested};
 ghost use Rattle.gpu_alloc_fit.specs.Fit as fit;
 ghost use Rattle.gpu_alloc_fit.specs.FitRule.{HasRooms, Looks, Serves, fit_ask, fit_lawful, fit_rule};
 ghost use Rattle.gpu_alloc_fit.specs.FitSound.{IsSoundFit};
-ghost use Rattle.gpu_alloc_fits.specs.Space.{IsLiveFitSpan};
+ghost use Rattle.gpu_alloc_runs.specs.Space.{IsLiveFitSpan};
 ghost use Rattle.gpu_alloc_shared.specs.Shared.{case_of};
 
 use gpu_alloc_base::AllocationError;
 use gpu_alloc_base::heap::Heap;
 use gpu_alloc_base::sizes::next_power_of_two;
 use gpu_alloc_base::steps::Steps;
-use gpu_alloc_fits::{FitBlock, Fits};
+use gpu_alloc_runs::{FitBlock, Fits};
 use gpu_alloc_shared::{Ask, BlockSpan, Store, serving};
 use gpu_alloc_types::{AllocationFlags, MemoryObject, MemoryPropertyFlags, ObjectDevice};
 use std::alloc::{AllocError, Allocator, Global};

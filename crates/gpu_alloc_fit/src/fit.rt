@@ -19,9 +19,9 @@ ghost use Rattle.gpu_alloc_fit.specs.Fit.{Adds, Agrees, CallAllocates, Cleans, F
 ghost use Rattle.gpu_alloc_fit.specs.Fit.{IsGranted, KeepsSettings, Leaves, LeavesNoRest, ObjectsAfter};
 ghost use Rattle.gpu_alloc_fit.specs.Fit.{ObjectsFreed, Removes, case_of, opened};
 ghost use Rattle.gpu_alloc_fit.specs.FitSound.{IsSoundFit};
-ghost use Rattle.gpu_alloc_fits.specs.Choice.{BeginsClass};
-ghost use Rattle.gpu_alloc_fits.specs.Listed.{AddsSlots, ListsChunks};
-ghost use Rattle.gpu_alloc_fits.specs.Space.{HasPlace, IsFitRunOf, IsLiveFitSpan, IsLiveSlot, IsNoLiveFitSpan, LooksAtFew, neighbours};
+ghost use Rattle.gpu_alloc_runs.specs.Choice.{BeginsClass};
+ghost use Rattle.gpu_alloc_runs.specs.Listed.{AddsSlots, ListsChunks};
+ghost use Rattle.gpu_alloc_runs.specs.Space.{HasPlace, IsFitRunOf, IsLiveFitSpan, IsLiveSlot, IsNoLiveFitSpan, LooksAtFew, neighbours};
 
 use crate::chunks::FitChunks;
 use gpu_alloc_base::AllocationError;
@@ -29,7 +29,7 @@ use gpu_alloc_base::buddy_block::Leaf;
 use gpu_alloc_base::free_list_block::Slot;
 use gpu_alloc_base::heap::Heap;
 use gpu_alloc_base::steps::Steps;
-use gpu_alloc_fits::{Chunk, FitBlock, Fits, into_parts};
+use gpu_alloc_runs::{Chunk, FitBlock, Fits, into_parts};
 use gpu_alloc_shared::{BlockSpan, Store, returning, serving};
 use gpu_alloc_types::{
     AllocationFlags, FreeRange, MemoryObject, MemoryPropertyFlags, ObjectDevice,

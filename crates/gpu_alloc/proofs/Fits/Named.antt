@@ -21,8 +21,8 @@ use Rattle.gpu_alloc_block.specs.State.{Block, HeldObject, Span, State, TypeStat
 use Rattle.gpu_alloc_block.specs.declared.block.Kind.TheVariants.{FitChunk}
 use Rattle.gpu_alloc_fit.specs.Fit.{FitState, case_of, chunk_size, fit_case}
 use Rattle.gpu_alloc_fit.specs.FitRule.{fit_ask, fit_lawful, fit_rule}
-use Rattle.gpu_alloc_fits.specs.Choice.{FirstLackRoom, IsChosenRun, IsWholeRun, class_of_run}
-use Rattle.gpu_alloc_fits.specs.Space.{IsFitting, IsFreeIn, IsLiveFitSpan, IsSpare, IsWhollyFree, chunk_bytes, no_fit_space, size_of, without_slot}
+use Rattle.gpu_alloc_runs.specs.Choice.{FirstLackRoom, IsChosenRun, IsWholeRun, class_of_run}
+use Rattle.gpu_alloc_runs.specs.Space.{IsFitting, IsFreeIn, IsLiveFitSpan, IsSpare, IsWhollyFree, chunk_bytes, no_fit_space, size_of, without_slot}
 use Rattle.gpu_alloc_shared.specs.Shared.{without_block}
 use Rattle.gpu_alloc_shared.specs.declared.store.Ask.{Ask}
 use Rattle.gpu_alloc.specs.BuddySharing.{object_front}

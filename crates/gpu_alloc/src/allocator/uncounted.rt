@@ -17,7 +17,7 @@ ghost use Rattle.gpu_alloc_buddy.specs.BuddySound.{IsSoundBuddy};
 ghost use Rattle.gpu_alloc_buddy.specs.BuddyState.{IsLiveBuddyLeaf};
 ghost use Rattle.gpu_alloc_fit.specs.Fit as fit;
 ghost use Rattle.gpu_alloc_fit.specs.FitSound as fit_sound;
-ghost use Rattle.gpu_alloc_fits.specs.Space.{IsLiveFitSpan};
+ghost use Rattle.gpu_alloc_runs.specs.Space.{IsLiveFitSpan};
 
 use gpu_alloc_base::heap::Heap;
 use gpu_alloc_base::steps::Steps;

@@ -12,7 +12,7 @@ use gpu_alloc::heap::Heap;
 use gpu_alloc::steps::Steps;
 use gpu_alloc::{AllocationError, AllocationFlags};
 use gpu_alloc_fit::{FitAllocator, FitBlock};
-use gpu_alloc_fits::{into_parts, key_of};
+use gpu_alloc_runs::{into_parts, key_of};
 use gpu_alloc_types::MemoryObject;
 use gpu_sim::{Cause, Question, Sim, SimMemory};
 use std::alloc::{AllocError, Global};

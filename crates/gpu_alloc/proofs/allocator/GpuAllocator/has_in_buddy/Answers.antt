@@ -10,7 +10,7 @@ returns-in-Some g c =
     let at = rw (c.deref.ensures.value, c.memory_type.ensures) at c.in-Some.ensures.lookup in
     let found = rw (c.object-object.ensures, c.memory.ensures, c.offset.ensures, c.size.ensures) at c.find.ensures.found in
     let has : Has buddy_named c.self.inside.limits c.self.inside.heaps.items (record { buddies = c.self.inside.buddies.items; lists = c.self.inside.free_lists.items; fits = c.self.inside.fits.items }) c.self.inside.own c.self.inside.allocations_remains c.args.block.now.memory_type c.in-Some.buddy.now
-        = record { kept = c.self.invariant; known = omega (arith, at.3.0, c.self.invariant.shared.count); at = at.1 } in
+    = record { kept = c.self.invariant; known = omega (arith, at.3.0, c.self.invariant.shared.count); at = at.1 } in
     let owned = found_owned buddy_is_named has refl (λ leaf. leaf) c.find.result 0 c.requires found (λ leaf is none. none leaf (leaf_there _ _ leaf is)) (λ leaf is. leaf_is _ _ leaf c.requires is) in
     rw (← c.self.view_is, c.is_some.ensures) owned
 

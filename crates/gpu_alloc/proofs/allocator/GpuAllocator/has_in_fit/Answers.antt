@@ -10,7 +10,7 @@ returns-in-Some g c =
     let at = rw (c.deref.ensures.value, c.memory_type.ensures) at c.in-Some.ensures.lookup in
     let found = rw (c.object-object.ensures, c.memory.ensures, c.offset-offset.ensures, c.size-size.ensures) at c.find.ensures.found in
     let has : Has fit_named c.self.inside.limits c.self.inside.heaps.items (record { buddies = c.self.inside.buddies.items; lists = c.self.inside.free_lists.items; fits = c.self.inside.fits.items }) c.self.inside.own c.self.inside.allocations_remains c.args.block.now.memory_type c.in-Some.fit.now
-        = record { kept = c.self.invariant; known = omega (arith, at.3.0, c.self.invariant.fitted.count); at = at.1 } in
+    = record { kept = c.self.invariant; known = omega (arith, at.3.0, c.self.invariant.fitted.count); at = at.1 } in
     let owned = found_owned fit_is_named has refl (λ found. found.0) c.find.result 0 c.requires found (λ slot is none. none slot (span_there _ _ slot _ _ _ is refl refl refl)) (λ found is. slot_is _ _ found.0 c.requires is) in
     rw (← c.self.view_is, c.is_some.ensures) owned
 

@@ -12,7 +12,7 @@ returns-in-Some g c =
     let at = rw (c.deref.ensures.value, c.memory_type.ensures) at c.in-Some.ensures.lookup in
     let tells = rw (c.object.ensures, c.memory.ensures, c.offset.ensures, c.size.ensures) at c.is_live.ensures in
     let has : Has list_named c.self.inside.limits c.self.inside.heaps.items (record { buddies = c.self.inside.buddies.items; lists = c.self.inside.free_lists.items; fits = c.self.inside.fits.items }) c.self.inside.own c.self.inside.allocations_remains c.args.block.now.memory_type c.in-Some.list.now
-        = record { kept = c.self.invariant; known = omega (arith, at.3.0, c.self.invariant.listed.count); at = at.1 } in
+    = record { kept = c.self.invariant; known = omega (arith, at.3.0, c.self.invariant.listed.count); at = at.1 } in
     let slot = slot_at (span_of c.args.block.now) c.args.number in
     rw (← c.self.view_is) (
       λ yes. owned_of list_is_named has refl slot (record { live = tells.0 yes; span = refl; kind = c.requires }),

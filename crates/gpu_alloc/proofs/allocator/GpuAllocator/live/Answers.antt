@@ -1,7 +1,7 @@
 use Rattle.std.proofs.Common.{◌≡◌, ◌<◌, ◌≤◌, ◌∙◌, ◌+◌, ◌++◌, [], List, ap, drop, get_or, length, map, subst, arith}
 use Rattle.std.proofs.lemmas.List.{map-append}
 use Rattle.gpu_alloc_block.specs.Parts.{Part}
-use Rattle.gpu_alloc_fits.specs.Inside.{leaf_of_slot}
+use Rattle.gpu_alloc_runs.specs.Inside.{leaf_of_slot}
 use Rattle.gpu_alloc.specs.Spans.{span_in}
 use Rattle.gpu_alloc.specs.Whole.{IsPartFor, buddy_part, fit_part, list_part, own_part, parts_of}
 use Rattle.gpu_alloc.proofs.WholeBuddies.{leaf_rows_are, leaf_rows_once}

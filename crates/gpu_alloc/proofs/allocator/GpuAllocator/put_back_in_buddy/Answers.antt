@@ -20,7 +20,7 @@ unreachable-requires g c =
     let name = c.object-object.ensures ∙ c.into_memory-memory.ensures in
     let known = known_type c.self.inside.limits c.self.invariant owned c.memory_type-memory_type.ensures in
     let has : Has buddy_named c.self.inside.limits c.self.inside.heaps.items (record { buddies = c.self.inside.buddies.items; lists = c.self.inside.free_lists.items; fits = c.self.inside.fits.items }) c.self.inside.own c.self.inside.allocations_remains c.memory_type-memory_type.result c.index.result.now
-        = record { kept = c.self.invariant; known = known; at = c.index.ensures } in
+    = record { kept = c.self.invariant; known = known; at = c.index.ensures } in
     let there = block_of buddy_is_named has c.memory_type-memory_type.ensures owned 0 c.requires.shared in
     let none : IsNoLiveBuddySpan c.index.result.now c.args.block.object c.args.block.offset c.args.block.size = rw (← name, ← c.offset-offset.ensures, ← c.size-size.ensures) (c.in_default.ensures.found) in
     none there.0 (leaf_there _ _ there.0 there.1)

@@ -1,7 +1,7 @@
 use Rattle.std.proofs.Common.{refl}
 use Rattle.gpu_alloc_base.specs.Accounts.{account}
 use Rattle.gpu_alloc_base.specs.declared.free_list_block.Slot.{Slot}
-use Rattle.gpu_alloc_fits.specs.Space.{IsLiveFitSpan}
+use Rattle.gpu_alloc_runs.specs.Space.{IsLiveFitSpan}
 use Rattle.gpu_alloc.proofs.Linked.{consistent}
 use Rattle.gpu_alloc.proofs.Fits.Named.{fit_at_once, fit_is_named, fit_named, span_there}
 use Rattle.gpu_alloc.proofs.Shared.Calls.{Handed, agrees_before, counted_before, handed, IsBlockOf, IsReturned, back, known_type}

@@ -3,7 +3,7 @@ use Rattle.gpu_alloc_types.specs.Flags.{property_bits}
 use Rattle.gpu_alloc_base.specs.declared.free_list_block.Slot.{Slot}
 use Rattle.gpu_alloc_fit.specs.Fit.{FitState}
 use Rattle.gpu_alloc_fit.specs.FitSound.{fitting_in}
-use Rattle.gpu_alloc_fits.specs.Space.{IsLiveFitSpan}
+use Rattle.gpu_alloc_runs.specs.Space.{IsLiveFitSpan}
 use Rattle.gpu_alloc_fit.proofs.FitReturns.{goes_so, sound_returned, stays_so}
 use Rattle.gpu_alloc_fit.proofs.chunks.FitChunksStore.put_back.Given.{Over}
 use Rattle.gpu_alloc_fit.proofs.chunks.FitChunksStore.put_back.Goals.{After-keeps_sound}

@@ -4,7 +4,7 @@ use Rattle.gpu_alloc_base.specs.Case.{Answers}
 use Rattle.gpu_alloc_base.specs.Sizes.{up}
 use Rattle.gpu_alloc_base.specs.Wanted.{Wanted, requested}
 use Rattle.gpu_alloc_fit.specs.Fit.{fit_case, rounded}
-use Rattle.gpu_alloc_fits.specs.Space.{HasPlace, LooksAtFew}
+use Rattle.gpu_alloc_runs.specs.Space.{HasPlace, LooksAtFew}
 use Rattle.gpu_alloc_fit.proofs.FitAnswers.{alignment_is, answers_granted}
 use Rattle.gpu_alloc_fit.proofs.FitLooks.{one_looked_at}
 use Rattle.gpu_alloc_fit.proofs.fit.FitAllocator.alloc.Goals as goal

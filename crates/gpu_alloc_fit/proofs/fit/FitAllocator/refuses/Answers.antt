@@ -5,7 +5,7 @@ use Rattle.gpu_alloc_base.specs.Sizes.{up}
 use Rattle.gpu_alloc_base.specs.Wanted.{Wanted, wanted}
 use Rattle.gpu_alloc_fit.specs.Fit.{fit_case, rounded}
 use Rattle.gpu_alloc_fit.specs.FitRule.{fit_ask}
-use Rattle.gpu_alloc_fits.specs.Space.{LooksAtFew}
+use Rattle.gpu_alloc_runs.specs.Space.{LooksAtFew}
 use Rattle.gpu_alloc_fit.proofs.FitAnswers.{alignment_is}
 use Rattle.gpu_alloc_fit.proofs.FitLooks.{one_looked_at, refusing_so}
 use Rattle.gpu_alloc_fit.proofs.fit.FitAllocator.refuses.Goals as goal

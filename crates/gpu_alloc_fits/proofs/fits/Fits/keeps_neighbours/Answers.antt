@@ -1,5 +1,0 @@
-use Rattle.gpu_alloc_fits.proofs.Neighbours.{touched}
-use Rattle.gpu_alloc_fits.proofs.fits.Fits.keeps_neighbours.Goals as goal
-
-pub returns : goal.returns
-returns g c = rw (← c.self.view_is) (touched g.M.MemoryObject.object c.self.inside.chunks c.self.inside.tiles c.self.invariant.stored.kept)

@@ -1,8 +1,0 @@
-use Rattle.gpu_alloc_fits.specs.Inside.{IsBlockTile, chunks_of_rows}
-use Rattle.gpu_alloc_fits.proofs.Searches.{AreLeft}
-use Rattle.gpu_alloc_fits.proofs.fits.search.Given as goal
-
-abbrev pub invariant-loop-key : goal.invariant-loop-key
-invariant-loop-key g l =
-    (goal.iterator-loop-key g).can_next l.key-iterator × (goal.iterator-loop-key g).is_finite l.key-iterator
-    × AreLeft l.tiles (IsBlockTile (chunks_of_rows g.M.MemoryObject.object l.chunks) l.object l.offset l.size) l.key-iterator
