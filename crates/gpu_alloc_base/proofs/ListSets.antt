@@ -1,16 +1,22 @@
 -- The set of a list's elements, as one is added or taken off.
-use Rattle.std.proofs.Common.{◌≡◌, Bool, true, false, ◌⊎◌, inl, inr, List, [], ◌∷◌, ◌++◌, refl, sym, ◌∙◌, subst, Equal}
+use Rattle.std.proofs.Common.{◌≡◌, ℕ, Bool, true, false, ◌⊎◌, inl, inr, List, [], ◌∷◌, ◌++◌, refl, sym, ◌∙◌, ap, subst, Equal}
 use Rattle.std.specs.declared.cmp.Ordering.{Ordering}
 use Rattle.std.specs.Bool.{Decides}
 use Rattle.std.specs.Cmp.{IsTotalOrder, Equal-is}
+use Rattle.std.specs.Cmp.Lexicographic.{slice_cmp}
+use Rattle.std.specs.FinMap.{nat_cmp-IsAntisymmetric, slice_cmp-IsAntisymmetric}
 use Rattle.std.specs.FinSet as set
 use Rattle.std.specs.List.{Contains}
-use Rattle.std.specs.Ordering.{eq_by_cmp}
+use Rattle.std.specs.Ordering.{eq_by_cmp, nat_cmp}
 use Rattle.std.proofs.lemmas.Bool.Decides.{same_from_decides, Decides-and, Decides-not, Decides-or}
 use Rattle.std.proofs.lemmas.Cmp.{eq_by_cmp_equiv}
 use Rattle.std.proofs.lemmas.Map.Views.{Contains-from_any, list_any-from_Contains}
 use mathlib.Core.Bool.{true≢false}
 use Rattle.gpu_alloc_base.proofs.Lists.{IsLess}
+
+-- keys in the order of their numbers, from which they are read back, are told apart by that order
+pub exact_by : {K : Type 0} (numbers : K → List ℕ) (read : List ℕ → K) → ((k : K) → read (numbers k) ≡ k) → (a b : K) → slice_cmp nat_cmp (numbers a) (numbers b) ≡ Equal → a ≡ b
+exact_by numbers read back a b e = sym (back a) ∙ ap read (slice_cmp-IsAntisymmetric nat_cmp-IsAntisymmetric (numbers a) (numbers b) e) ∙ back b
 
 module _ {K : Type 0} (R : K → K → Ordering) (total : IsTotalOrder R) (exact : (a b : K) → R a b ≡ Equal → a ≡ b) where
   pub key_test : (a b : K) → Decides (eq_by_cmp R a b) (a ≡ b)

@@ -26,7 +26,7 @@ module _ {K : Type 0} (R : K → K → Ordering) (test : (a b : K) → Decides (
   same_key : (a : K) → eq_by_cmp R a a ≡ true
   same_key a = (test a a).1 refl
 
-  other_key : (a b : K) → a ≢ b → eq_by_cmp R a b ≡ false
+  pub other_key : (a b : K) → a ≢ b → eq_by_cmp R a b ≡ false
   other_key a b other = split (eq_by_cmp R a b) refl
     where
       split : (t : Bool) → eq_by_cmp R a b ≡ t → t ≡ false

@@ -86,6 +86,9 @@ module _ {T : Type 0} where
         apart name (first + 1) rest (λ a b has_a has_b. one a b (contains_later (first, row) a es has_a) (contains_later (first, row) b es has_b)),
       )
 
+  pub keys_apart : (s : Slab T) → AreNamedApart (λ (e : ℕ × T). e.0) (entries s)
+  keys_apart s = apart (λ e. e.0) 0 s.slots (keys_once s)
+
   -- By what a row is called.
 
   module _ {K : Type 0} (name : T → K) where

@@ -1,27 +1,20 @@
 -- Live blocks of a free list in their order, and the set of a list of them.
-use Rattle.std.proofs.Common.{◌≡◌, true, ◌⊎◌, List, Equal}
+use Rattle.std.proofs.Common.{◌≡◌, true, ◌⊎◌, List, get_or, Equal, refl}
 use Rattle.std.specs.Bool.{Decides}
 use Rattle.std.specs.Cmp.{IsTotalOrder}
 use Rattle.std.specs.Cmp.Lexicographic.{on_texts}
-use Rattle.std.specs.FinMap.{nat_cmp-IsAntisymmetric, slice_cmp-IsAntisymmetric}
 use Rattle.std.specs.List.{Contains}
 use Rattle.std.specs.Ordering.{eq_by_cmp}
 use Rattle.gpu_alloc_base.specs.Slots.{slot_numbers, slot_cmp}
 use Rattle.gpu_alloc_base.specs.declared.free_list_block.Slot.{Slot}
-use Rattle.gpu_alloc_base.proofs.ListSets.{key_test, in_set, in_inserted, in_removed, same_or_left}
+use Rattle.gpu_alloc_base.proofs.ListSets.{exact_by, key_test, in_set, in_inserted, in_removed, same_or_left}
 use Rattle.std.specs.FinSet as set
 
 pub slot_total : IsTotalOrder slot_cmp
 slot_total = on_texts slot_numbers
 
 pub slot_exact : (a b : Slot) → slot_cmp a b ≡ Equal → a ≡ b
-slot_exact a b e =
-    let same : slot_numbers a ≡ slot_numbers b = slice_cmp-IsAntisymmetric nat_cmp-IsAntisymmetric (slot_numbers a) (slot_numbers b) e in
-    let object : a.object ≡ b.object = cc in
-    let chunk : a.chunk ≡ b.chunk = cc in
-    let offset : a.offset ≡ b.offset = cc in
-    let size : a.size ≡ b.size = cc in
-    λ i. record { object = object i; chunk = chunk i; offset = offset i; size = size i }
+slot_exact = exact_by slot_numbers (λ ns. record { object = get_or ns 0 0; chunk = get_or ns 1 0; offset = get_or ns 2 0; size = get_or ns 3 0 }) (λ slot. refl)
 
 pub slot_test : (a b : Slot) → Decides (eq_by_cmp slot_cmp a b) (a ≡ b)
 slot_test a b = key_test slot_cmp slot_total slot_exact a b

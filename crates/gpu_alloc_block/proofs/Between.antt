@@ -3,16 +3,18 @@ use Rattle.std.proofs.Common.{◌≡◌, ℕ, ◌<◌, ◌==◌, Bool, true, fal
 use Rattle.std.proofs.lemmas.Bool.Decides.{nat_tests}
 use Rattle.gpu_alloc_types.specs.Chains.{chain_append}
 use Rattle.gpu_alloc_types.specs.Properties.{Properties}
-use Rattle.gpu_alloc_types.specs.Device.{Object, Event, Range, Asked, Changes, HeldWith, IsMapped, IsMappedOver, IsUnmapped}
+use Rattle.gpu_alloc_types.specs.Device.{Object, Event, Range, Asked, Changes, HeldWith, IsMapped}
 use Rattle.gpu_alloc_types.specs.Device.Event.{Mapped, Unmapped}
 use Rattle.gpu_alloc_block.proofs.Changes.{some_same, changed_there, changes_none, changes_told, HoldsWhileMapped, changes_between}
 use Rattle.gpu_alloc_block.proofs.Keeping.{HasSameShape, IsRemapped, same_shape, keeps, agrees_moved}
+use Rattle.gpu_alloc_block.proofs.Moving.{not_read, not_written}
 use Rattle.gpu_alloc_block.proofs.Opened.{able_unmapped, own_unmapped}
-use Rattle.gpu_alloc_block.specs.Agreement.{IsHeldFor, KeepsAgreement}
-use Rattle.gpu_alloc_block.specs.Bytes.{HasOnlyOtherBytes, IsOpenForBytes, ChangesBytes, around, where_some}
+use Rattle.gpu_alloc_block.specs.Agreement.{BlockAgrees, IsHeldFor, KeepsAgreement}
+use Rattle.gpu_alloc_block.specs.Bytes.{HasOnlyOtherBytes, IsOpenForBytes, ChangesBytes, ReadsWithin, WritesWithin, around, where_some}
 use Rattle.gpu_alloc_block.specs.Mapped.{refusal, of_own, mapping_of, IsOpened, IsClosed}
-use Rattle.gpu_alloc_block.specs.Ranges.{rounded_range}
+use Rattle.gpu_alloc_block.specs.Ranges.{own_mapping, rounded_range}
 use Rattle.gpu_alloc_block.specs.State.{Block, is_shared}
+use Rattle.gpu_alloc_block.specs.declared.block.Mapping.{Mapping}
 
 -- What is asked.
 
@@ -63,18 +65,22 @@ still_mapped p b r f g held c =
     let mapped : c.2.0.mapped ≡ Some held.2.ready.mapped.inside.0 = c.2.1.same_mapping ∙ ap (λ o. o.mapped) (sym before) ∙ held.2.ready.mapped.inside.1 in
     (c.2.0, changed_there f b.object HasOnlyOtherBytes g c, subst IsSome (sym mapped) refl)
 
-module _ (p : Properties) (b : Block) (offset len : ℕ) (able : refusal b ≡ None) (f : ℕ → Option Object) (agrees : IsHeldFor b p f) where
-  abbrev r : Range
-  r = rounded_range b offset len
-
+module _ (p : Properties) (b : Block) (offset len : ℕ) (f : ℕ → Option Object) (agrees : BlockAgrees b p f) where
   -- what changes while the range is mapped changes from before the mapping to after it
-  pub through : (g h end : ℕ → Option Object) (P : Object → Object → Type 0) → HoldsWhileMapped P r → IsOpened (is_shared b.kind) r f g → IsClosed (is_shared b.kind) b.object h end → Changes P g b.object h → Changes P f b.object end
-  through g h end P holds opened closed c =
-      changes_between P r holds (is_shared b.kind) f g h end agrees.there.0 agrees.there.1 (λ own. own_unmapped p b agrees.there.0 agrees.there.2 (able_unmapped b able) own) opened c closed
+  pub through : refusal b ≡ None → (g h end : ℕ → Option Object) (P : Object → Object → Type 0) → HoldsWhileMapped P (rounded_range b offset len) → IsOpened (is_shared b.kind) (rounded_range b offset len) f g → IsClosed (is_shared b.kind) b.object h end → Changes P g b.object h → Changes P f b.object end
+  unfolding BlockAgrees
+  through able g h end P holds opened closed c =
+      changes_between P (rounded_range b offset len) holds (is_shared b.kind) f g h end agrees.there.0 agrees.there.1 (λ own. own_unmapped p b agrees.there.0 agrees.there.2 (able_unmapped b able) own) opened c closed
 
--- nothing has changed
-pub not_changed : (p : Properties) (b : Block) (f : ℕ → Option Object) (P : Object → Object → Type 0) → ((o : Object) → P o o) → IsHeldFor b p f → Changes P f b.object f
-not_changed p b f P same agrees = changes_none f b.object P agrees.there.0 agrees.there.1 (same agrees.there.0)
+  -- nothing is read
+  pub reads_none : Changes (ReadsWithin b offset len) f b.object f
+  unfolding BlockAgrees
+  reads_none = changes_none f b.object (ReadsWithin b offset len) agrees.there.0 agrees.there.1 (not_read b offset len agrees.there.0)
+
+  -- nothing is written
+  pub writes_none : Changes (WritesWithin b offset len) f b.object f
+  unfolding BlockAgrees
+  writes_none = changes_none f b.object (WritesWithin b offset len) agrees.there.0 agrees.there.1 (not_written b offset len agrees.there.0)
 
 -- the bytes of a block's object are changed so where there are some
 pub changes_some : (b : Block) (len : ℕ) (P : Object → Object → Type 0) (f g : ℕ → Option Object) → 0 < len → Changes P f b.object g → ChangesBytes b len P f g
@@ -86,16 +92,17 @@ agrees_with_other_bytes b p q f g P only same c agrees = agrees_moved b p q f g 
 pub keeps_with_other_bytes : (b : Block) (p q : Properties) (f g : ℕ → Option Object) (P : Object → Object → Type 0) → ((o new : Object) → P o new → HasOnlyOtherBytes o new) → q ≡ p → Changes P f b.object g → KeepsAgreement b p f q g
 keeps_with_other_bytes b p q f g P only same c = keeps b p f g (changes_told f b.object P (HasSameShape b) g (λ o new x. same_shape b o new (only o new x)) c) q same
 
--- Another mapping.
-
-module _ (p : Properties) (b : Block) (offset len : ℕ) (f g : ℕ → Option Object) (agrees : IsHeldFor b p f) where
-  remapped : (shared : Bool) → is_shared b.kind ≡ shared → IsOpened shared (rounded_range b offset len) f g → Changes (IsRemapped b (Some (mapping_of b offset len))) f b.object g
-  remapped true is same =
-      subst (λ objects. Changes (IsRemapped b (Some (mapping_of b offset len))) f b.object objects) (sym same)
-      (changes_none f b.object (IsRemapped b (Some (mapping_of b offset len))) agrees.there.0 agrees.there.1
+-- Another mapping: where the object is shared nothing has changed, and where it is the block's own its mapping has.
+module _ (p : Properties) (b : Block) (f g : ℕ → Option Object) (agrees : IsHeldFor b p f) where
+  remapped_shared : (m : Option Mapping) → is_shared b.kind ≡ true → g ≡ f → Changes (IsRemapped b m) f b.object g
+  remapped_shared m is same =
+      subst (λ objects. Changes (IsRemapped b m) f b.object objects) (sym same)
+      (changes_none f b.object (IsRemapped b m) agrees.there.0 agrees.there.1
       (record { shape = record { same_type = refl; same_size = refl; same_mapping = λ _. refl }; own = λ own. absurd (let no : true ≡ false = sym is ∙ own in cc) }))
-  remapped false is c =
-      changes_told f b.object (IsMappedOver (rounded_range b offset len)) (IsRemapped b (Some (mapping_of b offset len))) g
+
+  remapped_own : (m : Option Mapping) → is_shared b.kind ≡ false → Changes (λ o new. new ≡ record o { mapped = own_mapping (record b { mapping = m }) }) f b.object g → Changes (IsRemapped b m) f b.object g
+  remapped_own m is c =
+      changes_told f b.object (λ o new. new ≡ record o { mapped = own_mapping (record b { mapping = m }) }) (IsRemapped b m) g
       (λ o new over. record {
         shape = record {
           same_type = ap (λ x. x.memory_type) over;
@@ -105,28 +112,19 @@ module _ (p : Properties) (b : Block) (offset len : ℕ) (f g : ℕ → Option O
         own = λ own. ap (λ x. x.mapped) over;
       }) c
 
-  pub mapped_so : IsOpened (is_shared b.kind) (rounded_range b offset len) f g → Changes (IsRemapped b (Some (mapping_of b offset len))) f b.object g
-  mapped_so = remapped (is_shared b.kind) refl
+  opened_so : (offset len : ℕ) (shared : Bool) → is_shared b.kind ≡ shared → IsOpened shared (rounded_range b offset len) f g → Changes (IsRemapped b (Some (mapping_of b offset len))) f b.object g
+  opened_so offset len true is same = remapped_shared (Some (mapping_of b offset len)) is same
+  opened_so offset len false is c = remapped_own (Some (mapping_of b offset len)) is c
 
-module _ (p : Properties) (b : Block) (f g : ℕ → Option Object) (agrees : IsHeldFor b p f) where
-  ended : (shared : Bool) → is_shared b.kind ≡ shared → IsClosed shared b.object f g → Changes (IsRemapped b None) f b.object g
-  ended true is same =
-      subst (λ objects. Changes (IsRemapped b None) f b.object objects) (sym same)
-      (changes_none f b.object (IsRemapped b None) agrees.there.0 agrees.there.1
-      (record { shape = record { same_type = refl; same_size = refl; same_mapping = λ _. refl }; own = λ own. absurd (let no : true ≡ false = sym is ∙ own in cc) }))
-  ended false is c =
-      changes_told f b.object IsUnmapped (IsRemapped b None) g
-      (λ o new done. record {
-        shape = record {
-          same_type = ap (λ x. x.memory_type) done;
-          same_size = ap (λ x. x.size) done;
-          same_mapping = λ shared. absurd (let no : true ≡ false = sym shared ∙ is in cc);
-        };
-        own = λ own. ap (λ x. x.mapped) done;
-      }) c
+  pub mapped_so : (offset len : ℕ) → IsOpened (is_shared b.kind) (rounded_range b offset len) f g → Changes (IsRemapped b (Some (mapping_of b offset len))) f b.object g
+  mapped_so offset len = opened_so offset len (is_shared b.kind) refl
+
+  closed_so : (shared : Bool) → is_shared b.kind ≡ shared → IsClosed shared b.object f g → Changes (IsRemapped b None) f b.object g
+  closed_so true is same = remapped_shared None is same
+  closed_so false is c = remapped_own None is c
 
   pub unmapped_so : IsClosed (is_shared b.kind) b.object f g → Changes (IsRemapped b None) f b.object g
-  unmapped_so = ended (is_shared b.kind) refl
+  unmapped_so = closed_so (is_shared b.kind) refl
 
-pub keeps_remapped : (b : Block) (p q : Properties) (f g : ℕ → Option Object) (m : Option _) → q ≡ p → Changes (IsRemapped b m) f b.object g → KeepsAgreement b p f q g
+pub keeps_remapped : (b : Block) (p q : Properties) (f g : ℕ → Option Object) (m : Option Mapping) → q ≡ p → Changes (IsRemapped b m) f b.object g → KeepsAgreement b p f q g
 keeps_remapped b p q f g m same c = keeps b p f g (changes_told f b.object (IsRemapped b m) (HasSameShape b) g (λ o new re. re.shape) c) q same

@@ -43,8 +43,8 @@ module _ (f : ℕ → Option Object) (name : ℕ) where
 
 -- An object is changed so while a range of it is mapped.
 abbrev pub HoldsWhileMapped : (Object → Object → Type 0) → Range → Type 0
-HoldsWhileMapped P r = (o held changed new : Object) → o.mapped ≡ None → IsMappedOver r o held → P held changed
-    → IsUnmapped changed new → P o new
+HoldsWhileMapped P r = (o held changed new : Object) → o.mapped ≡ None → IsMappedOver r o held → IsUnmapped changed new
+    → P held changed → P o new
 
 -- a change that is made while a range is mapped, unless the object is shared, is one from before the mapping to after it
 pub changes_between : (P : Object → Object → Type 0) (r : Range) → HoldsWhileMapped P r → (shared : Bool)
@@ -56,7 +56,7 @@ changes_between P r holds false f g h end o is unmapped opened c closed =
     let first = changes_of f r.object (IsMappedOver r) (λ x y. (x.mapped ≡ None) × IsMappedOver r x y) (λ x. x.mapped ≡ None) g (λ x y none over. (none, over)) o is (unmapped refl) opened in
     let Opens : Object → Object → Type 0 = λ x y. (mid : Object) × ((x.mapped ≡ None) × IsMappedOver r x mid) × P mid y in
     let both = changes_twice f r.object (λ x y. (x.mapped ≡ None) × IsMappedOver r x y) P Opens g h (λ x mid y over p. (mid, over, p)) first c in
-    changes_twice f r.object Opens IsUnmapped P h end (λ x mid y through done. holds x through.0 mid y through.1.0 through.1.1 through.2 done) both closed
+    changes_twice f r.object Opens IsUnmapped P h end (λ x mid y through done. holds x through.0 mid y through.1.0 through.1.1 done through.2) both closed
 
 -- what is known of an option's value
 pub some_known : {X : Type 0} (x : Option X) (value : X) (P : X → Type 0) → x ≡ Some value → IfSome x P → P value

@@ -1,11 +1,11 @@
 -- Putting and then flushing, invalidating and then getting, over all of a device's objects.
-use Rattle.std.proofs.Common.{◌≡◌, ℕ, ◌+◌, ◌<◌, ◌≤◌, true, false, List, length, slice_get, Option, Result, Ok, Err, OnOk, OnErr, refl, sym, ◌∙◌, ap, subst, arith}
+use Rattle.std.proofs.Common.{◌≡◌, ℕ, ◌+◌, ◌<◌, ◌≤◌, true, false, List, length, slice_get, Option, IfSome, Result, Ok, Err, OnOk, OnErr, refl, sym, ◌∙◌, ap, subst, arith}
 use Rattle.gpu_alloc_types.specs.Properties.{Properties, is_coherent, are_non_coherent}
-use Rattle.gpu_alloc_types.specs.Device.{Object, Range, Row, Changes, HeldWith, IsPut, IsFlushed, IsInvalidated, IsInMapped}
+use Rattle.gpu_alloc_types.specs.Device.{Object, Range, Row, Changes, HeldWith, IsWellFormed, IsPut, IsFlushed, IsInvalidated, IsInMapped}
 use Rattle.gpu_alloc_types.specs.Device.Event.{BytesPut, BytesGot}
 use Rattle.gpu_alloc_types.specs.declared.types.OutOfMemory.{OutOfMemory}
-use Rattle.gpu_alloc_block.proofs.Changes.{some_same, changed_there, changes_of, changes_twice}
-use Rattle.gpu_alloc_block.proofs.Moving.{incoherent, put_flushed, put_partly, got_invalidated}
+use Rattle.gpu_alloc_block.proofs.Changes.{some_same, some_known, changed_there, changes_none, changes_of, changes_twice}
+use Rattle.gpu_alloc_block.proofs.Moving.{as_flushed, as_invalidated, incoherent, put_flushed, put_partly, got_invalidated}
 use Rattle.gpu_alloc_block.proofs.Rounded.{rounded_covers}
 use Rattle.gpu_alloc_block.specs.Bytes.{HasOnlyOtherBytes, IsOpenForBytes, IsWrittenThrough, IsPartlyWritten, IsReadThrough}
 use Rattle.gpu_alloc_block.specs.Ranges.{rounded_range}
@@ -26,6 +26,17 @@ still_open p b r o new only is = record {
     finish = rw (only.same_type, only.same_size) is.ready.finish;
   };
 }
+
+-- Coherent memory needs no flush and no invalidate: it is as after one.
+module _ (p : Properties) (b : Block) (r : Range) (f : ℕ → Option Object) (well : IfSome (f b.object) (IsWellFormed p)) (held : HeldWith f b.object (IsOpenForBytes p b r)) (coherent : are_non_coherent b.props ≡ false) where
+  held_well : IsWellFormed p held.0
+  held_well = some_known (f b.object) held.0 (IsWellFormed p) held.1 well
+
+  pub flush_needless : Changes (IsFlushed {E = OutOfMemory} (Ok tt) r) f b.object f
+  flush_needless = changes_none f b.object (IsFlushed {E = OutOfMemory} (Ok tt) r) held.0 held.1 (as_flushed p b r held.0 held.2 held_well coherent)
+
+  pub invalidate_needless : Changes (IsInvalidated {E = OutOfMemory} (Ok tt) r) f b.object f
+  invalidate_needless = changes_none f b.object (IsInvalidated {E = OutOfMemory} (Ok tt) r) held.0 held.1 (as_invalidated p b r held.0 held.2 held_well coherent)
 
 module _ (p : Properties) (b : Block) (offset : ℕ) (bytes : List ℕ) (some : 0 < b.atom) (within : offset + length bytes ≤ b.size) (f : ℕ → Option Object) where
   abbrev r : Range

@@ -1,20 +1,22 @@
 -- What a call of a block leaves of the blocks in hand.
-use Rattle.std.proofs.Common.{◌≡◌, ◌≢◌, inl, inr, ℕ, List, [], ◌∷◌, ◌++◌, Option, Some, None, Result, Ok, Err, cond, is_some, refl, sym, ◌∙◌, ap, subst}
+use Rattle.std.proofs.Common.{◌≡◌, ◌≢◌, inl, inr, ℕ, ◌+◌, ◌<◌, ◌≤◌, List, [], ◌∷◌, ◌++◌, Option, Some, None, Result, Ok, Err, cond, is_some, refl, sym, ◌∙◌, ap, subst, arith}
 use Rattle.std.specs.FinMap as map
 use Rattle.gpu_alloc_base.proofs.Names.{one_or_two}
 use Rattle.gpu_alloc_types.specs.Device.{Object, Range, Changes}
 use Rattle.gpu_alloc_types.specs.Objects.{put-other}
 use Rattle.gpu_alloc_types.specs.Properties.{Properties}
-use Rattle.gpu_alloc_block.proofs.Between.{agrees_with_other_bytes, keeps_remapped, keeps_with_other_bytes}
+use Rattle.gpu_alloc_block.proofs.Between.{agrees_with_other_bytes, keeps_remapped, keeps_with_other_bytes, mapped_so, unmapped_so}
 use Rattle.gpu_alloc_block.proofs.Changes.{some_same}
-use Rattle.gpu_alloc_block.proofs.Contents.{opened_leaves, same_objects}
-use Rattle.gpu_alloc_block.proofs.Keeping.{IsRemapped, same_block}
-use Rattle.gpu_alloc_block.specs.Agreement.{BlockAgrees, KeepsAgreement}
+use Rattle.gpu_alloc_block.proofs.Contents.{closed_leaves, opened_leaves, same_objects}
+use Rattle.gpu_alloc_block.proofs.Keeping.{IsRemapped, agrees_remapped, same_block}
+use Rattle.gpu_alloc_block.proofs.Opened.{able_seen}
+use Rattle.gpu_alloc_block.specs.Agreement.{BlockAgrees, IsOfBlock, KeepsAgreement}
 use Rattle.gpu_alloc_block.specs.Bytes.{HasOnlyOtherBytes}
 use Rattle.gpu_alloc_block.specs.Contents.{HasSameBytes}
 use Rattle.gpu_alloc_block.specs.InHand.{AreOwned, AreTwo, IsBeside, IsSameBlock}
 use Rattle.gpu_alloc_block.specs.Kept.{AreKept, AreReady, ChangesKey, IsSameOutside, KeepsInHand, outside}
-use Rattle.gpu_alloc_block.specs.Mapped.{ObjectsMapped}
+use Rattle.gpu_alloc_block.specs.Mapped.{IsClosed, IsOpened, ObjectsMapped, mapping_of, refusal}
+use Rattle.gpu_alloc_block.specs.Ranges.{rounded_range}
 use Rattle.gpu_alloc_block.specs.State.{AreSpansApart, Block, IsOwned, Span, State, span_of, is_shared}
 use Rattle.gpu_alloc_block.specs.declared.block.Mapping.{Mapping}
 
@@ -147,7 +149,44 @@ nothing_in_hand b p q f g as_before same agrees =
     }
 
 -- the block has another mapping now, or none
-pub remapped_in_hand : (b : Block) (m : Option Mapping) (p q : Properties) (f g : ℕ → Option Object) → q ≡ p → Changes (IsRemapped b m) f b.object g → BlockAgrees (record b { mapping = m }) q g → ((c : Block) → HasSameBytes c f g) → KeepsInHand b p f (record b { mapping = m }) q g
+remapped_in_hand : (b : Block) (m : Option Mapping) (p q : Properties) (f g : ℕ → Option Object) → q ≡ p → Changes (IsRemapped b m) f b.object g → BlockAgrees (record b { mapping = m }) q g → ((c : Block) → HasSameBytes c f g) → KeepsInHand b p f (record b { mapping = m }) q g
 remapped_in_hand b m p q f g same c agrees bytes =
     keeps_in_hand b (record b { mapping = m }) p q f g (keeps_remapped b p q f g m same c) (same_block b m) agrees (λ d _. bytes d)
     (same_outside (IsRemapped b m) f g b c)
+
+module _ (b : Block) (p q : Properties) (f g : ℕ → Option Object) (same : q ≡ p) (agrees : BlockAgrees b p f) where
+  -- Some bytes of the block are mapped now.
+  module _ (offset len : ℕ) (opened : IsOpened (is_shared b.kind) (rounded_range b offset len) f g) where
+    now_mapped : Changes (IsRemapped b (Some (mapping_of b offset len))) f b.object g
+    unfolding BlockAgrees
+    now_mapped = mapped_so p b f g agrees offset len opened
+
+    pub mapped_keeps : KeepsAgreement b p f q g
+    mapped_keeps = keeps_remapped b p q f g (Some (mapping_of b offset len)) same now_mapped
+
+    module _ (able : refusal b ≡ None) (nonempty : 0 < len) (inside : offset + len ≤ b.size) where
+      pub mapped_agrees : BlockAgrees (record b { mapping = Some (mapping_of b offset len) }) q g
+      unfolding BlockAgrees
+      mapped_agrees =
+          let within : IsOfBlock b (mapping_of b offset len) = record { nonempty = nonempty; from = omega arith; to = omega (arith, inside) } in
+          agrees_remapped b (Some (mapping_of b offset len)) p q f g same within (λ some. able_seen b able) now_mapped agrees
+
+      pub mapped_in_hand : KeepsInHand b p f (record b { mapping = Some (mapping_of b offset len) }) q g
+      mapped_in_hand =
+          remapped_in_hand b (Some (mapping_of b offset len)) p q f g same now_mapped mapped_agrees (λ d. opened_leaves (is_shared b.kind) (rounded_range b offset len) f g b d refl opened)
+
+  -- It is unmapped now.
+  module _ (closed : IsClosed (is_shared b.kind) b.object f g) where
+    now_unmapped : Changes (IsRemapped b None) f b.object g
+    unfolding BlockAgrees
+    now_unmapped = unmapped_so p b f g agrees closed
+
+    pub unmapped_keeps : KeepsAgreement b p f q g
+    unmapped_keeps = keeps_remapped b p q f g None same now_unmapped
+
+    pub unmapped_agrees : BlockAgrees (record b { mapping = None }) q g
+    unfolding BlockAgrees
+    unmapped_agrees = agrees_remapped b None p q f g same tt (λ some. absurd (cc)) now_unmapped agrees
+
+    pub unmapped_in_hand : KeepsInHand b p f (record b { mapping = None }) q g
+    unmapped_in_hand = remapped_in_hand b None p q f g same now_unmapped unmapped_agrees (λ d. closed_leaves (is_shared b.kind) f g b d closed)

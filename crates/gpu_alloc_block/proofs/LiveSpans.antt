@@ -1,13 +1,12 @@
 -- Live spans, as one is added or removed.
-use Rattle.std.proofs.Common.{◌≡◌, ◌≢◌, ◌⊎◌, inl, inr, Bool, true, false, not, ◌&&◌, ◌||◌, IsTrue, refl, sym, subst, Equal, ◌∙◌, ap}
+use Rattle.std.proofs.Common.{◌≡◌, ◌≢◌, ◌⊎◌, inl, inr, Bool, true, false, not, ◌&&◌, ◌||◌, get_or, IsTrue, refl, sym, subst, Equal, ◌∙◌, ap}
 use Rattle.std.specs.Bool.{Decides}
 use Rattle.std.specs.Cmp.{IsTotalOrder}
 use Rattle.std.specs.Cmp.Lexicographic.{on_texts}
-use Rattle.std.specs.FinMap.{nat_cmp-IsAntisymmetric, slice_cmp-IsAntisymmetric}
 use Rattle.std.specs.Ordering.{eq_by_cmp}
 use Rattle.std.specs.FinSet.{FinSet, contains, insert, remove, contains-insert, contains-remove, same_set}
 use Rattle.gpu_alloc_block.specs.State.{Span, span_cmp, span_numbers}
-use Rattle.gpu_alloc_base.proofs.ListSets.{key_test}
+use Rattle.gpu_alloc_base.proofs.ListSets.{exact_by, key_test}
 
 -- Spans in their order.
 
@@ -15,12 +14,7 @@ pub span_total : IsTotalOrder span_cmp
 span_total = on_texts span_numbers
 
 pub span_exact : (a b : Span) → span_cmp a b ≡ Equal → a ≡ b
-span_exact a b e =
-    let same : span_numbers a ≡ span_numbers b = slice_cmp-IsAntisymmetric nat_cmp-IsAntisymmetric (span_numbers a) (span_numbers b) e in
-    let object : a.object ≡ b.object = cc in
-    let offset : a.offset ≡ b.offset = cc in
-    let size : a.size ≡ b.size = cc in
-    λ i. record { object = object i; offset = offset i; size = size i }
+span_exact = exact_by span_numbers (λ ns. record { object = get_or ns 0 0; offset = get_or ns 1 0; size = get_or ns 2 0 }) (λ span. refl)
 
 pub span_test : (a b : Span) → Decides (eq_by_cmp span_cmp a b) (a ≡ b)
 span_test a b = key_test span_cmp span_total span_exact a b

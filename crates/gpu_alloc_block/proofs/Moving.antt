@@ -152,7 +152,7 @@ partly_read_within b offset len o new w = record { rest = w.rest; host = w.host.
 
 -- Bytes are moved while a range is mapped as they are moved from before to after it.
 
-module _ (r : Range) (o held changed new : Object) (none : o.mapped ≡ None) (opened : IsMappedOver r o held) (closed : IsUnmapped changed new) where
+module _ (r : Range) (b : Block) (offset : ℕ) (bytes : List ℕ) (o held changed new : Object) (none : o.mapped ≡ None) (opened : IsMappedOver r o held) (closed : IsUnmapped changed new) where
   rest_between : HasOnlyOtherBytes held changed → HasOnlyOtherBytes o new
   rest_between rest = rw closed (record {
     same_type = rest.same_type ∙ ap (λ x. x.memory_type) opened;
@@ -172,30 +172,30 @@ module _ (r : Range) (o held changed new : Object) (none : o.mapped ≡ None) (o
   device_after : changed.device_bytes ≡ new.device_bytes
   device_after = sym (ap (λ x. x.device_bytes) closed)
 
-  pub written_between : (b : Block) (offset : ℕ) (bytes : List ℕ) → IsWrittenThrough b offset bytes held changed → IsWrittenThrough b offset bytes o new
-  written_between b offset bytes w = record {
+  pub written_between : IsWrittenThrough b offset bytes held changed → IsWrittenThrough b offset bytes o new
+  written_between w = record {
     rest = rest_between w.rest;
     host = rw (host_before, host_after) at w.host;
     device = rw (device_before, host_after, device_after) at w.device;
   }
 
-  pub partly_written_between : (b : Block) (offset : ℕ) (bytes : List ℕ) → IsPartlyWritten b offset bytes held changed → IsPartlyWritten b offset bytes o new
-  partly_written_between b offset bytes w = record {
+  pub partly_written_between : IsPartlyWritten b offset bytes held changed → IsPartlyWritten b offset bytes o new
+  partly_written_between w = record {
     rest = rest_between w.rest;
     host = rw (host_before, host_after) at w.host;
     device = rw (device_before, host_after, device_after) at w.device;
   }
 
-  pub read_between : (b : Block) (offset : ℕ) (bytes : List ℕ) → IsReadThrough b offset bytes held changed → IsReadThrough b offset bytes o new
-  read_between b offset bytes w = record {
+  pub read_between : IsReadThrough b offset bytes held changed → IsReadThrough b offset bytes o new
+  read_between w = record {
     rest = rest_between w.rest;
     device = rw (device_before, device_after) at w.device;
     host = rw (host_before, device_before, host_after) at w.host;
     told = λ k less. rw device_before at (w.told k less);
   }
 
-  pub partly_read_between : (part : Range) → IsPartlyRead part held changed → IsPartlyRead part o new
-  partly_read_between part w = record {
+  pub partly_read_between : IsPartlyRead r held changed → IsPartlyRead r o new
+  partly_read_between w = record {
     rest = rest_between w.rest;
     device = rw (device_before, device_after) at w.device;
     host = rw (host_before, device_before, host_after) at w.host;

@@ -1,5 +1,5 @@
 -- The halves that are listed are those that there are, and what that says of free pieces and of live blocks.
-use Rattle.std.proofs.Common.{◌≡◌, ◌≢◌, ◌⊎◌, ◌↔◌, inl, inr, ℕ, zero, suc, ◌+◌, ◌^◌, true, false, cond, List, [], ◌∷◌, ◌++◌, map, get_or, ◌≤◌, ◌==◌, ◌&&◌, Option, Some, None, IsTrue, refl, sym, ◌∙◌, ap, subst, arith}
+use Rattle.std.proofs.Common.{◌≡◌, ◌≢◌, ◌⊎◌, ◌↔◌, inl, inr, ℕ, zero, suc, ◌+◌, ◌^◌, true, false, cond, List, [], ◌∷◌, ◌++◌, map, get_or, ◌==◌, ◌&&◌, Some, None, IsTrue, refl, sym, ◌∙◌, ap, subst, arith}
 use Rattle.std.specs.List.{Contains, IsDistinct, flat_map}
 use Rattle.std.specs.FinSet as set
 use Rattle.std.proofs.lemmas.List.Elements.{Contains-append_cases, Contains-append_left, Contains-append_right, Contains-get_or, recursion_from_All}
@@ -7,7 +7,7 @@ use Rattle.std.proofs.lemmas.Map.Keys.{IsDistinct-cons}
 use Rattle.std.proofs.lemmas.Nat.{pow_pos}
 use Rattle.std.proofs.lemmas.Bool.Decides.{Decides-eqb, same_from_decides}
 use mathlib.Core.Bool.{true≢false}
-use Rattle.slab.specs.Slab.{Slab, get, entries, entries_from}
+use Rattle.slab.specs.Slab.{Slab, get, entries}
 use Rattle.slab.proofs.SlabLemmas.{Contains-entries}
 use Rattle.gpu_alloc_base.specs.Accounts.{HeldChunks}
 use Rattle.gpu_alloc_base.specs.Leaves.{leaf_cmp}
@@ -17,6 +17,7 @@ use Rattle.gpu_alloc_base.specs.declared.piece.Piece.{Piece}
 use Rattle.gpu_alloc_base.proofs.Leaves.{leaf_total, leaf_exact, in_leaves, leaf_inserted, leaf_removed}
 use Rattle.gpu_alloc_base.proofs.ListViews.{AreNamedApart}
 use Rattle.gpu_alloc_base.proofs.Lists.{contains_head, contains_later, contains_cases, contains_none}
+use Rattle.gpu_alloc_base.proofs.SlabViews.{keys_apart}
 use Rattle.gpu_alloc_pairs.specs.Entry.{Entry, use_of, half_start}
 use Rattle.gpu_alloc_pairs.specs.Halves.{HalfAt, same_use, half_at, half_used, halves_of_pair, halves_of_length, halves_from, free_pieces, leaf_of, live_leaves}
 use Rattle.gpu_alloc_pairs.specs.Tree.{Pairs, no_pairs, pair_at, IsHalf, IsReady}
@@ -230,25 +231,6 @@ module _ {Y K : Type 0} (name : Y → K) where
       apart_append (f x) (flat_map f xs) (each x) (apart_flat_map g f xs apart.1 each same)
       (λ a b has_a has_b is. let found = in_flat_map f xs b has_b in apart.0 found.0 found.1 (same x found.0 a b has_a found.2 is))
 
-module _ {T : Type 0} where
-  -- later entries have greater keys
-  keys_past : (first : ℕ) (slots : List (Option T)) (e : ℕ × T) → Contains (entries_from first slots) e → first ≤ e.0
-  keys_past first [] e has = absurd (contains_none e has)
-  keys_past first (None ∷ rest) e has = let later = keys_past (first + 1) rest e has in omega arith
-  keys_past first (Some row ∷ rest) e has = elim (contains_cases (first, row) e (entries_from (first + 1) rest) has) [
-    | inl is ↦ let here : e.0 ≡ first = ap (λ (x : ℕ × T). x.0) is in omega arith
-    | inr h ↦ let later = keys_past (first + 1) rest e h in omega arith
-  ]
-
-  -- each entry has a key of its own
-  pub keys_apart : (first : ℕ) (slots : List (Option T)) → AreNamedApart (λ (e : ℕ × T). e.0) (entries_from first slots)
-  keys_apart first [] = tt
-  keys_apart first (None ∷ rest) = keys_apart (first + 1) rest
-  keys_apart first (Some row ∷ rest) = (
-    λ a has same. let later = keys_past (first + 1) rest a has in omega (arith, same),
-    keys_apart (first + 1) rest,
-  )
-
 apart_half : (now : Use) (n k : ℕ) (e : Entry) (side : Side) → AreNamedApart (λ (h : HalfAt). h) (half_used now n k e side)
 apart_half now n k e side = elim (same_use (use_of e side) now) as (λ b. AreNamedApart (λ (h : HalfAt). h) (cond b (half_at n k e side ∷ []) [])) [
   | true ↦ (λ a has. absurd (contains_none a has), tt)
@@ -265,7 +247,7 @@ apart_pair now n (k, e) = apart_append (λ h. h) (half_used now n k e Left) (hal
 
 apart_length : (now : Use) (n : ℕ) (pairs : Slab Entry) → AreNamedApart (λ (h : HalfAt). h) (halves_of_length now n pairs)
 unfolding halves_of_length
-apart_length now n pairs = apart_flat_map (λ h. h) (λ (e : ℕ × Entry). e.0) (halves_of_pair now n) (entries pairs) (keys_apart 0 pairs.slots) (apart_pair now n)
+apart_length now n pairs = apart_flat_map (λ h. h) (λ (e : ℕ × Entry). e.0) (halves_of_pair now n) (entries pairs) (keys_apart pairs) (apart_pair now n)
     (λ x z a b has_a has_b same.
     let of_a : a.key ≡ x.0 = ap (λ (h : HalfAt). h.key) (in_pair now n x.0 x.1 a has_a).1 in
     let of_b : b.key ≡ z.0 = ap (λ (h : HalfAt). h.key) (in_pair now n z.0 z.1 b has_b).1 in

@@ -1,5 +1,5 @@
 -- The lists of what a store holds: the held chunks and the live blocks, each once.
-use Rattle.std.proofs.Common.{◌≡◌, ◌≢◌, ℕ, ◌^◌, ◌<◌, ◌≤◌, Bool, true, false, List, [], ◌∷◌, ◌++◌, map, take, Some, refl, sym, ◌∙◌, ap, subst, arith}
+use Rattle.std.proofs.Common.{◌≡◌, ◌≢◌, ℕ, ◌^◌, ◌<◌, ◌≤◌, Bool, false, List, [], ◌∷◌, ◌++◌, map, take, Some, refl, sym, ◌∙◌, ap, subst, arith}
 use Rattle.std.proofs.lemmas.List.{take_all}
 use Rattle.std.proofs.lemmas.Map.Keys.{IsDistinct-cons}
 use Rattle.std.specs.FinMap as finite
@@ -13,6 +13,7 @@ use Rattle.gpu_alloc_base.specs.declared.buddy_block.Leaf.{Leaf}
 use Rattle.gpu_alloc_base.proofs.Leaves.{leaf_test}
 use Rattle.gpu_alloc_base.proofs.ListViews.{AreNamedApart}
 use Rattle.gpu_alloc_base.proofs.Lists.{contains_head, contains_later}
+use Rattle.gpu_alloc_base.proofs.Maps.{other_key}
 use Rattle.gpu_alloc_pairs.specs.Entry.{Entry, use_of}
 use Rattle.gpu_alloc_pairs.specs.Halves.{HalfAt, half_at, half_used, halves_from, leaf_of, live_leaves}
 use Rattle.gpu_alloc_pairs.specs.HeldLists.{AddsLeaves}
@@ -62,13 +63,6 @@ pub half_listed : (chunks : HeldChunks) (order key : ℕ) (e : Entry) (side : Si
     → map (leaf_of chunks) (half_used Taken order key e side) ≡ leaf ∷ []
 half_listed chunks order key e side leaf taken is = rw (same_use-from_eq (use_of e side) Taken taken) (λ j. is j ∷ [])
 
-leaves_differ : (a b : Leaf) → a ≢ b → eq_by_cmp leaf_cmp a b ≡ false
-leaves_differ a b other = split (eq_by_cmp leaf_cmp a b) refl
-  where
-    split : (t : Bool) → eq_by_cmp leaf_cmp a b ≡ t → t ≡ false
-    split true is = absurd (other ((leaf_test a b).0 is))
-    split false is = refl
-
 module _ (chunks : HeldChunks) (lengths : List (Slab Entry)) (i : IsStored chunks lengths) where
   -- two taken halves that are one block are one
   one_block : (a b : HalfAt) → IsHalf (pair_at lengths) a.piece a.key a.side Taken → IsHalf (pair_at lengths) b.piece b.key b.side Taken → leaf_of chunks a ≡ leaf_of chunks b → a ≡ b
@@ -83,7 +77,7 @@ module _ (chunks : HeldChunks) (lengths : List (Slab Entry)) (i : IsStored chunk
   leaves_once : IsDistinct (eq_by_cmp leaf_cmp) (map (leaf_of chunks) (halves_from Taken 0 lengths))
   leaves_once =
       let halves = halves_from Taken 0 lengths in
-      distinct_named (leaf_of chunks) (eq_by_cmp leaf_cmp) leaves_differ halves
+      distinct_named (leaf_of chunks) (eq_by_cmp leaf_cmp) (other_key leaf_cmp leaf_test) halves
       (apart_by_name (leaf_of chunks) halves (halves_apart Taken 0 lengths) (λ a b has_a has_b. one_block a b ((halves_are lengths Taken a).0 has_a) ((halves_are lengths Taken b).0 has_b)))
 
   -- a loop over all lengths

@@ -11,6 +11,7 @@ use Rattle.gpu_alloc_base.specs.Accounts.{HeldChunks}
 use Rattle.gpu_alloc_base.specs.Chunks.{Chunk}
 use Rattle.gpu_alloc_base.specs.Pieces.{IsCanonical}
 use Rattle.gpu_alloc_base.specs.declared.buddy_block.Leaf.{Leaf}
+use Rattle.gpu_alloc_base.specs.declared.piece.Piece.{Piece}
 use Rattle.gpu_alloc_base.proofs.AlignedPowers.{doubled, order-le}
 use Rattle.gpu_alloc_base.proofs.Leaves.{in_leaves}
 use Rattle.gpu_alloc_base.proofs.Lists.{seek}
@@ -115,6 +116,10 @@ module _ (chunks : HeldChunks) (old : List (Slab Entry)) (i : IsStored chunks ol
 
     pub comes_back : ComesBack (pair_at old) order leaf.index side
     comes_back = record { space = left; piece = h.piece; of_order = leaf_order order size; returning = returning }
+
+    -- what is told of a half that comes back is told of the block's
+    pub told_back : (R : BuddySpace → Piece → Type 0) → ((s : BuddySpace) (z : Piece) → z.order ≡ order → IsReturning (pair_at old) s z leaf.index side → R s z) → R left h.piece
+    told_back R told = told left h.piece (leaf_order order size) returning
 
     pub chunk_of : (c : Chunk) → finite.get chunks leaf.chunk ≡ Some c → finite.get chunks (h.piece).chunk ≡ Some c
     chunk_of c held = ap (finite.get chunks) (sym leaf_piece.chunk) ∙ held

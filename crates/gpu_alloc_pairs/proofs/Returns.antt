@@ -110,25 +110,25 @@ module _ (P : Pairs) (s : BuddySpace) (z : Piece) (key : ℕ) (side : Side) (r :
         halves = pair_halves z.order e aligned
 
         -- each byte of both halves is free: of the one in hand, and of the one that was ready
-        inside_of : (a : Side) → a ≡ side → (b : ℕ) → InPiece (piece_at z.order e a) b → IsFreeAt s e.chunk b
-        inside_of a is b i = subst (λ (x : Piece). IsFreeAt s x.chunk b) in_hand_is (r.beside.inside b (subst (λ (x : Piece). InPiece x b) (ap (piece_at z.order e) is ∙ sym in_hand_is) i))
+        each : (a : Side) (b : ℕ) → InPiece (piece_at z.order e a) b → IsFreeAt s e.chunk b
+        each a b i = elim (side_or_other side a) [
+          | inl is ↦ subst (λ (x : Piece). IsFreeAt s x.chunk b) in_hand_is (r.beside.inside b (subst (λ (x : Piece). InPiece x b) (ap (piece_at z.order e) is ∙ sym in_hand_is) i))
+          | inr is ↦
+              let ready : IsReady P (piece_at z.order e a) = record { key = key; side = a; half = record { entry = e; pair = at; chunk = refl; start = refl; used = ap (use_of e) is ∙ other } } in
+              (r.beside.canonical.free (piece_at z.order e a) ready b i).0
+        ]
 
-        beside_of : (a : Side) → a ≡ other_side side → (b : ℕ) → InPiece (piece_at z.order e a) b → IsFreeAt s e.chunk b
-        beside_of a is b i =
-            let ready : IsReady P (piece_at z.order e a) = record { key = key; side = a; half = record { entry = e; pair = at; chunk = refl; start = refl; used = ap (use_of e) is ∙ other } } in
-            (r.beside.canonical.free (piece_at z.order e a) ready b i).0
+        inside : (b : ℕ) → InPiece whole b → IsFreeAt s whole.chunk b
+        inside b i = elim (halves_of (piece_at z.order e Left) (piece_at z.order e Right) halves b i) [ inl l ↦ each Left b l | inr l ↦ each Right b l ]
 
         by_side : (a : Side) → a ≡ side → IsCanonicalBeside (IsReady Q) (IsFreeAt s) whole
         by_side Left is = record {
+          aligned = aligned;
+          inside = inside;
           canonical = join_right (piece_at z.order e Left) (piece_at z.order e Right) halves (IsReady P) (IsReady Q) (IsFreeAt s)
               (ready_with Q P z.order key e goes Right (ap (λ b. use_of e (other_side b)) is ∙ other) (λ f. in_hand_used (ap (use_of e) (sym is) ∙ f)))
               (not_ready_before Q P z.order key e goes Right (ap (λ b. use_of e (other_side b)) is ∙ other) (λ f. in_hand_used (ap (use_of e) (sym is) ∙ f)) s.chunks r.tree)
               (subst (λ x. IsCanonical (IsReady P) (Without (IsFreeAt s) x)) (in_hand_is ∙ ap (piece_at z.order e) (sym is)) r.beside.canonical);
-          aligned = aligned;
-          inside = λ b i. elim (halves_of (piece_at z.order e Left) (piece_at z.order e Right) halves b i) [
-            | inl l ↦ inside_of Left is b l
-            | inr l ↦ beside_of Right (ap other_side is) b l
-          ];
         }
         by_side Right is = record {
           canonical = join_left (piece_at z.order e Left) (piece_at z.order e Right) halves (IsReady P) (IsReady Q) (IsFreeAt s)
@@ -136,10 +136,7 @@ module _ (P : Pairs) (s : BuddySpace) (z : Piece) (key : ℕ) (side : Side) (r :
               (not_ready_before Q P z.order key e goes Left (ap (λ b. use_of e (other_side b)) is ∙ other) (λ f. in_hand_used (ap (use_of e) (sym is) ∙ f)) s.chunks r.tree)
               (subst (λ x. IsCanonical (IsReady P) (Without (IsFreeAt s) x)) (in_hand_is ∙ ap (piece_at z.order e) (sym is)) r.beside.canonical);
           aligned = aligned;
-          inside = λ b i. elim (halves_of (piece_at z.order e Left) (piece_at z.order e Right) halves b i) [
-            | inl l ↦ beside_of Left (ap other_side is) b l
-            | inr l ↦ inside_of Right is b l
-          ];
+          inside = inside;
         }
 
     -- It divided a half, which is in hand now.

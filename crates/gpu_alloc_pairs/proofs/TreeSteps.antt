@@ -28,6 +28,22 @@ here_or_not order key n k = elim (cases_eq n order) [
 pub at_place : (P : Pairs) (order key n k : ℕ) (e : Entry) → n ≡ order → k ≡ key → P n k ≡ Some e → P order key ≡ Some e
 at_place P order key n k e same also at = subst (λ m. P m key ≡ Some e) same (subst (λ m. P n m ≡ Some e) also at)
 
+-- a half of another entry, or the other half of this one, is the same where only this half's use changes
+half_moved : (P Q : Pairs) (order key : ℕ) (side : Side) (e f : Entry) → P order key ≡ Some e → Q order key ≡ Some f → f.chunk ≡ e.chunk → f.offset ≡ e.offset → ((a : Side) → (a ≡ side → ⊥) → use_of f a ≡ use_of e a) → ((n k : ℕ) → (n ≡ order → k ≡ key → ⊥) → Q n k ≡ P n k)
+    → (p : Piece) (k : ℕ) (a : Side) (u : Use) → (p.order ≡ order → k ≡ key → a ≡ side → ⊥) → IsHalf P p k a u → IsHalf Q p k a u
+half_moved P Q order key side e f was there chunk offset used others p k a u other h = elim (here_or_not order key p.order k) [
+  | inl here ↦
+      let is : h.entry ≡ e = one_entry (P order key) h.entry e (at_place P order key p.order k h.entry here.0 here.1 h.pair) was in
+      record {
+        entry = f;
+        pair = subst (λ m. Q m k ≡ Some f) (sym here.0) (subst (λ m. Q order m ≡ Some f) (sym here.1) there);
+        chunk = h.chunk ∙ ap (λ (x : Entry). x.chunk) is ∙ sym chunk;
+        start = h.start ∙ ap (λ (x : Entry). half_start (2 ^ p.order) x.offset a) is ∙ ap (λ n. half_start (2 ^ p.order) n a) (sym offset);
+        used = used a (other here.0 here.1) ∙ ap (λ (x : Entry). use_of x a) (sym is) ∙ h.used;
+      }
+  | inr beside ↦ record { entry = h.entry; pair = others p.order k beside ∙ h.pair; chunk = h.chunk; start = h.start; used = h.used }
+]
+
 -- A half is used otherwise.
 
 module _ (P Q : Pairs) (order key : ℕ) (side : Side) (e : Entry) (now : Use) (s : SetsHalf P Q order key side e now) where
@@ -65,32 +81,10 @@ module _ (P Q : Pairs) (order key : ℕ) (side : Side) (e : Entry) (now : Use) (
 
   -- a half is what it was, but for this one
   pub half_kept : (p : Piece) (k : ℕ) (a : Side) (u : Use) → (p.order ≡ order → k ≡ key → a ≡ side → ⊥) → IsHalf P p k a u → IsHalf Q p k a u
-  half_kept p k a u other h = elim (here_or_not order key p.order k) [
-    | inl here ↦
-        let is : h.entry ≡ e = was_there p.order k h.entry here.0 here.1 h.pair in
-        record {
-          entry = now_e;
-          pair = subst (λ m. Q m k ≡ Some now_e) (sym here.0) (subst (λ m. Q order m ≡ Some now_e) (sym here.1) s.there);
-          chunk = h.chunk ∙ ap (λ (x : Entry). x.chunk) is ∙ sym (same_chunk_with e side now);
-          start = h.start ∙ ap (λ (x : Entry). half_start (2 ^ p.order) x.offset a) is ∙ ap (λ n. half_start (2 ^ p.order) n a) (sym (same_offset_with e side now));
-          used = use_beside e side a now (other here.0 here.1) ∙ ap (λ (x : Entry). use_of x a) (sym is) ∙ h.used;
-        }
-    | inr beside ↦ record { entry = h.entry; pair = s.others p.order k beside ∙ h.pair; chunk = h.chunk; start = h.start; used = h.used }
-  ]
+  half_kept = half_moved P Q order key side e now_e s.was s.there (same_chunk_with e side now) (same_offset_with e side now) (λ a other. use_beside e side a now other) s.others
 
   pub half_back : (p : Piece) (k : ℕ) (a : Side) (u : Use) → (p.order ≡ order → k ≡ key → a ≡ side → ⊥) → IsHalf Q p k a u → IsHalf P p k a u
-  half_back p k a u other h = elim (here_or_not order key p.order k) [
-    | inl here ↦
-        let is : h.entry ≡ now_e = is_now p.order k h.entry here.0 here.1 h.pair in
-        record {
-          entry = e;
-          pair = subst (λ m. P m k ≡ Some e) (sym here.0) (subst (λ m. P order m ≡ Some e) (sym here.1) s.was);
-          chunk = h.chunk ∙ ap (λ (x : Entry). x.chunk) is ∙ same_chunk_with e side now;
-          start = h.start ∙ ap (λ (x : Entry). half_start (2 ^ p.order) x.offset a) is ∙ ap (λ n. half_start (2 ^ p.order) n a) (same_offset_with e side now);
-          used = sym (use_beside e side a now (other here.0 here.1)) ∙ ap (λ (x : Entry). use_of x a) (sym is) ∙ h.used;
-        }
-    | inr beside ↦ record { entry = h.entry; pair = sym (s.others p.order k beside) ∙ h.pair; chunk = h.chunk; start = h.start; used = h.used }
-  ]
+  half_back = half_moved Q P order key side now_e e s.there s.was (sym (same_chunk_with e side now)) (sym (same_offset_with e side now)) (λ a other. sym (use_beside e side a now other)) (λ n k other. sym (s.others n k other))
 
   -- this one is used as it is set
   pub half_set : IsHalf Q (piece_at order e side) key side now

@@ -1,5 +1,5 @@
 -- Which run a search finds, and how many it looks at.
-use Rattle.std.proofs.Common.{◌≡◌, ◌≢◌, ◌⊎◌, inl, inr, ℕ, zero, suc, ◌+◌, ◌-◌, ◌*◌, ◌^◌, ◌<◌, ◌≤◌, true, List, [], ◌∷◌, length, min, Option, Some, None, refl, sym, ◌∙◌, ap, subst, arith}
+use Rattle.std.proofs.Common.{◌≡◌, ◌≢◌, inl, inr, ℕ, zero, suc, ◌+◌, ◌-◌, ◌*◌, ◌^◌, ◌<◌, ◌≤◌, true, List, [], ◌∷◌, length, min, Option, Some, None, refl, sym, ◌∙◌, ap, subst, arith}
 use Rattle.std.proofs.lemmas.Bool.{cases_lt}
 use Rattle.std.specs.Prelude.{slice_index_or}
 use Rattle.slab.specs.Slab.{Slab, slab_len}
@@ -10,11 +10,11 @@ use Rattle.gpu_alloc_base.proofs.FreeRuns.{region_is_run, run_is_region}
 use Rattle.gpu_alloc_base.proofs.Multiples.{multiple_below}
 use Rattle.gpu_alloc_runs.specs.Choice.{AreFewLooks, BeginsClass, HasDistinctRuns, IsChosenRun, IsRun, IsMiss, IsWholeRun, LacksRoom, class_of_run, sure_class}
 use Rattle.gpu_alloc_runs.specs.Classes.{IsIn, IsOnce, below_in, class_of_bytes, first_in, least_grains}
-use Rattle.gpu_alloc_runs.specs.Filed.{AreFreeFiled, AreWholeLast, class_at, down_in, filed_in}
+use Rattle.gpu_alloc_runs.specs.Filed.{AreFreeFiled, AreWholeLast, down_in, filed_in}
 use Rattle.gpu_alloc_runs.specs.Inside.{IsChosenTile, chunk_size_in, chunks_of_rows, fit_space_in}
 use Rattle.gpu_alloc_runs.specs.Links.{AreNodesKept}
-use Rattle.gpu_alloc_runs.specs.Space.{FitSpace, HasPlace, IsFreeIn, chunk_bytes}
-use Rattle.gpu_alloc_runs.specs.Tiles.{HasRoomAt, HasRoomIn, tile_in, tile_region}
+use Rattle.gpu_alloc_runs.specs.Space.{FitSpace, IsFreeIn, chunk_bytes}
+use Rattle.gpu_alloc_runs.specs.Tiles.{HasRoomAt, tile_in, tile_region}
 use Rattle.gpu_alloc_runs.specs.declared.classes.Classes.{Classes}
 use Rattle.gpu_alloc_runs.specs.declared.fits.Chunk.{Chunk as Row}
 use Rattle.gpu_alloc_runs.specs.declared.tile.Node.{Node}
@@ -25,9 +25,9 @@ use Rattle.gpu_alloc_runs.proofs.Filing.{below_key, below_none}
 use Rattle.gpu_alloc_runs.proofs.Lengths.{class_begins, class_below, class_capped, class_rises}
 use Rattle.gpu_alloc_runs.proofs.Nodes.{has_tile}
 use Rattle.gpu_alloc_runs.proofs.Rooms.{first_filed, long_enough, none_filed, sure_room, tile_of_class}
-use Rattle.gpu_alloc_runs.proofs.Runs.{bytes_held, canonical, no_place}
+use Rattle.gpu_alloc_runs.proofs.Runs.{bytes_held, canonical}
 use Rattle.gpu_alloc_runs.proofs.Tiles.{one_tile}
-use Rattle.gpu_alloc_runs.proofs.Walks.{AreBelow, IsNext, IsPassed, IsSearch, all_passed, are_below, is_next, none_lower}
+use Rattle.gpu_alloc_runs.proofs.Walks.{AreBelow, IsNext, IsSearch, all_passed, are_below, is_next, none_lower}
 
 -- Keys by their places in a list.
 

@@ -1,9 +1,13 @@
 -- A chunk comes, all of it free, and goes when all of it is.
-use Rattle.std.proofs.Common.{◌≡◌, ◌≢◌, inl, inr, ℕ, ◌<◌, ◌≤◌, true, Option, Some, None, refl, sym, ◌∙◌, ap, subst, arith}
+use Rattle.std.proofs.Common.{◌≡◌, ◌≢◌, inl, inr, ℕ, ◌<◌, ◌≤◌, true, Option, Some, None, option_map, refl, sym, ◌∙◌, ap, subst, arith}
 use Rattle.std.proofs.lemmas.Bool.{cases_eq}
+use Rattle.std.specs.FinMap as map
 use Rattle.slab.specs.Slab.{ContainsKey, Slab, Updates, get}
+use Rattle.gpu_alloc_base.specs.Chunks.{object_in}
+use Rattle.gpu_alloc_base.proofs.ListedRanges.{told_object}
+use Rattle.gpu_alloc_base.proofs.SlabViews.{get_by_key}
 use Rattle.gpu_alloc_runs.specs.Filed.{KeepsEnds, down_of}
-use Rattle.gpu_alloc_runs.specs.Inside.{chunk_size_in, IsWholeTile, row_size}
+use Rattle.gpu_alloc_runs.specs.Inside.{chunk_of_row, chunk_size_in, chunks_of_rows, IsWholeTile, row_size}
 use Rattle.gpu_alloc_runs.specs.Links.{AreNodesKept, after_in, before_in}
 use Rattle.gpu_alloc_runs.specs.Tiles.{AreNeighbours, IsTiled, KeepsElsewhere, KeepsLive, Sets, tile_in}
 use Rattle.gpu_alloc_runs.specs.declared.fits.Chunk.{Chunk as Row}
@@ -20,6 +24,10 @@ pub record Resizes (old new : ℕ → ℕ) (chunk size : ℕ) : Type 0 where
 
 pub resized : {M : Type 0} (old new : Slab (Row M)) (chunk size : ℕ) (o : Option (Row M)) → Updates old new chunk o → row_size o ≡ size → Resizes (chunk_size_in old) (chunk_size_in new) chunk size
 resized old new chunk size o u is = record { changed = ap row_size u.changed ∙ is; others = λ k ne. ap row_size (u.others k ne) }
+
+-- the object of a chunk that is held
+pub object_of_row : {M : Type 0} (object : M → ℕ) (rows : Slab (Row M)) (k : ℕ) (row : Row M) → get rows k ≡ Some row → object_in (map.get (chunks_of_rows object rows) k) ≡ object row.memory
+object_of_row object rows k row is = told_object (map.get (chunks_of_rows object rows) k) (chunk_of_row object row) (get_by_key (chunk_of_row object) rows k ∙ ap (option_map (chunk_of_row object)) is)
 
 -- A tile comes that is all of a new chunk.
 

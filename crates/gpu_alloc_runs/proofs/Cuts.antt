@@ -209,13 +209,13 @@ module _ (size : ℕ → ℕ) (s0 s1 s2 : Slab Node) (x y cut : ℕ) (n o : Node
           let ne_y = not_new k a is in
           lasts (filed_in s0) cut_lists on k (apart k ne_x ne_y) (lists_3.down k ∙ lists_2.down k ∙ ap down_of (comes.others k ne_y) ∙ none)
 
-      pub back_ends : KeepsLasts s3 classes s4 y None → KeepsEnds m.chunk s0 s4
+      back_ends : KeepsLasts s3 classes s4 y None → KeepsEnds m.chunk s0 s4
       back_ends = cut_ends y None (λ k ne_x ne_y. ne_y) (ap class_at fresh)
 
-      pub end_ends : m.free ≡ true → (was : ℕ) → was ≡ class_of_bytes (m.end - m.start) → KeepsLasts s3 classes s4 x (Some was) → KeepsEnds m.chunk s0 s4
+      end_ends : m.free ≡ true → (was : ℕ) → was ≡ class_of_bytes (m.end - m.start) → KeepsLasts s3 classes s4 x (Some was) → KeepsEnds m.chunk s0 s4
       end_ends free was was_is = cut_ends x (Some was) (λ k ne_x ne_y. ne_x) (free_class (tile_in s0) x m at_m free ∙ ap (λ c. Some c) (sym was_is))
 
-      pub back_filed : m.free ≡ false → new_free ≡ true → (class : ℕ) → class ≡ class_of_bytes (m.end - cut) → Refiles s3 classes s4 new y None (Some class) → AreFreeFiled s4 new
+      back_filed : m.free ≡ false → new_free ≡ true → (class : ℕ) → class ≡ class_of_bytes (m.end - cut) → Refiles s3 classes s4 new y None (Some class) → AreFreeFiled s4 new
       back_filed live free class is refiles =
           refiled_free s3 s4 classes new y class None back_tile files back_splits.new free is
           (but_as (filed_in s0) s3 classes y None (ap class_at fresh) (λ k other. elim (cases_eq k x) [
@@ -224,7 +224,7 @@ module _ (size : ℕ → ℕ) (s0 s1 s2 : Slab Node) (x y cut : ℕ) (n o : Node
           ]) cut_lists)
           refiles
 
-      pub end_filed : m.free ≡ true → new_free ≡ false → (was class : ℕ) → was ≡ class_of_bytes (m.end - m.start) → class ≡ class_of_bytes (cut - m.start) → Refiles s3 classes s4 new x (Some was) (Some class) → AreFreeFiled s4 new
+      end_filed : m.free ≡ true → new_free ≡ false → (was class : ℕ) → was ≡ class_of_bytes (m.end - m.start) → class ≡ class_of_bytes (cut - m.start) → Refiles s3 classes s4 new x (Some was) (Some class) → AreFreeFiled s4 new
       end_filed free live was class was_is is refiles =
           refiled_free s3 s4 classes new x class (Some was) back_rest files back_splits.rest free is
           (but_as (filed_in s0) s3 classes x (Some was) (free_class (tile_in s0) x m at_m free ∙ ap (λ c. Some c) (sym was_is)) (λ k other. elim (cases_eq k y) [
@@ -235,7 +235,7 @@ module _ (size : ℕ → ℕ) (s0 s1 s2 : Slab Node) (x y cut : ℕ) (n o : Node
 
     -- The end of a live tile comes free.
     module _ (live : m.free ≡ false) (free : new_free ≡ true) where
-      pub back_kept : IsFreeRight x (tile_in s0) → AreNodesKept size s4
+      back_kept : IsFreeRight x (tile_in s0) → AreNodesKept size s4
       back_kept right = keeps_kept s3 s4 files size (record {
         tiled = cut_all;
         calm = back_calm size (tile_in s0) (tile_in s3) x y back_rest back_tile m kept.tiled kept.calm at_m live free back_splits from to back_joint right;
@@ -250,7 +250,7 @@ module _ (size : ℕ → ℕ) (s0 s1 s2 : Slab Node) (x y cut : ℕ) (n o : Node
 
     -- That of a free one is taken.
     module _ (was_free : m.free ≡ true) (live : new_free ≡ false) where
-      pub end_kept : AreNodesKept size s4
+      end_kept : AreNodesKept size s4
       end_kept = keeps_kept s3 s4 files size (record {
         tiled = cut_all;
         calm = calm_end size (tile_in s0) (tile_in s3) x y back_rest back_tile m kept.tiled kept.calm at_m was_free was_free live back_splits from to back_joint;
@@ -260,11 +260,23 @@ module _ (size : ℕ → ℕ) (s0 s1 s2 : Slab Node) (x y cut : ℕ) (n o : Node
       pub end_live : IsLiveAt (tile_in s4) y (record { chunk = m.chunk; start = cut; end = m.end; free = false })
       end_live = (files.tiles y ∙ back_splits.new ∙ ap (λ b. Some (record { chunk = m.chunk; start = cut; end = m.end; free = b })) live, refl)
 
-      pub end_right : IsFreeRight y (tile_in s4)
+      end_right : IsFreeRight y (tile_in s4)
       end_right = with_tiles s3 s4 files (IsFreeRight y) (right_end size (tile_in s0) (tile_in s3) x y back_rest back_tile m kept.tiled kept.calm at_m was_free was_free live back_splits from to back_joint)
 
       pub end_others : KeepsOthers (tile_in s0) (tile_in s4) y
       end_others = with_tiles s3 s4 files (λ T. KeepsOthers (tile_in s0) T y) (others_end size (tile_in s0) (tile_in s3) x y back_rest back_tile m kept.tiled kept.calm at_m was_free was_free live back_splits from to back_joint)
+
+    -- All that each of them leaves.
+    module _ (classes new : Classes) (keyed : y ≢ NONE) (lists_2 : KeepsLists s1 s2) (lists_3 : KeepsLists s2 s3) (filed : AreFreeFiled s0 classes) where
+      pub back_cut : m.free ≡ false → new_free ≡ true → IsFreeRight x (tile_in s0) → (class : ℕ) → class ≡ class_of_bytes (m.end - cut) → Refiles s3 classes s4 new y None (Some class) → KeepsLasts s3 classes s4 y None
+          → AreNodesKept size s4 × AreFreeFiled s4 new × KeepsEnds m.chunk s0 s4
+      back_cut live free right class is refiles lasts =
+          (back_kept live free right, back_filed classes new keyed lists_2 lists_3 filed live free class is refiles, back_ends classes new keyed lists_2 lists_3 filed lasts)
+
+      pub end_cut : m.free ≡ true → new_free ≡ false → (was class : ℕ) → was ≡ class_of_bytes (m.end - m.start) → class ≡ class_of_bytes (cut - m.start) → Refiles s3 classes s4 new x (Some was) (Some class) → KeepsLasts s3 classes s4 x (Some was)
+          → AreNodesKept size s4 × IsFreeRight y (tile_in s4) × AreFreeFiled s4 new × KeepsEnds m.chunk s0 s4
+      end_cut free live was class was_is is refiles lasts =
+          (end_kept free live, end_right free live, end_filed classes new keyed lists_2 lists_3 filed free live was class was_is is refiles, end_ends classes new keyed lists_2 lists_3 filed free was was_is lasts)
 
 -- no tile stands under a vacant key
 pub vacant_unused : (s : Slab Node) (y : ℕ) → get s y ≡ None → HasNoLiveTile (tile_in s) y

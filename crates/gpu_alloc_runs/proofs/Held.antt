@@ -7,7 +7,6 @@ use Rattle.slab.specs.Slab.{Slab, Updates, get}
 use Rattle.gpu_alloc_base.specs.Accounts.{HeldChunks}
 use Rattle.gpu_alloc_base.specs.SlabViews.{HasOneKeyEach}
 use Rattle.gpu_alloc_base.specs.declared.free_list_block.Slot.{Slot}
-use Rattle.gpu_alloc_base.proofs.ListedRanges.{told_object}
 use Rattle.gpu_alloc_base.proofs.Maps.{gone, kept_other}
 use Rattle.gpu_alloc_base.proofs.SlabViews.{by_key_put, by_key_removed, get_by_key, once_inserted, once_removed}
 use Rattle.gpu_alloc_base.proofs.Slots.{slot_inserted}
@@ -21,7 +20,7 @@ use Rattle.gpu_alloc_runs.specs.declared.classes.Classes.{Classes}
 use Rattle.gpu_alloc_runs.specs.declared.fits.Chunk.{Chunk as Row}
 use Rattle.gpu_alloc_runs.specs.declared.tile.Node.{Node}
 use Rattle.gpu_alloc_runs.specs.declared.tile.Tile.{Tile}
-use Rattle.gpu_alloc_runs.proofs.Chunks.{Resizes, begun, begun_else, begun_keeps, begun_lives, resized}
+use Rattle.gpu_alloc_runs.proofs.Chunks.{Resizes, begun, begun_else, begun_keeps, begun_lives, object_of_row, resized}
 use Rattle.gpu_alloc_runs.proofs.Ends.{used_last}
 use Rattle.gpu_alloc_runs.proofs.Filing.{but_same}
 use Rattle.gpu_alloc_runs.proofs.Live.{in_live, live_elsewhere, live_more, live_same}
@@ -209,7 +208,7 @@ module _ {M : Type 0} (object : M → ℕ) (old new : Slab (Row M)) (n0 s1 n1 n2
 
     -- the block by its own name
     come_is : slot_of (chunks_of_rows object new) come_block ≡ record { object = name; chunk = chunk; offset = 0; size = size }
-    come_is = block_slot (chunks_of_rows object new) chunk 0 size size name (omega arith) (told_object (map.get (chunks_of_rows object new) chunk) (chunk_of_row object row) (get_by_key (chunk_of_row object) new chunk ∙ ap (option_map (chunk_of_row object)) comes.changed) ∙ named)
+    come_is = block_slot (chunks_of_rows object new) chunk 0 size size name (omega arith) (object_of_row object new chunk row comes.changed ∙ named)
 
     pub come_space : (slot : Slot) → slot ≡ record { object = name; chunk = chunk; offset = 0; size = size }
         → fit_space_in (chunks_of_rows object new) n2 ≡ with_slot (with_chunk (fit_space_in (chunks_of_rows object old) n0) slot row.size) slot

@@ -230,7 +230,7 @@ module _ (size : ℕ → ℕ) (s0 z s1 s2 : Slab Node) (x y : ℕ) (n o : Node) 
     right_absorbed : Absorbs (tile_in s0) (tile_in s3) x y right_tile
     right_absorbed = absorbed s3 right_tile m_tile sets.tiles
 
-    pub right_grown : tile_in s3 x ≡ Some right_tile
+    right_grown : tile_in s3 x ≡ Some right_tile
     right_grown = right_absorbed.grown
 
     -- the one that is removed was in no list
@@ -247,13 +247,13 @@ module _ (size : ℕ → ℕ) (s0 z s1 s2 : Slab Node) (x y : ℕ) (n o : Node) 
         ]) (joined_lists filed classes off lists_2 lists_3 indexed)
 
     -- the last ones of other chunks stay so
-    pub joined_ends : ((k : ℕ) → k ≢ y → down_in s0 k ≡ NONE → down_in z k ≡ NONE) → KeepsLists s1 s2 → KeepsLists s2 s3 → KeepsEnds n.tile.chunk s0 s3
+    joined_ends : ((k : ℕ) → k ≢ y → down_in s0 k ≡ NONE → down_in z k ≡ NONE) → KeepsLists s1 s2 → KeepsLists s2 s3 → KeepsEnds n.tile.chunk s0 s3
     joined_ends first lists_2 lists_3 k a is other none =
         let apart : k ≢ y = (λ e. other (ap (λ (t : Tile). t.chunk) (one_tile (tile_in s0) k y a o.tile is at_y e) ∙ sym near.chunk)) in
         lists_3.down k ∙ lists_2.down k ∙ ap down_of (gone.others k apart) ∙ first k apart none
 
     -- The one that is removed was freed just now.
-    pub left_filed : (classes : Classes) (class : ℕ) → class ≡ class_of_bytes (n.tile.end - n.tile.start) → KeepsLists s1 s2 → KeepsLists s2 s3 → IsIndexed (filed_but (filed_in s0) y None) z classes → AreFreeFiledBut s3 classes x (Some class)
+    left_filed : (classes : Classes) (class : ℕ) → class ≡ class_of_bytes (n.tile.end - n.tile.start) → KeepsLists s1 s2 → KeepsLists s2 s3 → IsIndexed (filed_but (filed_in s0) y None) z classes → AreFreeFiledBut s3 classes x (Some class)
     left_filed classes class is lists_2 lists_3 indexed =
         joined_filed (filed_but (filed_in s0) y None) classes (Some class)
         (but_other (filed_in s0) y x None (λ e. ne (sym e)) ∙ free_class (tile_in s0) x n.tile at_x n_free ∙ ap (λ c. Some c) (sym is))
@@ -263,10 +263,10 @@ module _ (size : ℕ → ℕ) (s0 z s1 s2 : Slab Node) (x y : ℕ) (n o : Node) 
     back_on : (class : ℕ) (was : Option ℕ) → class ≡ class_of_bytes (o.tile.end - o.tile.start) → filed_but (filed_in s0) x was y ≡ Some class
     back_on class was is = but_other (filed_in s0) x y was ne ∙ free_class (tile_in s0) y o.tile at_y free ∙ ap (λ c. Some c) (sym is)
 
-    pub back_ends : (classes : Classes) (class : ℕ) (was : Option ℕ) → class ≡ class_of_bytes (o.tile.end - o.tile.start) → AreFreeFiledBut s0 classes x was → KeepsLasts s0 classes z y (Some class) → KeepsLists s1 s2 → KeepsLists s2 s3 → KeepsEnds n.tile.chunk s0 s3
+    back_ends : (classes : Classes) (class : ℕ) (was : Option ℕ) → class ≡ class_of_bytes (o.tile.end - o.tile.start) → AreFreeFiledBut s0 classes x was → KeepsLasts s0 classes z y (Some class) → KeepsLists s1 s2 → KeepsLists s2 s3 → KeepsEnds n.tile.chunk s0 s3
     back_ends classes class was is filed lasts = joined_ends (lasts (filed_but (filed_in s0) x was) filed (back_on class was is))
 
-    pub back_filed : (classes new : Classes) (class : ℕ) (was : Option ℕ) → class ≡ class_of_bytes (o.tile.end - o.tile.start) → AreFreeFiledBut s0 classes x was → Refiles s0 classes z new y (Some class) None → KeepsLists s1 s2 → KeepsLists s2 s3
+    back_filed : (classes new : Classes) (class : ℕ) (was : Option ℕ) → class ≡ class_of_bytes (o.tile.end - o.tile.start) → AreFreeFiledBut s0 classes x was → Refiles s0 classes z new y (Some class) None → KeepsLists s1 s2 → KeepsLists s2 s3
         → AreFreeFiledBut s3 new x was
     back_filed classes new class was is filed refiles lists_2 lists_3 =
         joined_filed (filed_but (filed_but (filed_in s0) x was) y None) new was
@@ -346,7 +346,7 @@ module _ (size : ℕ → ℕ) (s0 z s1 s2 : Slab Node) (x y : ℕ) (n o : Node) 
 
     -- The one before was free first, and the one that is removed touched it.
     module _ (calm : IsCalmBut y (tile_in s0)) where
-      pub left_joined : IsJoined size s0 s3 x n.tile.chunk
+      left_joined : IsJoined size s0 s3 x n.tile.chunk
       left_joined = right_joined (λ j k c d ne_j ne_k is_c is_d both. elim (came_joint (tile_in s0) (tile_in s3) x y right_tile right_absorbed j c is_c) [
         | inl new ↦ ne_j new.0
         | inr was_c ↦ elim (came_joint (tile_in s0) (tile_in s3) x y right_tile right_absorbed k d is_d) [
@@ -355,12 +355,17 @@ module _ (size : ℕ → ℕ) (s0 z s1 s2 : Slab Node) (x y : ℕ) (n o : Node) 
         ]
       ])
 
-      pub left_is_first : IsFirst x (tile_in s3)
+      left_is_first : IsFirst x (tile_in s3)
       left_is_first k c t is_c is_t both = let was = first_was k c t is_c is_t both in calm k x c n.tile was.0 (λ e. ne (sym e)) was.1 at_x was.2
+
+      -- all that the join leaves
+      pub left_all : (class : ℕ) → class ≡ class_of_bytes (n.tile.end - n.tile.start) → KeepsLists s1 s2 → KeepsLists s2 s3 → ((k : ℕ) → k ≢ y → down_in s0 k ≡ NONE → down_in z k ≡ NONE)
+          → IsJoined size s0 s3 x n.tile.chunk × IsFirst x (tile_in s3) × ((classes : Classes) → IsIndexed (filed_but (filed_in s0) y None) z classes → AreFreeFiledBut s3 classes x (Some class)) × KeepsEnds n.tile.chunk s0 s3
+      left_all class is lists_2 lists_3 first = (left_joined, left_is_first, λ classes indexed. left_filed classes class is lists_2 lists_3 indexed, joined_ends first lists_2 lists_3)
 
     -- The one that is removed was free first.
     module _ (calm : IsCalmBut x (tile_in s0)) where
-      pub back_joined : IsJoined size s0 s3 x n.tile.chunk
+      back_joined : IsJoined size s0 s3 x n.tile.chunk
       back_joined = right_joined (joint_calm size (tile_in s0) (tile_in s3) x y x y n.tile o.tile right_tile tiled at_x at_y (inl (refl, refl)) right_joint right_absorbed calm)
 
       right_last : IsLast x (tile_in s3)
@@ -376,9 +381,15 @@ module _ (size : ℕ → ℕ) (s0 z s1 s2 : Slab Node) (x y : ℕ) (n o : Node) 
             })
           ]
 
-      pub back_kept : IsFirst x (tile_in s0) → AreNodesKept size s3
+      back_kept : IsFirst x (tile_in s0) → AreNodesKept size s3
       back_kept first = record {
         tiled = back_joined.beside.tiled;
         calm = settled (tile_in s3) x back_joined.beside.calm (λ k c t is_c is_t both. let was = first_was k c t is_c is_t both in first k c n.tile was.1 at_x was.2) right_last;
         linked = right_linked;
       }
+
+      -- all that the join leaves
+      pub back_all : IsFirst x (tile_in s0) → (classes new : Classes) (class : ℕ) → class ≡ class_of_bytes (o.tile.end - o.tile.start) → Refiles s0 classes z new y (Some class) None → KeepsLasts s0 classes z y (Some class) → KeepsLists s1 s2 → KeepsLists s2 s3
+          → IsJoined size s0 s3 x n.tile.chunk × AreNodesKept size s3 × (tile_in s3 x ≡ Some right_tile) × ((was : Option ℕ) → AreFreeFiledBut s0 classes x was → AreFreeFiledBut s3 new x was × KeepsEnds n.tile.chunk s0 s3)
+      back_all first classes new class is refiles lasts lists_2 lists_3 =
+          (back_joined, back_kept first, right_grown, λ was filed. (back_filed classes new class was is filed refiles lists_2 lists_3, back_ends classes class was is filed lasts lists_2 lists_3))

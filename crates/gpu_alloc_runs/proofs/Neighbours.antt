@@ -9,13 +9,12 @@ use Rattle.slab.specs.Slab.{Slab, entries, get, slab_len}
 use Rattle.slab.proofs.SlabLemmas.{Contains-entries, length-entries}
 use Rattle.gpu_alloc_base.specs.Accounts.{HeldChunks}
 use Rattle.gpu_alloc_base.specs.Chunks.{Chunk}
-use Rattle.gpu_alloc_base.specs.SlabViews.{HasOneKeyEach}
 use Rattle.gpu_alloc_base.specs.declared.free_list_block.Slot.{Slot}
 use Rattle.gpu_alloc_base.specs.declared.region.FreeListRegion.{FreeListRegion}
 use Rattle.gpu_alloc_base.proofs.FreeRuns.{region_is_run, run_is_region}
 use Rattle.gpu_alloc_base.proofs.Lists.{contains_head}
 use Rattle.gpu_alloc_base.proofs.SlabViews.{get_by_key}
-use Rattle.gpu_alloc_runs.specs.Inside.{IsBlockPlace, IsStoredInTiles, chunk_of_row, chunk_size_in, chunks_of_rows, fit_space_in, row_size, slot_of}
+use Rattle.gpu_alloc_runs.specs.Inside.{IsBlockPlace, IsStoredInTiles, chunk_of_row, chunk_size_in, chunks_of_rows, fit_space_in, slot_of}
 use Rattle.gpu_alloc_runs.specs.Links.{AreNodesKept}
 use Rattle.gpu_alloc_runs.specs.Space.{FitSpace, HasNeighbours, IsFreeIn, IsLiveFitSpan, IsLiveSlot, IsRunOrBlock, count_of, neighbours, neighbours_in, size_of}
 use Rattle.gpu_alloc_runs.specs.Tiles.{HasRun, tile_in, tile_region}
@@ -54,6 +53,13 @@ module _ {M : Type 0} (object : M → ℕ) (rows : Slab (Row M)) (nodes : Slab N
 
   pub neighbours_are : neighbours_in p.whole a.start a.end ≡ neighbours old b
   neighbours_are = λ i. neighbours_in (sym size_is i) (sym start_is i) (sym end_is i)
+
+-- an option that is the only one of a kind, or none where there is none of it
+none_is : {X : Type 0} (P : X → Type 0) → ((x : X) → P x → ⊥) → (x : X) → (None ≡ Some x) ↔ P x
+none_is P never x = ((λ e. absurd (cc)), (λ has. absurd (never x has)))
+
+some_is : {X : Type 0} (P : X → Type 0) (a : X) → P a → ((x : X) → P x → a ≡ x) → (x : X) → (Some a ≡ Some x) ↔ P x
+some_is P a has only x = ((λ e. let is : a ≡ x = cc in subst P is has), (λ other. ap Some (only x other)))
 
 -- What touches a live block.
 
@@ -101,29 +107,20 @@ module _ {M : Type 0} (object : M → ℕ) (rows : Slab (Row M)) (nodes : Slab N
     left_is = elim (cases_eq m.start 0) [
       | inl first ↦ (
         None,
-        λ r. (
-          (λ (e : None ≡ Some r). absurd (cc)),
-          (λ has.
-              let t = is_tile r has.0 in
-              absurd (omega (arith, first, has.2, kept.tiled.nonempty t.0 t.1 t.2, ap (λ (q : FreeListRegion). q.end) t.3))),
-        ),
+        none_is (λ r. IsRunOrBlock space r × (r.chunk ≡ m.chunk) × (r.end ≡ m.start))
+            (λ r has. let t = is_tile r has.0 in omega (arith, first, has.2, kept.tiled.nonempty t.0 t.1 t.2, ap (λ (q : FreeListRegion). q.end) t.3)),
         grind (arith, nat_tests, first),
       )
       | inr ne ↦
           let h = before_there (chunk_size_in rows) (tile_in nodes) kept.tiled x m at (omega (arith, ne)) in (
             Some (tile_region h.1),
-            λ r. (
-              (λ e.
-                  let is : tile_region h.1 ≡ r = cc in
-                  subst (λ q. IsRunOrBlock space q × (q.chunk ≡ m.chunk) × (q.end ≡ m.start)) is (tile_is h.0 h.1 h.2, h.3.chunk, h.3.meet)),
-              (λ has.
-                  let t = is_tile r has.0 in
-                  let end = ap (λ (q : FreeListRegion). q.end) t.3 in
-                  let some = kept.tiled.nonempty h.0 h.1 h.2 in
-                  let some_t = kept.tiled.nonempty t.0 t.1 t.2 in
-                  ap Some (same_region h.0 t.0 h.1 t.1 h.2 t.2 (h.3.chunk ∙ sym has.1 ∙ sym (ap (λ (q : FreeListRegion). q.chunk) t.3))
-                  (omega (arith, h.3.meet, has.2, end, some)) (omega (arith, h.3.meet, has.2, end, some_t)) ∙ t.3)),
-            ),
+            some_is (λ r. IsRunOrBlock space r × (r.chunk ≡ m.chunk) × (r.end ≡ m.start)) (tile_region h.1) (tile_is h.0 h.1 h.2, h.3.chunk, h.3.meet) (λ r has.
+                let t = is_tile r has.0 in
+                let end = ap (λ (q : FreeListRegion). q.end) t.3 in
+                let some = kept.tiled.nonempty h.0 h.1 h.2 in
+                let some_t = kept.tiled.nonempty t.0 t.1 t.2 in
+                same_region h.0 t.0 h.1 t.1 h.2 t.2 (h.3.chunk ∙ sym has.1 ∙ sym (ap (λ (q : FreeListRegion). q.chunk) t.3))
+                (omega (arith, h.3.meet, has.2, end, some)) (omega (arith, h.3.meet, has.2, end, some_t)) ∙ t.3),
             grind (arith, nat_tests, ne),
           )
     ]
@@ -133,31 +130,21 @@ module _ {M : Type 0} (object : M → ℕ) (rows : Slab (Row M)) (nodes : Slab N
     right_is = elim (cases_eq m.end (chunk_size_in rows m.chunk)) [
       | inl last ↦ (
         None,
-        λ r. (
-          (λ (e : None ≡ Some r). absurd (cc)),
-          (λ has.
-              let t = is_tile r has.0 in
-              let chunk : t.1.chunk ≡ m.chunk = ap (λ (q : FreeListRegion). q.chunk) t.3 ∙ has.1 in
-              let inside : t.1.end ≤ chunk_size_in rows m.chunk = subst (λ n. t.1.end ≤ chunk_size_in rows n) chunk (kept.tiled.inside t.0 t.1 t.2) in
-              absurd (omega (arith, last, has.2, inside, kept.tiled.nonempty t.0 t.1 t.2, ap (λ (q : FreeListRegion). q.start) t.3))),
-        ),
+        none_is (λ r. IsRunOrBlock space r × (r.chunk ≡ m.chunk) × (r.start ≡ m.end)) (λ r has.
+            let t = is_tile r has.0 in
+            let chunk : t.1.chunk ≡ m.chunk = ap (λ (q : FreeListRegion). q.chunk) t.3 ∙ has.1 in
+            let inside : t.1.end ≤ chunk_size_in rows m.chunk = subst (λ n. t.1.end ≤ chunk_size_in rows n) chunk (kept.tiled.inside t.0 t.1 t.2) in
+            omega (arith, last, has.2, inside, kept.tiled.nonempty t.0 t.1 t.2, ap (λ (q : FreeListRegion). q.start) t.3)),
         grind (arith, nat_tests, last),
       )
       | inr ne ↦
           let h = after_there (chunk_size_in rows) (tile_in nodes) kept.tiled x m at (omega (arith, ne, kept.tiled.inside x m at)) in (
             Some (tile_region h.1),
-            λ r. (
-              (λ e.
-                  let is : tile_region h.1 ≡ r = cc in
-                  subst (λ q. IsRunOrBlock space q × (q.chunk ≡ m.chunk) × (q.start ≡ m.end)) is (tile_is h.0 h.1 h.2, sym h.3.chunk, sym h.3.meet)),
-              (λ has.
-                  let t = is_tile r has.0 in
-                  let start = ap (λ (q : FreeListRegion). q.start) t.3 in
-                  let some = kept.tiled.nonempty h.0 h.1 h.2 in
-                  let some_t = kept.tiled.nonempty t.0 t.1 t.2 in
-                  ap Some (same_region h.0 t.0 h.1 t.1 h.2 t.2 (sym h.3.chunk ∙ sym has.1 ∙ sym (ap (λ (q : FreeListRegion). q.chunk) t.3))
-                  (omega (arith, h.3.meet, has.2, start, some_t)) (omega (arith, h.3.meet, has.2, start, some)) ∙ t.3)),
-            ),
+            some_is (λ r. IsRunOrBlock space r × (r.chunk ≡ m.chunk) × (r.start ≡ m.end)) (tile_region h.1) (tile_is h.0 h.1 h.2, sym h.3.chunk, sym h.3.meet) (λ r has.
+                let t = is_tile r has.0 in
+                let start = ap (λ (q : FreeListRegion). q.start) t.3 in
+                same_region h.0 t.0 h.1 t.1 h.2 t.2 (sym h.3.chunk ∙ sym has.1 ∙ sym (ap (λ (q : FreeListRegion). q.chunk) t.3))
+                (omega (arith, h.3.meet, has.2, start, kept.tiled.nonempty t.0 t.1 t.2)) (omega (arith, h.3.meet, has.2, start, kept.tiled.nonempty h.0 h.1 h.2)) ∙ t.3),
             grind (arith, nat_tests, ne),
           )
     ]

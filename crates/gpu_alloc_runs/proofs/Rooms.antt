@@ -1,5 +1,5 @@
 -- Which classes have room for a block: surely, surely not, and maybe.
-use Rattle.std.proofs.Common.{◌≡◌, ◌≢◌, inl, inr, ℕ, ◌+◌, ◌-◌, ◌*◌, ◌/◌, ◌%◌, ◌^◌, ◌<◌, ◌≤◌, Bool, true, false, cond, List, [], ◌∷◌, Option, Some, None, refl, sym, ◌∙◌, arith}
+use Rattle.std.proofs.Common.{◌≡◌, ◌≢◌, inl, inr, ℕ, ◌+◌, ◌-◌, ◌*◌, ◌/◌, ◌%◌, ◌<◌, ◌≤◌, Bool, true, false, cond, List, [], ◌∷◌, Option, Some, None, refl, sym, ◌∙◌, arith}
 use Rattle.std.proofs.lemmas.Bool.{cases_lt}
 use Rattle.std.proofs.lemmas.Nat.{div-add-mod', mod_below}
 use Rattle.slab.specs.Slab.{Slab}
@@ -12,7 +12,6 @@ use Rattle.gpu_alloc_runs.specs.declared.classes.Classes.{Classes}
 use Rattle.gpu_alloc_runs.specs.declared.tile.Node.{Node}
 use Rattle.gpu_alloc_runs.specs.declared.tile.TheConstants.{NONE}
 use Rattle.gpu_alloc_runs.specs.declared.tile.Tile.{Tile}
-use Rattle.gpu_alloc_runs.proofs.Filed.{free_class}
 use Rattle.gpu_alloc_runs.proofs.Filing.{below_none, first_is}
 use Rattle.gpu_alloc_runs.proofs.Lengths.{class_rises}
 

@@ -157,6 +157,16 @@ module _ (chunks : ℕ → ℕ) (T T' : ℕ → Option Tile) (x y l r : ℕ) (p 
       both : j ≡ l → k ≡ r → (after' j ≡ k) × (before' k ≡ j)
       both at_j at_k = (ap after' at_j ∙ l_r ∙ sym at_k, ap before' at_k ∙ r_l ∙ sym at_j)
 
+-- of a live tile and another, a free tile is the other, or is neither and was there
+free_one : (T T' : ℕ → Option Tile) (x y : ℕ) (n o : Tile) → T' x ≡ Some n → T' y ≡ Some o → o.free ≡ false → ((k : ℕ) → k ≢ x → k ≢ y → T' k ≡ T k) → (k : ℕ) (c : Tile) → T' k ≡ Some c → c.free ≡ true → ((k ≡ x) × (c ≡ n)) ⊎ ((k ≢ x) × (T k ≡ Some c))
+free_one T T' x y n o at_x at_y live others k c is c_free = elim (cases_eq k x) [
+  | inl here ↦ inl (here, one_tile T' k x c n is at_x here)
+  | inr ne_x ↦ elim (cases_eq k y) [
+    | inl here ↦ absurd (not_both c o (one_tile T' k y c o is at_y here) c_free live)
+    | inr ne_y ↦ inr (ne_x, sym (others k ne_x ne_y) ∙ is)
+  ]
+]
+
 -- The rest of a live tile is live, and what is cut off is free: o, which no free tile touches.
 module _ (chunks : ℕ → ℕ) (T T' : ℕ → Option Tile) (x y : ℕ) (n o m : Tile) (tiled : IsTiled chunks T) (calm : IsCalm T) (at : T x ≡ Some m) (live : n.free ≡ false) (o_free : o.free ≡ true) (splits : Splits T T' x y n o)
     (some_n : n.start < n.end) (some_o : o.start < o.end) where
@@ -172,14 +182,8 @@ module _ (chunks : ℕ → ℕ) (T T' : ℕ → Option Tile) (x y : ℕ) (n o m 
   }
 
   -- a free tile is the new one, or was one
-  free_came : (k : ℕ) (c : Tile) → T' k ≡ Some c → c.free ≡ true → ((k ≡ y) × (c ≡ o)) ⊎ ((k ≢ x) × (k ≢ y) × (T k ≡ Some c))
-  free_came k c is c_free = elim (cases_eq k y) [
-    | inl here ↦ inl (here, one_tile T' k y c o is splits.new here)
-    | inr ne_y ↦ elim (cases_eq k x) [
-      | inl here ↦ absurd (not_both c n (one_tile T' k x c n is splits.rest here) c_free live)
-      | inr ne_x ↦ inr (ne_x, ne_y, sym (splits.others k ne_x ne_y) ∙ is)
-    ]
-  ]
+  free_came : (k : ℕ) (c : Tile) → T' k ≡ Some c → c.free ≡ true → ((k ≡ y) × (c ≡ o)) ⊎ ((k ≢ y) × (T k ≡ Some c))
+  free_came = free_one T T' y x o n splits.new splits.rest live (λ k ne_y ne_x. splits.others k ne_x ne_y)
 
   module _ (joint : IsJoint n o m) where
     pub back_calm : IsFreeRight x T → IsCalm T'
@@ -189,8 +193,8 @@ module _ (chunks : ℕ → ℕ) (T T' : ℕ → Option Tile) (x y : ℕ) (n o m 
           (both.chunk ∙ ap (λ (t : Tile). t.chunk) a.1) (both.meet ∙ ap (λ (t : Tile). t.start) a.1) in
           not_both c n (one_tile T' j x c n is_c splits.rest same) both.left live
       | inr a ↦ elim (free_came j c is_c both.left) [
-        | inl b ↦ right k d m a.2 both.right at (record { chunk = joint.in_chunk ∙ joint.chunk ∙ sym (ap (λ (t : Tile). t.chunk) b.1) ∙ both.chunk; meet = joint.end ∙ sym (ap (λ (t : Tile). t.end) b.1) ∙ both.meet })
-        | inr b ↦ calm j k c d b.2 a.2 both
+        | inl b ↦ right k d m a.1 both.right at (record { chunk = joint.in_chunk ∙ joint.chunk ∙ sym (ap (λ (t : Tile). t.chunk) b.1) ∙ both.chunk; meet = joint.end ∙ sym (ap (λ (t : Tile). t.end) b.1) ∙ both.meet })
+        | inr b ↦ calm j k c d b.1 a.1 both
       ]
     ]
 
@@ -209,27 +213,21 @@ module _ (chunks : ℕ → ℕ) (T T' : ℕ → Option Tile) (x y : ℕ) (n o m 
   }
 
   -- a free tile is the front, or was one
-  free_end : (k : ℕ) (c : Tile) → T' k ≡ Some c → c.free ≡ true → ((k ≡ x) × (c ≡ n)) ⊎ ((k ≢ x) × (k ≢ y) × (T k ≡ Some c))
-  free_end k c is c_free = elim (cases_eq k x) [
-    | inl here ↦ inl (here, one_tile T' k x c n is splits.rest here)
-    | inr ne_x ↦ elim (cases_eq k y) [
-      | inl here ↦ absurd (not_both c o (one_tile T' k y c o is splits.new here) c_free live)
-      | inr ne_y ↦ inr (ne_x, ne_y, sym (splits.others k ne_x ne_y) ∙ is)
-    ]
-  ]
+  free_end : (k : ℕ) (c : Tile) → T' k ≡ Some c → c.free ≡ true → ((k ≡ x) × (c ≡ n)) ⊎ ((k ≢ x) × (T k ≡ Some c))
+  free_end = free_one T T' x y n o splits.rest splits.new live splits.others
 
   pub calm_end : IsCalm T'
   calm_end j k c d is_c is_d both = elim (free_end j c is_c both.left) [
     | inl a ↦ elim (free_end k d is_d both.right) [
       | inl b ↦ omega (arith, both.meet, ap (λ (t : Tile). t.end) a.1, ap (λ (t : Tile). t.start) b.1, some_n)
       | inr b ↦
-          let some = tiled.nonempty k d b.2 in
-          b.0 (tiled.apart k x d m b.2 at (sym both.chunk ∙ ap (λ (t : Tile). t.chunk) a.1 ∙ sym joint.in_chunk)
+          let some = tiled.nonempty k d b.1 in
+          b.0 (tiled.apart k x d m b.1 at (sym both.chunk ∙ ap (λ (t : Tile). t.chunk) a.1 ∙ sym joint.in_chunk)
           (omega (arith, both.meet, ap (λ (t : Tile). t.end) a.1, joint.meet, joint.end, some_o)) (omega (arith, both.meet, ap (λ (t : Tile). t.end) a.1, joint.start, some_n, some)))
     ]
     | inr a ↦ elim (free_end k d is_d both.right) [
-      | inl b ↦ calm j x c m a.2 at (record { chunk = both.chunk ∙ ap (λ (t : Tile). t.chunk) b.1 ∙ sym joint.in_chunk; meet = both.meet ∙ ap (λ (t : Tile). t.start) b.1 ∙ sym joint.start; left = both.left; right = free })
-      | inr b ↦ calm j k c d a.2 b.2 both
+      | inl b ↦ calm j x c m a.1 at (record { chunk = both.chunk ∙ ap (λ (t : Tile). t.chunk) b.1 ∙ sym joint.in_chunk; meet = both.meet ∙ ap (λ (t : Tile). t.start) b.1 ∙ sym joint.start; left = both.left; right = free })
+      | inr b ↦ calm j k c d a.1 b.1 both
     ]
   ]
 
@@ -238,5 +236,5 @@ module _ (chunks : ℕ → ℕ) (T T' : ℕ → Option Tile) (x y : ℕ) (n o m 
       let e = one_tile T' y y z o is_z splits.new refl in
       elim (free_end k c is_c c_free) [
         | inl a ↦ omega (arith, near.meet, ap (λ (t : Tile). t.end) e, ap (λ (t : Tile). t.start) a.1, some_n, some_o, joint.meet)
-        | inr a ↦ calm x k m c at a.2 (record { chunk = joint.in_chunk ∙ joint.chunk ∙ sym (ap (λ (t : Tile). t.chunk) e) ∙ near.chunk; meet = joint.end ∙ sym (ap (λ (t : Tile). t.end) e) ∙ near.meet; left = free; right = c_free })
+        | inr a ↦ calm x k m c at a.1 (record { chunk = joint.in_chunk ∙ joint.chunk ∙ sym (ap (λ (t : Tile). t.chunk) e) ∙ near.chunk; meet = joint.end ∙ sym (ap (λ (t : Tile). t.end) e) ∙ near.meet; left = free; right = c_free })
       ]

@@ -28,6 +28,7 @@ use Rattle.gpu_alloc_runs.specs.declared.fits.Chunk.{Chunk as Row}
 use Rattle.gpu_alloc_runs.specs.declared.tile.Node.{Node}
 use Rattle.gpu_alloc_runs.specs.declared.tile.Place.{Place}
 use Rattle.gpu_alloc_runs.specs.declared.tile.Tile.{Tile}
+use Rattle.gpu_alloc_runs.proofs.Chunks.{object_of_row}
 use Rattle.gpu_alloc_runs.proofs.Filed.{same_slots}
 use Rattle.gpu_alloc_runs.proofs.Live.{in_live, live_less, live_more}
 use Rattle.gpu_alloc_runs.proofs.Nodes.{keeps_kept, tile_of, tile_of_node}
@@ -494,5 +495,4 @@ module _ {M : Type 0} (object : M → ℕ) (rows : Slab (Row M)) (nodes : Slab N
 
   pub block_is : (row : Row M) → get rows a.chunk ≡ Some row → slot_of (chunks_of_rows object rows) (record { chunk = a.chunk; start = start; end = start + size; free = false }) ≡ record { object = object row.memory; chunk = a.chunk; offset = start; size = size }
   block_is row there =
-      block_slot (chunks_of_rows object rows) a.chunk start (start + size) size (object row.memory) refl
-      (told_object (map.get (chunks_of_rows object rows) a.chunk) (chunk_of_row object row) (get_by_key (chunk_of_row object) rows a.chunk ∙ ap (option_map (chunk_of_row object)) there))
+      block_slot (chunks_of_rows object rows) a.chunk start (start + size) size (object row.memory) refl (object_of_row object rows a.chunk row there)

@@ -1,14 +1,14 @@
 -- A search through the lists of free tiles, class by class.
-use Rattle.std.proofs.Common.{◌≡◌, ◌≢◌, ◌⊎◌, inl, inr, ℕ, ◌+◌, ◌<◌, ◌≤◌, List, [], ◌∷◌, length, Option, Some, None, IsSome, refl, sym, ◌∙◌, ap, subst, arith}
+use Rattle.std.proofs.Common.{◌≡◌, ◌≢◌, ◌⊎◌, inl, inr, ℕ, ◌+◌, ◌<◌, ◌≤◌, List, [], ◌∷◌, length, Option, Some, refl, sym, ◌∙◌, ap, subst, arith}
 use Rattle.std.proofs.lemmas.Bool.{cases_eq, cases_lt}
-use Rattle.slab.specs.Slab.{ContainsKey, Slab, get, slab_len}
+use Rattle.slab.specs.Slab.{ContainsKey, Slab, slab_len}
 use Rattle.gpu_alloc_runs.specs.Classes.{IsChain, IsIn, IsOnce, below_in, first_in}
-use Rattle.gpu_alloc_runs.specs.Filed.{AreFreeFiled, down_in, down_of, filed_in}
+use Rattle.gpu_alloc_runs.specs.Filed.{AreFreeFiled, down_in, filed_in}
 use Rattle.gpu_alloc_runs.specs.declared.classes.Classes.{Classes}
 use Rattle.gpu_alloc_runs.specs.declared.tile.Node.{Node}
 use Rattle.gpu_alloc_runs.specs.declared.tile.TheConstants.{NONE}
 use Rattle.gpu_alloc_runs.proofs.Counts.{few_keys}
-use Rattle.gpu_alloc_runs.proofs.Filing.{below_key, below_none}
+use Rattle.gpu_alloc_runs.proofs.Filing.{below_none}
 use Rattle.gpu_alloc_runs.proofs.Rooms.{none_filed}
 
 -- the keys follow one another below this one, to the last

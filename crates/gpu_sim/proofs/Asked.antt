@@ -8,7 +8,7 @@ use Rattle.gpu_alloc_types.specs.Properties.{Properties, is_host_visible}
 use Rattle.gpu_alloc_base.proofs.Names.{here}
 use Rattle.gpu_sim.specs.ObjectLaws.{alike, held_once_shown, whole_at}
 use Rattle.gpu_sim.specs.Objects.{AreWhole, HasRange, IsWhole, shown}
-use Rattle.gpu_sim.specs.Sim.{IsWritable}
+use Rattle.gpu_sim.specs.Sim.{IsWritable, SimState, objects_of}
 
 has_range : (p : Properties) (o : Object) → IsWhole p o → (offset size : ℕ) → offset + size ≤ length o.host_bytes → HasRange offset size o
 has_range p o w offset size inside = record { host = inside; device = subst (λ n. offset + size ≤ n) (alike p o w) inside }
@@ -35,7 +35,11 @@ module _ (p : Properties) (objects : FinMap nat_cmp Object) (whole : AreWhole p 
         let bytes = here held.0.mapped (λ r. r.0 + r.1 ≤ length held.0.host_bytes) w.mapped_bytes m.0 m.1 in
         (held.0, is, has_range p held.0 w offset size (let end = m.3 in omega (arith, bytes, end)))
 
-  pub flushable_have : (rs : List Range) → AreFlushable p (shown p objects) rs → All (λ r. HeldWith (map.get objects) r.object (HasRange r.offset r.size)) rs
+  flushable_have : (rs : List Range) → AreFlushable p (shown p objects) rs → All (λ r. HeldWith (map.get objects) r.object (HasRange r.offset r.size)) rs
   flushable_have rs each k d lt =
       let held = each k d lt in
       mapped_has _ _ _ (held.0, held.1, held.2.mapped)
+
+-- the same of a device that is seen so
+pub ready_to_copy : (inside now : SimState) (rs : List Range) → inside ≡ now → AreWhole inside.properties inside.objects → AreFlushable now.properties (objects_of now) rs → All (λ r. HeldWith (map.get inside.objects) r.object (HasRange r.offset r.size)) rs
+ready_to_copy inside now rs is whole ready = flushable_have inside.properties inside.objects whole rs (subst (λ sim. AreFlushable sim.properties (objects_of sim) rs) (sym is) ready)

@@ -229,41 +229,47 @@ module _ {T : Type 0} where
         ∙ ap (λ o. cond ((place_at places i).generation == q / 2 ^ 32) o None) empty
         ∙ either _ None
 
-    -- A value is put into an empty place.
-    held_put : (v : T) → Changes old new i (record { generation = g; value = Some v }) → (place_at old i).value ≡ None
-        → (q : ℕ) → held new q ≡ cond (q == g * 2 ^ 32 + i) (Some v) (held old q)
-    held_put v c empty q = elim (one_or_two (q % 2 ^ 32) i) [
-      | inl e ↦
-          ap (λ n. of_generation (q / 2 ^ 32) (place_at new n)) e
-          ∙ ap (of_generation (q / 2 ^ 32)) c.changed
-          ∙ sym (ap (λ t. cond t (Some v) (held old q)) (by_generation q e) ∙ ap (cond (g == q / 2 ^ 32) (Some v)) (held_empty q old empty e))
-      | inr ne ↦ held_other q _ c ne ∙ sym (ap (λ t. cond t (Some v) (held old q)) (other q _ (not_in_place q ne)))
-    ]
-
-    pub live_put : (v : T) → Changes old new i (record { generation = g; value = Some v }) → (place_at old i).value ≡ None
-        → live_in new ≡ finite.insert (live_in old) (g * 2 ^ 32 + i) v
-    live_put v c empty = finite.same_map nat_cmp_total nat_cmp-IsAntisymmetric _ _ (λ q.
-        get_live new q few ∙ held_put v c empty q
+    inserted : (v : T) → ((q : ℕ) → held new q ≡ cond (q == g * 2 ^ 32 + i) (Some v) (held old q)) → live_in new ≡ finite.insert (live_in old) (g * 2 ^ 32 + i) v
+    inserted v is = finite.same_map nat_cmp_total nat_cmp-IsAntisymmetric _ _ (λ q.
+        get_live new q few ∙ is q
         ∙ sym (finite.get-insert nat_cmp_total (live_in old) (g * 2 ^ 32 + i) v q
         ∙ ap (λ t. cond t (Some v) (finite.get (live_in old) q)) (key_test q (g * 2 ^ 32 + i))
         ∙ ap (cond (q == g * 2 ^ 32 + i) (Some v)) (get_live old q few_old)))
 
+    -- A place is written: what is found then, where the key is of that place.
+    held_set : (p : Place T) (o : Option T) → Changes old new i p → ((q : ℕ) → q % 2 ^ 32 ≡ i → of_generation (q / 2 ^ 32) p ≡ cond (g == q / 2 ^ 32) o (held old q))
+        → (q : ℕ) → held new q ≡ cond (q == g * 2 ^ 32 + i) o (held old q)
+    held_set p o c here q = elim (one_or_two (q % 2 ^ 32) i) [
+      | inl e ↦
+          ap (λ n. of_generation (q / 2 ^ 32) (place_at new n)) e
+          ∙ ap (of_generation (q / 2 ^ 32)) c.changed ∙ here q e ∙ sym (ap (λ t. cond t o (held old q)) (by_generation q e))
+      | inr ne ↦ held_other q _ c ne ∙ sym (ap (λ t. cond t o (held old q)) (other q _ (not_in_place q ne)))
+    ]
+
+    -- the value of that generation is the only one there
+    alone : (o : Option T) → (place_at old i).generation ≡ g → (q : ℕ) → q % 2 ^ 32 ≡ i → cond (g == q / 2 ^ 32) o (held old q) ≡ cond (g == q / 2 ^ 32) o None
+    alone o there q e =
+        ap (λ n. cond (g == q / 2 ^ 32) o (of_generation (q / 2 ^ 32) (place_at old n))) e
+        ∙ ap (λ n. cond (g == q / 2 ^ 32) o (cond (n == q / 2 ^ 32) (place_at old i).value None)) there
+        ∙ once (g == q / 2 ^ 32) (place_at old i).value
+      where
+        once : (b : Bool) (was : Option T) → cond b o (cond b was None) ≡ cond b o None
+        once true was = refl
+        once false was = refl
+
+    -- A value is put into an empty place.
+    held_put : (v : T) → Changes old new i (record { generation = g; value = Some v }) → (place_at old i).value ≡ None
+        → (q : ℕ) → held new q ≡ cond (q == g * 2 ^ 32 + i) (Some v) (held old q)
+    held_put v c empty = held_set _ (Some v) c (λ q e. sym (ap (cond (g == q / 2 ^ 32) (Some v)) (held_empty q old empty e)))
+
+    pub live_put : (v : T) → Changes old new i (record { generation = g; value = Some v }) → (place_at old i).value ≡ None
+        → live_in new ≡ finite.insert (live_in old) (g * 2 ^ 32 + i) v
+    live_put v c empty = inserted v (held_put v c empty)
+
     -- The value is taken out of its place.
     held_out : (h : ℕ) → Changes old new i (record { generation = h; value = None }) → (place_at old i).generation ≡ g
         → (q : ℕ) → held new q ≡ cond (q == g * 2 ^ 32 + i) None (held old q)
-    held_out h c there q = elim (one_or_two (q % 2 ^ 32) i) [
-      | inl e ↦
-          held_empty q new (ap (λ (p : Place T). p.value) c.changed) e
-          ∙ sym (ap (λ t. cond t None (held old q)) (by_generation q e)
-          ∙ ap (λ n. cond (g == q / 2 ^ 32) None (of_generation (q / 2 ^ 32) (place_at old n))) e
-          ∙ ap (λ n. cond (g == q / 2 ^ 32) None (cond (n == q / 2 ^ 32) (place_at old i).value None)) there
-          ∙ gone (g == q / 2 ^ 32) (place_at old i).value)
-      | inr ne ↦ held_other q _ c ne ∙ sym (ap (λ t. cond t None (held old q)) (other q _ (not_in_place q ne)))
-    ]
-      where
-        gone : (b : Bool) (o : Option T) → cond b None (cond b o None) ≡ None
-        gone true o = refl
-        gone false o = refl
+    held_out h c there = held_set _ None c (λ q e. either _ None ∙ sym (alone None there q e ∙ either _ None))
 
     pub live_out : (h : ℕ) → Changes old new i (record { generation = h; value = None }) → (place_at old i).generation ≡ g
         → live_in new ≡ finite.remove (live_in old) (g * 2 ^ 32 + i)
@@ -274,30 +280,9 @@ module _ {T : Type 0} where
         ∙ ap (cond (q == g * 2 ^ 32 + i) None) (get_live old q few_old)))
 
     -- Another value is put in the place of one.
-    held_over : (v : T) → Changes old new i (record { generation = g; value = Some v }) → (place_at old i).generation ≡ g
-        → (q : ℕ) → held new q ≡ cond (q == g * 2 ^ 32 + i) (Some v) (held old q)
-    held_over v c there q = elim (one_or_two (q % 2 ^ 32) i) [
-      | inl e ↦
-          ap (λ n. of_generation (q / 2 ^ 32) (place_at new n)) e
-          ∙ ap (of_generation (q / 2 ^ 32)) c.changed
-          ∙ sym (ap (λ t. cond t (Some v) (held old q)) (by_generation q e)
-          ∙ ap (λ n. cond (g == q / 2 ^ 32) (Some v) (of_generation (q / 2 ^ 32) (place_at old n))) e
-          ∙ ap (λ n. cond (g == q / 2 ^ 32) (Some v) (cond (n == q / 2 ^ 32) (place_at old i).value None)) there
-          ∙ put (g == q / 2 ^ 32) (place_at old i).value)
-      | inr ne ↦ held_other q _ c ne ∙ sym (ap (λ t. cond t (Some v) (held old q)) (other q _ (not_in_place q ne)))
-    ]
-      where
-        put : (b : Bool) (o : Option T) → cond b (Some v) (cond b o None) ≡ cond b (Some v) None
-        put true o = refl
-        put false o = refl
-
     pub live_over : (v : T) → Changes old new i (record { generation = g; value = Some v }) → (place_at old i).generation ≡ g
         → live_in new ≡ finite.insert (live_in old) (g * 2 ^ 32 + i) v
-    live_over v c there = finite.same_map nat_cmp_total nat_cmp-IsAntisymmetric _ _ (λ q.
-        get_live new q few ∙ held_over v c there q
-        ∙ sym (finite.get-insert nat_cmp_total (live_in old) (g * 2 ^ 32 + i) v q
-        ∙ ap (λ t. cond t (Some v) (finite.get (live_in old) q)) (key_test q (g * 2 ^ 32 + i))
-        ∙ ap (cond (q == g * 2 ^ 32 + i) (Some v)) (get_live old q few_old)))
+    live_over v c there = inserted v (held_set _ (Some v) c (λ q e. sym (alone (Some v) there q e)))
 
     -- What is found then.
 

@@ -169,11 +169,7 @@ module _ {T : Type 0} where
         from : IsGiven (state old) q ⊎ (q ≡ g * 2 ^ 32 + i)
             → IsGiven (state new) q
         from (inl (inl p)) = elim (one_or_two (q % 2 ^ 32) i) [
-          | inl e ↦
-              let now = gens_here q e in
-              let were = gens_were q e in
-              let below = p.1 in
-              inl (p.0, omega (arith, now, were, below, up))
+          | inl e ↦ inl (p.0, omega (arith, gens_here q e, gens_were q e, p.1, up))
           | inr ne ↦ let same = gens_other q ne in let below = p.1 in inl (p.0, omega (arith, same, below))
         ]
         from (inl (inr live)) = elim (one_or_two q (g * 2 ^ 32 + i)) [
@@ -427,11 +423,7 @@ module _ {T : Type 0} where
         from : IsGiven (state old) q
             → IsGiven (state new) q
         from (inl p) = elim (one_or_two (q % 2 ^ 32) i) [
-          | inl e ↦
-              let now = gens_now q e in
-              let were = gens_before q e in
-              let below = p.1 in
-              inl (p.0, omega (arith, now, were, below, up))
+          | inl e ↦ inl (p.0, omega (arith, gens_now q e, gens_before q e, p.1, up))
           | inr ne ↦ let same = gens_others q ne in let below = p.1 in inl (p.0, omega (arith, same, below))
         ]
         from (inr some) = elim (one_or_two q (g * 2 ^ 32 + i)) [

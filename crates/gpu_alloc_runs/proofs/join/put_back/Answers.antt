@@ -1,4 +1,4 @@
-use Rattle.std.proofs.Common.{◌∙◌, ap, sym}
+use Rattle.std.proofs.Common.{◌∙◌}
 use Rattle.gpu_alloc_runs.specs.Inside.{chunk_size_in}
 use Rattle.gpu_alloc_runs.proofs.Joins.{freed, freed_elsewhere, freed_filed, freed_others}
 use Rattle.gpu_alloc_runs.proofs.join.put_back.Goals as goal

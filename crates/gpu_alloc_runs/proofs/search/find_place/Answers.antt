@@ -1,4 +1,4 @@
-use Rattle.std.proofs.Common.{◌≡◌, ◌≢◌, inl, inr, ℕ, Some, ◌+◌, ◌<◌, ◌≤◌, sym, ◌∙◌, ap, subst, IsSome, refl, arith}
+use Rattle.std.proofs.Common.{◌≡◌, ◌≢◌, inl, inr, Some, ◌+◌, ◌<◌, ◌≤◌, sym, ◌∙◌, ap, subst, IsSome, refl, arith}
 use Rattle.std.proofs.lemmas.Bool.{cases_lt}
 use Rattle.slab.specs.Slab.{ContainsKey}
 use Rattle.gpu_alloc_runs.specs.Choice.{sure_class}

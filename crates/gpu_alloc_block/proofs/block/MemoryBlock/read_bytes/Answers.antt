@@ -7,6 +7,10 @@ use Rattle.gpu_alloc_block.proofs.Kept.{agrees_moving, moving_in_hand}
 use Rattle.gpu_alloc_block.proofs.Rounded.{lies_in_block}
 use Rattle.gpu_alloc_block.proofs.block.MemoryBlock.read_bytes.Goals as goal
 
+pub returns-clause-agrees : goal.returns-clause-agrees
+returns-clause-agrees g c =
+    agrees_moving c.args.self.now (g.D.MemoryDevice.properties c.args.device.now) (g.D.MemoryDevice.properties c.read.new.device) (g.D.MemoryDevice.objects c.args.device.now) (g.D.MemoryDevice.objects c.read.new.device) (ReadsWithin c.args.self.now c.args.offset (length c.args.bytes.now)) (λ o new w. w.rest) c.read.ensures.properties c.read.ensures.within c.requires.agrees
+
 pub returns-clause-told : goal.returns-clause-told
 returns-clause-told g c =
     let b = c.args.self.now in
@@ -17,36 +21,16 @@ returns-clause-told g c =
     on_success c.read.result (ChangesBytes b len (IsReadThrough b c.args.offset bytes) f moved) (Stores b c.args.offset bytes f)
     (read_told b c.args.offset bytes f moved len c.read.auto.bytes) c.read.ensures.read
 
+pub returns-clause-keeps : goal.returns-clause-keeps
+returns-clause-keeps g c =
+    keeps_with_other_bytes c.args.self.now (g.D.MemoryDevice.properties c.args.device.now) (g.D.MemoryDevice.properties c.read.new.device) (g.D.MemoryDevice.objects c.args.device.now) (g.D.MemoryDevice.objects c.read.new.device) (ReadsWithin c.args.self.now c.args.offset (length c.args.bytes.now)) (λ o new w. w.rest) c.read.ensures.properties c.read.ensures.within
+
 pub returns-clause-unmoved : goal.returns-clause-unmoved
 returns-clause-unmoved g c =
     read_unmoved c.args.self.now c.args.offset (length c.args.bytes.now) (g.D.MemoryDevice.objects c.args.device.now) (g.D.MemoryDevice.objects c.read.new.device) c.read.ensures.within
 
-pub returns-clause-agrees : goal.returns-clause-agrees
-returns-clause-agrees g c =
-    let b = c.args.self.now in
-    let p = g.D.MemoryDevice.properties c.args.device.now in
-    let q = g.D.MemoryDevice.properties c.read.new.device in
-    let f = g.D.MemoryDevice.objects c.args.device.now in
-    let moved = g.D.MemoryDevice.objects c.read.new.device in
-    agrees_moving b p q f moved (ReadsWithin b c.args.offset (length c.args.bytes.now)) (λ o new w. w.rest) c.read.ensures.properties c.read.ensures.within c.requires.agrees
-
-pub returns-clause-keeps : goal.returns-clause-keeps
-returns-clause-keeps g c =
-    let b = c.args.self.now in
-    let p = g.D.MemoryDevice.properties c.args.device.now in
-    let q = g.D.MemoryDevice.properties c.read.new.device in
-    let f = g.D.MemoryDevice.objects c.args.device.now in
-    let moved = g.D.MemoryDevice.objects c.read.new.device in
-    keeps_with_other_bytes b p q f moved (ReadsWithin b c.args.offset (length c.args.bytes.now)) (λ o new w. w.rest) c.read.ensures.properties c.read.ensures.within
-
 pub returns-clause-in_hand : goal.returns-clause-in_hand
 returns-clause-in_hand g c =
-    let b = c.args.self.now in
-    let p = g.D.MemoryDevice.properties c.args.device.now in
-    let q = g.D.MemoryDevice.properties c.read.new.device in
-    let f = g.D.MemoryDevice.objects c.args.device.now in
-    let moved = g.D.MemoryDevice.objects c.read.new.device in
-    let len = length c.args.bytes.now in
-    let lies = lies_in_block b p f c.args.offset len c.keeps_end.ensures.some c.requires.agrees c.requires.inside in
-    moving_in_hand b p q f moved (ReadsWithin b c.args.offset len) (λ o new w. w.rest) c.read.ensures.properties c.read.ensures.within c.requires.agrees
-    (λ d two. read_leaves b d two c.args.offset len f moved lies c.read.ensures.within)
+    let lies = lies_in_block c.args.self.now (g.D.MemoryDevice.properties c.args.device.now) (g.D.MemoryDevice.objects c.args.device.now) c.args.offset (length c.args.bytes.now) c.keeps_end.ensures.some c.requires.agrees c.requires.inside in
+    moving_in_hand c.args.self.now (g.D.MemoryDevice.properties c.args.device.now) (g.D.MemoryDevice.properties c.read.new.device) (g.D.MemoryDevice.objects c.args.device.now) (g.D.MemoryDevice.objects c.read.new.device) (ReadsWithin c.args.self.now c.args.offset (length c.args.bytes.now)) (λ o new w. w.rest) c.read.ensures.properties c.read.ensures.within c.requires.agrees
+    (λ d two. read_leaves c.args.self.now d two c.args.offset (length c.args.bytes.now) (g.D.MemoryDevice.objects c.args.device.now) (g.D.MemoryDevice.objects c.read.new.device) lies c.read.ensures.within)

@@ -1,8 +1,7 @@
 use Rattle.std.proofs.Common.{None, refl, sym, subst}
-use Rattle.gpu_alloc_block.proofs.Between.{unmapped_so, keeps_remapped}
 use Rattle.gpu_alloc_block.proofs.Contents.{closed_leaves, same_objects}
-use Rattle.gpu_alloc_block.proofs.Keeping.{agrees_remapped, same_block}
-use Rattle.gpu_alloc_block.proofs.Kept.{nothing_in_hand, remapped_in_hand}
+use Rattle.gpu_alloc_block.proofs.Keeping.{same_block}
+use Rattle.gpu_alloc_block.proofs.Kept.{nothing_in_hand, unmapped_agrees, unmapped_in_hand, unmapped_keeps}
 use Rattle.gpu_alloc_block.specs.Agreement.{BlockAgrees}
 use Rattle.gpu_alloc_block.specs.InHand.{IsSameBlock}
 use Rattle.gpu_alloc_block.specs.Kept.{KeepsInHand}
@@ -10,24 +9,15 @@ use Rattle.gpu_alloc_block.specs.State.{is_shared}
 use Rattle.gpu_alloc_block.proofs.block.MemoryBlock.unmap.Goals as goal
 
 pub returns-clause-agrees : goal.returns-clause-agrees
-unfolding BlockAgrees
 returns-clause-agrees g c =
-    let b = c.args.self.now in
-    let p = g.D.ObjectDevice.properties c.args.device.now in
     let q = g.D.ObjectDevice.properties c.close.new.device in
-    let f = g.D.ObjectDevice.objects c.args.device.now in
     let closed = g.D.ObjectDevice.objects c.close.new.device in
     rw (c.none-self-inside.ensures) (subst (λ x. BlockAgrees (record x { mapping = None }) q closed) (sym c.self.view_is)
-    (agrees_remapped b None p q f closed c.close.ensures.properties tt (λ some. absurd (cc)) (unmapped_so p b f closed c.requires c.close.ensures.objects) c.requires))
+    (unmapped_agrees c.args.self.now (g.D.ObjectDevice.properties c.args.device.now) q (g.D.ObjectDevice.objects c.args.device.now) closed c.close.ensures.properties c.requires c.close.ensures.objects))
 
 pub returns-clause-keeps : goal.returns-clause-keeps
-unfolding BlockAgrees
 returns-clause-keeps g c =
-    let b = c.args.self.now in
-    let p = g.D.ObjectDevice.properties c.args.device.now in
-    let f = g.D.ObjectDevice.objects c.args.device.now in
-    let closed = g.D.ObjectDevice.objects c.close.new.device in
-    keeps_remapped b p (g.D.ObjectDevice.properties c.close.new.device) f closed None c.close.ensures.properties (unmapped_so p b f closed c.requires c.close.ensures.objects)
+    unmapped_keeps c.args.self.now (g.D.ObjectDevice.properties c.args.device.now) (g.D.ObjectDevice.properties c.close.new.device) (g.D.ObjectDevice.objects c.args.device.now) (g.D.ObjectDevice.objects c.close.new.device) c.close.ensures.properties c.requires c.close.ensures.objects
 
 pub returns-clause-same : goal.returns-clause-same
 unfolding BlockAgrees
@@ -47,14 +37,10 @@ returns-clause-bytes g c = λ d.
     closed_leaves (is_shared b.kind) (g.D.ObjectDevice.objects c.args.device.now) (g.D.ObjectDevice.objects c.close.new.device) b d c.close.ensures.objects
 
 pub returns-clause-in_hand : goal.returns-clause-in_hand
-unfolding BlockAgrees
 returns-clause-in_hand g c =
-    let b = c.args.self.now in
     let p = g.D.ObjectDevice.properties c.args.device.now in
     let q = g.D.ObjectDevice.properties c.close.new.device in
     let f = g.D.ObjectDevice.objects c.args.device.now in
     let closed = g.D.ObjectDevice.objects c.close.new.device in
-    let so = unmapped_so p b f closed c.requires c.close.ensures.objects in
-    rw (c.none-self-inside.ensures) (subst (λ x. KeepsInHand b p f (record x { mapping = None }) q closed) (sym c.self.view_is)
-    (remapped_in_hand b None p q f closed c.close.ensures.properties so (agrees_remapped b None p q f closed c.close.ensures.properties tt (λ some. absurd (cc)) so c.requires)
-    (λ d. closed_leaves (is_shared b.kind) f closed b d c.close.ensures.objects)))
+    rw (c.none-self-inside.ensures) (subst (λ x. KeepsInHand c.args.self.now p f (record x { mapping = None }) q closed) (sym c.self.view_is)
+    (unmapped_in_hand c.args.self.now p q f closed c.close.ensures.properties c.requires c.close.ensures.objects))

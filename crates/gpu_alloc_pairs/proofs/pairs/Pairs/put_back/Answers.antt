@@ -11,7 +11,7 @@ use Rattle.gpu_alloc_pairs.specs.Space.{IsLiveLeaf, IsUnusedChunk, without_leaf}
 use Rattle.gpu_alloc_pairs.specs.Store.{buddy_space_in, IsStored}
 use Rattle.gpu_alloc_pairs.specs.Tree.{pair_at}
 use Rattle.gpu_alloc_pairs.specs.declared.pairs.Chunk.{Chunk as StoredChunk}
-use Rattle.gpu_alloc_pairs.proofs.PutsBack.{at_half, comes_back, few_releases, gone_is, gone_space, leaf_order, left_space, no_more_in_use, returning, still_in_use, stored_gone, stored_left}
+use Rattle.gpu_alloc_pairs.proofs.PutsBack.{at_half, comes_back, few_releases, gone_is, gone_space, left_space, no_more_in_use, still_in_use, stored_gone, stored_left, told_back}
 use Rattle.gpu_alloc_pairs.proofs.pairs.Pairs.put_back.Given.{Over}
 use Rattle.gpu_alloc_pairs.proofs.pairs.Pairs.put_back.Goals.{In_ok-gone}
 use Rattle.gpu_alloc_pairs.proofs.pairs.Pairs.put_back.Goals as goal
@@ -40,12 +40,8 @@ again g c = rw (← c.self.view_is) at c.requires.live
 stays : (g : Over) (c : goal.After-from_residual g) → IsFreeAgain (pair_at c.self.inside.lengths.items) (pair_at c.put_back.new.lengths.items)
     (without_leaf (buddy_space_in (by_key (seen g) c.self.inside.chunks) c.self.inside.lengths.items) c.args.leaf) (at_half (by_key (seen g) c.self.inside.chunks) c.self.inside.lengths.items c.self.invariant c.args.leaf (again g c)).0.piece
 stays g c =
-    let i = c.self.invariant in
-    let live = again g c in
-    let chunks = by_key (seen g) c.self.inside.chunks in
-    (c.in_err-gone.ensures.stays) (without_leaf (buddy_space_in chunks c.self.inside.lengths.items) c.args.leaf) (at_half chunks c.self.inside.lengths.items i c.args.leaf live).0.piece
-    (leaf_order chunks c.self.inside.lengths.items i c.args.leaf live c.order_of-order.result c.order_of-order.ensures.is)
-    (returning chunks c.self.inside.lengths.items i c.args.leaf live c.order_of-order.result c.side_of-side.result c.order_of-order.ensures.is c.side_of-side.ensures)
+    told_back (by_key (seen g) c.self.inside.chunks) c.self.inside.lengths.items c.self.invariant c.args.leaf (again g c) c.order_of-order.result c.side_of-side.result c.order_of-order.ensures.is c.side_of-side.ensures
+    (IsFreeAgain (pair_at c.self.inside.lengths.items) (pair_at c.put_back.new.lengths.items)) c.in_err-gone.ensures.stays
 
 pub invariant_of-self : goal.invariant_of-self
 invariant_of-self g c =
@@ -77,12 +73,8 @@ live_then g c = rw (← c.self.view_is) at c.requires.live
 goes : (g : Over) (c : In_ok-gone g) → IsWholeAgain (pair_at c.self.inside.lengths.items) (pair_at c.put_back.new.lengths.items)
     (without_leaf (buddy_space_in (by_key (seen g) c.self.inside.chunks) c.self.inside.lengths.items) c.args.leaf) (at_half (by_key (seen g) c.self.inside.chunks) c.self.inside.lengths.items c.self.invariant c.args.leaf (live_then g c)).0.piece c.in_ok-gone.gone
 goes g c =
-    let i = c.self.invariant in
-    let live = live_then g c in
-    let chunks = by_key (seen g) c.self.inside.chunks in
-    (c.in_ok-gone.ensures.goes) (without_leaf (buddy_space_in chunks c.self.inside.lengths.items) c.args.leaf) (at_half chunks c.self.inside.lengths.items i c.args.leaf live).0.piece
-    (leaf_order chunks c.self.inside.lengths.items i c.args.leaf live c.order_of-order.result c.order_of-order.ensures.is)
-    (returning chunks c.self.inside.lengths.items i c.args.leaf live c.order_of-order.result c.side_of-side.result c.order_of-order.ensures.is c.side_of-side.ensures)
+    told_back (by_key (seen g) c.self.inside.chunks) c.self.inside.lengths.items c.self.invariant c.args.leaf (live_then g c) c.order_of-order.result c.side_of-side.result c.order_of-order.ensures.is c.side_of-side.ensures
+    (λ s z. IsWholeAgain (pair_at c.self.inside.lengths.items) (pair_at c.put_back.new.lengths.items) s z c.in_ok-gone.gone) c.in_ok-gone.ensures.goes
 
 -- the chunk that goes is the block's
 is_gone : (g : Over) (c : In_ok-gone g) → c.in_ok-gone.gone ≡ c.args.leaf.chunk

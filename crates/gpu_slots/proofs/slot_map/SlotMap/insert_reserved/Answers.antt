@@ -1,7 +1,8 @@
-use Rattle.std.proofs.Common.{◌≡◌, ◌<◌, ◌∙◌, length, arith}
+use Rattle.std.proofs.Common.{◌≡◌, ◌+◌, ◌^◌, ◌<◌, ◌∙◌, length, arith}
 use Rattle.gpu_slots.proofs.Lookups.{read_at}
 use Rattle.gpu_slots.proofs.Sound.{gone_put, sound_push, push_live, push_is_new, push_given, takes_last, last_free, fill_was_empty, fill_begun, fill_unspent, place_fits, sound_fill, fill_live, fill_is_new, fill_given}
 use Rattle.gpu_slots.proofs.Taken.{puts_at, free_key}
+use Rattle.gpu_slots.proofs.slot_map.SlotMap.insert_reserved.Given.{Over}
 use Rattle.gpu_slots.proofs.slot_map.SlotMap.insert_reserved.Goals as goal
 
 pub invariant_of-self : goal.invariant_of-self
@@ -11,29 +12,21 @@ invariant_of-self g c =
     rw c.pop.ensures.capacity
     (sound_push c.self.inside.places.items _ c.args.value c.push_reserved.ensures.items (omega (arith, room, none)) c.self.inside.free.items _ c.self.inside.len _ c.self.invariant (omega (arith, none)) (omega (arith, room, none)))
 
-pub returns-in_default-clause-new_key : goal.returns-in_default-clause-new_key
-returns-in_default-clause-new_key g c =
+-- a value more may have a place, the one after the last
+next : (g : Over) (c : goal.After-push_reserved g) → (length c.self.inside.places.items + 1 < 2 ^ 32) × (c.len-at.result ≡ length c.self.inside.places.items)
+next g c =
     let room = rw (← c.self.view_is) at c.requires in
     let none = c.in_default.ensures.cases in
-    let at : c.len-at.result ≡ length c.self.inside.places.items = c.len-at.ensures ∙ c.self.inside.places.ok.0 in
-    rw (← c.self.view_is, at)
-    (push_is_new c.self.inside.places.items _ c.args.value c.push_reserved.ensures.items (omega (arith, room, none)))
+    (omega (arith, room, none), c.len-at.ensures ∙ c.self.inside.places.ok.0)
+
+pub returns-in_default-clause-new_key : goal.returns-in_default-clause-new_key
+returns-in_default-clause-new_key g c = rw (← c.self.view_is, (next g c).1) (push_is_new c.self.inside.places.items _ c.args.value c.push_reserved.ensures.items (next g c).0)
 
 pub returns-in_default-clause-live : goal.returns-in_default-clause-live
-returns-in_default-clause-live g c =
-    let room = rw (← c.self.view_is) at c.requires in
-    let none = c.in_default.ensures.cases in
-    let at : c.len-at.result ≡ length c.self.inside.places.items = c.len-at.ensures ∙ c.self.inside.places.ok.0 in
-    rw (← c.self.view_is, at)
-    (push_live c.self.inside.places.items _ c.args.value c.push_reserved.ensures.items (omega (arith, room, none)))
+returns-in_default-clause-live g c = rw (← c.self.view_is, (next g c).1) (push_live c.self.inside.places.items _ c.args.value c.push_reserved.ensures.items (next g c).0)
 
 pub returns-in_default-clause-given : goal.returns-in_default-clause-given
-returns-in_default-clause-given g c =
-    let room = rw (← c.self.view_is) at c.requires in
-    let none = c.in_default.ensures.cases in
-    let at : c.len-at.result ≡ length c.self.inside.places.items = c.len-at.ensures ∙ c.self.inside.places.ok.0 in
-    rw (← c.self.view_is, at)
-    (push_given c.self.inside.places.items _ c.args.value c.push_reserved.ensures.items (omega (arith, room, none)))
+returns-in_default-clause-given g c = rw (← c.self.view_is, (next g c).1) (push_given c.self.inside.places.items _ c.args.value c.push_reserved.ensures.items (next g c).0)
 
 pub index_mut-place-requires : goal.index_mut-place-requires
 index_mut-place-requires g c =
