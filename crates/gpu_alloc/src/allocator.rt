@@ -50,7 +50,6 @@ use gpu_alloc_block::{Kind, Sharing};
 use gpu_alloc_buddy::BuddyAllocator;
 use gpu_alloc_fit::FitAllocator;
 use gpu_alloc_freelist::FreeListAllocator;
-use gpu_alloc_runs::into_parts;
 use gpu_alloc_types::{MemoryObject, ObjectDevice, OutOfMemory, UsageFlags};
 use gpu_alloc_usage::meaning;
 use std::alloc::{Allocator, Global};
@@ -570,7 +569,7 @@ impl<M: MemoryObject, A: Allocator> GpuAllocator<M, A> {
         };
         let props = self.limits.props(memory_type);
         let atom = self.limits.atom(memory_type);
-        let (memory, slot, key) = into_parts(block);
+        let (memory, slot, key) = free_list_block::into_parts(block);
         Ok(Some(MemoryBlock::new(
             memory,
             slot.offset,

@@ -1,18 +1,18 @@
-//! Blocks of a free list. The function that takes one apart is not a method: `gpu_alloc`, where users find the type,
-//! does not export it.
+//! Blocks of a free list, and of fit chunks. The function that takes one apart is not a method: `gpu_alloc`, where users
+//! find the type, does not export it.
 
 ghost use Rattle.std.specs.Prelude.{◌≡◌};
 
 use gpu_alloc_types::MemoryObject;
 use std::marker::Model;
 
-/// What identifies a live block of a free list, as [`into_parts`] and [`slot_of`] return it.
+/// What identifies a live block, as [`into_parts`] and [`slot_of`] return it.
 #[derive(Clone, Copy, PartialEq, Eq)]
 pub struct Slot {
     /// The name of its chunk's object.
     pub object: u64,
 
-    /// The number of its chunk.
+    /// Its chunk in its store: the number in a free list, the key in fit chunks.
     pub chunk: u64,
 
     /// Where it starts in the object, in bytes.
@@ -22,14 +22,14 @@ pub struct Slot {
     pub size: u64,
 }
 
-/// A block of a free list: the tail of what was a free run of one of its chunks. It cannot be dropped, only returned to
-/// its list.
+/// A block of a free list, or of a fit chunk: a run of one of its chunks. It cannot be dropped, only returned to its
+/// store.
 pub struct FreeListBlock<M: MemoryObject> {
     memory: M,
     chunk: u64,
     offset: u64,
     size: u64,
-    // The key under which its list keeps it. The list confirms it, so contracts need not mention it.
+    // The key under which its store keeps it. The store confirms it, so contracts need not mention it.
     key: usize,
 }
 
@@ -45,9 +45,9 @@ impl<M: MemoryObject> Model for FreeListBlock<M> {
 }
 
 impl<M: MemoryObject> FreeListBlock<M> {
-    /// A block with this handle of its chunk's object, which its list keeps under this key. With another key the list
-    /// still finds it, in time linear in its live blocks. It is public for the crates above: users get their blocks
-    /// from a free list.
+    /// A block with this handle of its chunk's object, which its store keeps under this key. With another key the store
+    /// still finds it, in time linear in its live blocks, in fit chunks in its free runs too. It is public for the crates
+    /// above: users get their blocks from a store.
     #[inline(always)]
     pub fn new(memory: M, slot: Slot, key: usize) -> Self
         requires { slot.object ≡ M.object memory }
@@ -70,7 +70,7 @@ impl<M: MemoryObject> FreeListBlock<M> {
         &self.memory
     }
 
-    /// The number of its chunk in its list: at least 1.
+    /// Its chunk in its store: the number in a free list, at least 1, and the key in fit chunks.
     #[inline(always)]
     pub fn chunk(&self) -> u64
         ensures { result ≡ self.now.chunk }
@@ -86,7 +86,7 @@ impl<M: MemoryObject> FreeListBlock<M> {
         self.offset
     }
 
-    /// The block's size, in bytes: at least what was asked for.
+    /// The block's size, in bytes: at least what was asked for; in a fit chunk what its store was asked for.
     #[inline(always)]
     pub fn size(&self) -> u64
         ensures { result ≡ self.now.size }
@@ -108,13 +108,13 @@ pub fn slot_of<M: MemoryObject>(block: &FreeListBlock<M>) -> Slot
     }
 }
 
-/// The key under which its list keeps a block.
+/// The key under which its store keeps a block.
 #[inline(always)]
 pub fn key_of<M: MemoryObject>(block: &FreeListBlock<M>) -> usize {
     block.key
 }
 
-/// Takes a block apart, into its handle, what identifies it, and the key under which its list keeps it.
+/// Takes a block apart, into its handle, what identifies it, and the key under which its store keeps it.
 #[inline(always)]
 pub fn into_parts<M: MemoryObject>(block: FreeListBlock<M>) -> (M, Slot, usize)
     ensures handle { M.object result.0 ≡ block.object }

@@ -26,10 +26,10 @@ ghost use Rattle.gpu_alloc_runs.specs.Space.{HasPlace, IsFitRunOf, IsLiveFitSpan
 use crate::chunks::FitChunks;
 use gpu_alloc_base::AllocationError;
 use gpu_alloc_base::buddy_block::Leaf;
-use gpu_alloc_base::free_list_block::Slot;
+use gpu_alloc_base::free_list_block::{Slot, into_parts};
 use gpu_alloc_base::heap::Heap;
 use gpu_alloc_base::steps::Steps;
-use gpu_alloc_runs::{Chunk, FitBlock, Fits, into_parts};
+use gpu_alloc_runs::{Chunk, FitBlock, Fits};
 use gpu_alloc_shared::{BlockSpan, Store, returning, serving};
 use gpu_alloc_types::{
     AllocationFlags, FreeRange, MemoryObject, MemoryPropertyFlags, ObjectDevice,

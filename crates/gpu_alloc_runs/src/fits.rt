@@ -21,14 +21,14 @@ ghost use Rattle.gpu_alloc_runs.specs.Space.{with_chunk, with_slot, without_chun
 ghost use Rattle.gpu_alloc_runs.specs.Tiles.{KeepsElsewhere, KeepsLive, tile_in};
 ghost use Rattle.gpu_alloc_runs.specs.declared.classes.Classes.{Classes as ClassesOf};
 
-use crate::block::{FitBlock, into_parts};
 use crate::classes::{Classes, class_of, file, file_last, leave, refile, unfile};
 use crate::cut::cut_out;
 use crate::join::put_back;
 use crate::search::{find_place, last_start};
 use crate::tile::{NONE, Node, Place, Tile, add, bytes_of, unlisted};
+use gpu_alloc_base::FreeListBlock;
 use gpu_alloc_base::buddy_block::Leaf;
-use gpu_alloc_base::free_list_block::Slot;
+use gpu_alloc_base::free_list_block::{Slot, into_parts};
 use gpu_alloc_base::range_order::put_in_order;
 use gpu_alloc_base::steps::Steps;
 use gpu_alloc_types::{FreeRange, MemoryObject};
@@ -36,6 +36,10 @@ use slab::{Iter, Slab};
 use std::alloc::{AllocError, Allocator, Global};
 use std::marker::Model;
 use std::sync::ledger::Ledger;
+
+/// A block, exactly as long as its store was asked for: what a free list gives, but that the key of its chunk stands for
+/// the number, and that under a wrong key the store finds it in time linear in its tiles.
+pub type FitBlock<M> = FreeListBlock<M>;
 
 /// A held chunk: a handle of its object, and its size in bytes.
 #[derive(Drop)]
