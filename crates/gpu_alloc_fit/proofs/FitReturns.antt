@@ -14,18 +14,7 @@ use Rattle.gpu_alloc_runs.specs.Fits.{PutsBack}
 use Rattle.gpu_alloc_runs.specs.Space as spaces
 use Rattle.gpu_alloc_runs.specs.Space.{FitSpace, IsLiveSlot, IsSoundFitSpace, IsWhollyFree}
 use Rattle.gpu_alloc_shared.specs.Shared.{without_block, without_chunk}
-
--- What is sound stays so, with fewer blocks and fewer chunks.
-sound_less : (f : FitState) (s : FitSpace) → IsSoundFit f → ((k : ℕ) → (c : _) → map.get s.chunks k ≡ Some c → map.get f.space.chunks k ≡ Some c) → ((q : Slot) → IsLiveSlot s q → IsLiveSlot f.space q) → IsSoundFitSpace s
-    → IsSoundFit (record f { space = s })
-sound_less f s sound chunks slots now = record {
-  space = now;
-  chunks = λ k c is. sound.chunks k c (chunks k c is);
-  slots = λ q live. sound.slots q (slots q live);
-  next_chunk = sound.next_chunk;
-  final_chunk = sound.final_chunk;
-  atom = sound.atom;
-}
+use Rattle.gpu_alloc_shared.proofs.Sized.{sound_less}
 
 -- What a return is, as the rule has it.
 module _ {M : Type 0} (object : M → ℕ) (f : FitState) (new : FitSpace) (Is : Slot → Type 0) where
@@ -42,17 +31,17 @@ module _ {M : Type 0} (object : M → ℕ) (f : FitState) (new : FitSpace) (Is :
 
   pub sound_returned : IsSoundFit f → IsSoundFitSpace new → (slot : Slot) (gone : Option (M × ℕ)) → PutsBack object f.space slot gone new → IsSoundFit (record f { space = new })
   sound_returned sound now slot None back =
-      sound_less f new sound (λ k c at. ap (λ (s : FitSpace). map.get s.chunks k) (sym back.1) ∙ at) (λ q live. ((slot_removed f.space.live slot q).0 (subst (λ (s : FitSpace). IsLiveSlot s q) back.1 live)).1) now
+      sound_less f sound new now (λ k c at. ap (λ (s : FitSpace). map.get s.chunks k) (sym back.1) ∙ at) (λ q live. ((slot_removed f.space.live slot q).0 (subst (λ (s : FitSpace). IsLiveSlot s q) back.1 live)).1)
   sound_returned sound now slot (Some gone) back =
-      sound_less f new sound (λ k c at. (kept_key f.space.chunks slot.chunk k c (ap (λ (s : FitSpace). map.get s.chunks k) (sym back.1.1) ∙ at)).1)
-      (λ q live. ((slot_removed f.space.live slot q).0 (subst (λ (s : FitSpace). IsLiveSlot s q) back.1.1 live)).1) now
+      sound_less f sound new now (λ k c at. (kept_key f.space.chunks slot.chunk k c (ap (λ (s : FitSpace). map.get s.chunks k) (sym back.1.1) ∙ at)).1)
+      (λ q live. ((slot_removed f.space.live slot q).0 (subst (λ (s : FitSpace). IsLiveSlot s q) back.1.1 live)).1)
 
 -- What is left when the wholly free chunk is released.
 module _ {X : Type 0} (P : Type 0) (Q R : X → Type 0) (f : FitState) (gone : Option X) (new : FitSpace) (sound : IsSoundFit f) (now : IsSoundFitSpace new) where
   pub sound_cleaned : (key : X → ℕ) → IfNone gone (P × (new ≡ f.space)) → IfSome gone (λ x. Q x × (R x × (new ≡ spaces.without_chunk f.space (key x)))) → IsSoundFit (record f { space = new })
   sound_cleaned key stays goes = elim gone as (λ o. IfNone o (P × (new ≡ f.space)) → IfSome o (λ x. Q x × (R x × (new ≡ spaces.without_chunk f.space (key x)))) → IsSoundFit (record f { space = new })) [
     | None ↦ λ is _. rw (is.1) sound
-    | Some x ↦ λ _ is. rw (is.1.1) (sound_less f (spaces.without_chunk f.space (key x)) sound (λ k c at. (kept_key f.space.chunks (key x) k c at).1) (λ q live. live) (subst IsSoundFitSpace is.1.1 now))
+    | Some x ↦ λ _ is. rw (is.1.1) (sound_less f sound (spaces.without_chunk f.space (key x)) (subst IsSoundFitSpace is.1.1 now) (λ k c at. (kept_key f.space.chunks (key x) k c at).1) (λ q live. live))
   ] stays goes
 
 -- where no block is live and no chunk is wholly free, none is held

@@ -4,22 +4,10 @@ use Rattle.std.specs.Coded.{Coded, code_by, coded×, coded_ℕ}
 use Rattle.gpu_alloc_fit.specs.FitState.{FitState}
 use Rattle.gpu_alloc_fit.specs.FitRule.{Stored}
 use Rattle.gpu_alloc_runs.specs.Codes.{fit_space_code}
-use Rattle.gpu_alloc_runs.specs.Space.{FitSpace}
+use Rattle.gpu_alloc_shared.specs.Sized.{sized_code}
 
 abbrev pub fitting_code : Coded FitState
-fitting_code =
-    code_by (FitSpace × ((ℕ × ℕ) × (ℕ × (ℕ × ℕ))))
-    (coded× fit_space_code (coded× (coded× coded_ℕ coded_ℕ) (coded× coded_ℕ (coded× coded_ℕ coded_ℕ))))
-    (λ f. (f.space, ((f.next_chunk, f.final_chunk), (f.memory_type, (f.props, f.atom)))))
-    (λ c. record {
-      space = c.0;
-      next_chunk = c.1.0.0;
-      final_chunk = c.1.0.1;
-      memory_type = c.1.1.0;
-      props = c.1.1.1.0;
-      atom = c.1.1.1.1;
-    })
-    (λ _. refl)
+fitting_code = sized_code fit_space_code
 
 abbrev pub stored_code : Coded Stored
 stored_code =

@@ -1,31 +1,16 @@
 -- The rule of exact runs, and what it owes as that of a store of shared chunks.
-use Rattle.std.specs.Prelude.{◌≡◌, ℕ, ◌+◌, ◌-◌, ◌<◌, ◌≤◌, max, refl}
-use Rattle.gpu_alloc_base.specs.AlignMasks.{IsAlignMask}
-use Rattle.gpu_alloc_base.specs.FreeSpace.{IsMultipleOf}
-use Rattle.gpu_alloc_base.specs.Sizes.{up}
+use Rattle.std.specs.Prelude.{◌≡◌, ℕ, ◌+◌, ◌<◌, ◌≤◌, refl}
 use Rattle.gpu_alloc_base.specs.Slots.{slot_cmp}
 use Rattle.gpu_alloc_base.specs.declared.free_list_block.Slot.{Slot}
-use Rattle.gpu_alloc_fit.specs.FitState.{FitState, chunk_size, fitting_in_new_chunk}
+use Rattle.gpu_alloc_fit.specs.FitState.{FitState, fitting_in_new_chunk}
 use Rattle.gpu_alloc_fit.specs.FitSound.{IsSoundFit}
 use Rattle.gpu_alloc_runs.specs.Space.{BeginsFitChunk, HasPlace, IsFitting, IsSpare, IsWhollyFree, LooksAtFew, bytes_of, neighbours, without_slot}
 use Rattle.gpu_alloc_shared.specs.Rule.{IsLawful, Rule}
+use Rattle.gpu_alloc_shared.specs.Sized.{IsWholeAsk, ServesWhole, chunk_size, whole_ask}
 use Rattle.gpu_alloc_shared.specs.declared.store.Ask.{Ask}
 
--- a request that may be asked for
-pub record Serves (f : FitState) (size align_mask : ℕ) : Type 0 where
-  pub nonempty : 0 < size
-  pub fits : up size f.atom ≤ f.final_chunk
-  pub alignment : IsAlignMask align_mask
-
--- whole atoms, at an alignment no less than the atom
-pub record IsFitAsk (f : FitState) (ask : Ask) : Type 0 where
-  pub nonempty : 0 < ask.size
-  pub whole : IsMultipleOf f.atom ask.size
-  pub alignment : IsAlignMask ask.align_mask
-  pub aligned : f.atom ≤ ask.align_mask + 1
-
 abbrev pub fit_ask : FitState → ℕ → ℕ → Ask
-fit_ask f size align_mask = record { size = up size f.atom; align_mask = max align_mask (f.atom - 1) }
+fit_ask f = whole_ask f.atom
 
 -- few free runs are looked at, and at least one where there is a place
 abbrev pub Looks : FitState → Ask → ℕ → ℕ → Type 0
@@ -43,10 +28,10 @@ fit_rule = record {
   key = λ slot. slot.chunk;
   bytes = bytes_of;
   IsSound = IsSoundFit;
-  Serves = λ f heap size align_mask. Serves f size align_mask;
+  Serves = λ f heap size align_mask. ServesWhole f.final_chunk f.atom size align_mask;
   asked = fit_ask;
   Fits = λ ask. Unit {0};
-  IsAsk = IsFitAsk;
+  IsAsk = λ f. IsWholeAsk f.atom;
   Holds = λ f heap ask. ask.size ≤ f.final_chunk;
   HasPlace = λ f ask. HasPlace f.space ask.size (ask.align_mask + 1);
   IsTaken = λ f ask slot. IsFitting f.space ask.size (ask.align_mask + 1) slot;

@@ -1,34 +1,12 @@
--- What an allocator of exact runs keeps, and the sizes of what it gives out.
-use Rattle.std.specs.Prelude.{ℕ, ◌+◌, max}
-use Rattle.gpu_alloc_base.specs.Sizes.{doubled_chunk, grown_chunk, up}
-use Rattle.gpu_alloc_base.specs.Wanted.{Wanted}
+-- What an allocator of exact runs keeps.
+use Rattle.std.specs.Prelude.{ℕ}
 use Rattle.gpu_alloc_base.specs.declared.free_list_block.Slot.{Slot}
 use Rattle.gpu_alloc_runs.specs.Space.{FitSpace, with_chunk, with_slot}
+use Rattle.gpu_alloc_shared.specs.Sized.{SizedState, next_size}
 
--- An allocator of exact runs: its space, the next chunk's least size, the largest chunk, the memory type with its
--- property bits, and the atom, of which chunk and block sizes are multiples.
-pub record FitState : Type 0 where
-  pub space : FitSpace
-  pub next_chunk : ℕ
-  pub final_chunk : ℕ
-  pub memory_type : ℕ
-  pub props : ℕ
-  pub atom : ℕ
-
--- the block's size: the request's, in whole atoms
-abbrev pub rounded : FitState → Wanted → ℕ
-rounded f w = up w.size f.atom
-
--- the alignment of a block: the greater of the request's and the atom
-abbrev pub alignment : FitState → Wanted → ℕ
-alignment f w = max (w.align_mask + 1) f.atom
-
--- the size of a chunk for a block of this size, and the next one's once it was made
-abbrev pub chunk_size : FitState → ℕ → ℕ
-chunk_size f size = grown_chunk f.next_chunk f.final_chunk size
-
-abbrev pub next_size : FitState → ℕ → ℕ
-next_size f whole = doubled_chunk f.final_chunk whole
+-- its space, and the sizes of what it gives out
+abbrev pub FitState : Type 0
+FitState = SizedState FitSpace
 
 -- one more block is live
 abbrev pub fitting_with_slot : FitState → Slot → FitState

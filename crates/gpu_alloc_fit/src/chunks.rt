@@ -5,21 +5,20 @@ ghost use Rattle.gpu_alloc_types.specs.Device.{Asked};
 ghost use Rattle.gpu_alloc_types.specs.Flags.{allocation_bits, has_bit, with_device_address};
 ghost use Rattle.gpu_alloc_base.specs.Accounts.{account, chunks_and_remaining, IsCounted};
 ghost use Rattle.gpu_alloc_base.specs.Case.{Answers};
-ghost use Rattle.gpu_alloc_base.specs.Sizes.{up};
 ghost use Rattle.gpu_alloc_base.specs.Steps.{Begins};
 ghost use Rattle.gpu_alloc_base.specs.Wanted.{requested};
 ghost use Rattle.gpu_alloc_fit.specs.Fit as fit;
-ghost use Rattle.gpu_alloc_fit.specs.FitRule.{HasRooms, Looks, Serves, fit_ask, fit_lawful, fit_rule};
+ghost use Rattle.gpu_alloc_fit.specs.FitRule.{HasRooms, Looks, fit_ask, fit_lawful, fit_rule};
 ghost use Rattle.gpu_alloc_fit.specs.FitSound.{IsSoundFit};
 ghost use Rattle.gpu_alloc_runs.specs.Space.{IsLiveFitSpan};
 ghost use Rattle.gpu_alloc_shared.specs.Shared.{case_of};
+ghost use Rattle.gpu_alloc_shared.specs.Sized.{ServesWhole};
 
 use gpu_alloc_base::AllocationError;
 use gpu_alloc_base::heap::Heap;
-use gpu_alloc_base::sizes::next_power_of_two;
 use gpu_alloc_base::steps::Steps;
 use gpu_alloc_runs::{FitBlock, Fits};
-use gpu_alloc_shared::{Ask, BlockSpan, Store, serving};
+use gpu_alloc_shared::{Ask, BlockSpan, ChunkSizes, Store, serving};
 use gpu_alloc_types::{AllocationFlags, MemoryObject, MemoryPropertyFlags, ObjectDevice};
 use std::alloc::{AllocError, Allocator, Global};
 use std::marker::Model;
@@ -27,12 +26,9 @@ use std::sync::ledger::{Blank, Ledger};
 
 /// Exact runs of one memory type's chunks, and the sizes of what comes next.
 pub struct FitChunks<M: MemoryObject, A: Allocator = Global> {
+    // (before the runs, which are large: with the sizes behind them a call takes a few instructions more)
+    pub(crate) sizes: ChunkSizes,
     pub(crate) fits: Fits<M, A>,
-    pub(crate) chunk_size: u64,
-    pub(crate) final_chunk_size: u64,
-    pub(crate) memory_type: u32,
-    pub(crate) props: MemoryPropertyFlags,
-    pub(crate) atom_mask: u64,
 }
 
 impl<M: MemoryObject, A: Allocator> Model for FitChunks<M, A> {
@@ -43,19 +39,16 @@ impl<M: MemoryObject, A: Allocator> Model for FitChunks<M, A> {
 
     ghost coded = { stored_code };
 
-    ghost use Rattle.std.specs.Prelude.{◌+◌};
-    ghost use Rattle.gpu_alloc_types.specs.Flags.{property_bits};
-    ghost use Rattle.gpu_alloc_fit.specs.FitSound.{IsSoundFit, fitting_in};
+    ghost use Rattle.gpu_alloc_fit.specs.FitSound.{IsSoundFit};
+    ghost use Rattle.gpu_alloc_shared.specs.Sized.{sized};
 
     ghost view = { λ a. record {
-      state = fitting_in (a.fits).space a.chunk_size a.final_chunk_size a.memory_type (property_bits a.props)
-          (a.atom_mask + 1);
+      state = sized (a.fits).space a.sizes;
       chunk_room = (a.fits).chunk_room;
       tile_room = (a.fits).tile_room;
     } };
 
-    ghost invariant = { λ a. IsSoundFit (fitting_in (a.fits).space a.chunk_size a.final_chunk_size a.memory_type
-        (property_bits a.props) (a.atom_mask + 1)) };
+    ghost invariant = { λ a. IsSoundFit (sized (a.fits).space a.sizes) };
 }
 
 impl<M: MemoryObject, A: Allocator> Store<M> for FitChunks<M, A> {
@@ -80,38 +73,29 @@ impl<M: MemoryObject, A: Allocator> Store<M> for FitChunks<M, A> {
 
     #[inline(always)]
     fn memory_type(&self) -> u32 {
-        self.memory_type
+        self.sizes.memory_type
     }
 
     #[inline(always)]
     fn props(&self) -> MemoryPropertyFlags {
-        self.props
+        self.sizes.props
     }
 
     #[inline(always)]
     fn asked(&self, size: u64, align_mask: u64) -> Option<Ask> {
-        Some(Ask {
-            size: self.rounded_size(size),
-            align_mask: align_mask.max(self.atom_mask),
-        })
+        Some(self.sizes.asked(size, align_mask))
     }
 
     // (inline, it makes the compiler compute parts of the search for a run too early, at a few instructions more)
     #[inline(never)]
     fn chunk_size(&self, heap: &Heap, ask: Ask) -> u64 {
         let _ = heap;
-        if ask.size <= self.chunk_size {
-            return self.chunk_size;
-        }
-        let multiple = next_power_of_two((ask.size - 1) / self.chunk_size + 1);
-        self.chunk_size
-            .saturating_mul(multiple)
-            .min(self.final_chunk_size)
+        self.sizes.chunk_size(ask.size)
     }
 
     #[inline(always)]
     fn largest_chunk(&self) -> Option<u64> {
-        Some(self.final_chunk_size)
+        Some(self.sizes.final_chunk_size)
     }
 
     #[inline(always)]
@@ -156,7 +140,7 @@ impl<M: MemoryObject, A: Allocator> Store<M> for FitChunks<M, A> {
         let _ = splits;
         let block = self.fits.begin(memory, handle, whole, ask.size);
         self.fits.keeps_sound();
-        self.chunk_size = (2 * whole).min(self.final_chunk_size);
+        self.sizes.grow(whole);
         block
     }
 
@@ -209,7 +193,7 @@ impl<M: MemoryObject, A: Allocator> FitChunks<M, A> {
         splits: Blank,
     ) -> Result<FitBlock<M>, AllocationError>
         requires splits { Begins splits K.name K.parts }
-        requires serves { Serves (self.old).state size align_mask }
+        requires serves { ServesWhole (self.old).state.final_chunk (self.old).state.atom size align_mask }
         requires address { IsTrue (has_bit (allocation_bits flags) with_device_address)
             → IsTrue (D.properties device.old).buffer_device_address }
         requires agrees { fit.Agrees (self.old).state (D.properties device.old) (D.objects device.old) }
@@ -245,16 +229,5 @@ impl<M: MemoryObject, A: Allocator> FitChunks<M, A> {
             looks,
             &mut Steps::<K>::new(splits),
         )
-    }
-
-    /// A size in whole atoms.
-    #[inline(always)]
-    fn rounded_size(&self, size: u64) -> u64
-        requires nonempty { 0 < size }
-        requires fits { up size (self.now).state.atom ≤ (self.now).state.final_chunk }
-        ensures { result ≡ up size (self.now).state.atom }
-    {
-        let last = size - 1;
-        last - (last & self.atom_mask) + (self.atom_mask + 1)
     }
 }

@@ -30,7 +30,7 @@ use gpu_alloc_base::free_list_block::{Slot, into_parts};
 use gpu_alloc_base::heap::Heap;
 use gpu_alloc_base::steps::Steps;
 use gpu_alloc_runs::{Chunk, FitBlock, Fits};
-use gpu_alloc_shared::{BlockSpan, Store, returning, serving};
+use gpu_alloc_shared::{BlockSpan, ChunkSizes, Store, returning, serving};
 use gpu_alloc_types::{
     AllocationFlags, FreeRange, MemoryObject, MemoryPropertyFlags, ObjectDevice,
 };
@@ -93,11 +93,13 @@ impl<M: MemoryObject, A: Allocator + Copy> FitAllocator<M, A> {
         FitAllocator {
             store: FitChunks {
                 fits,
-                chunk_size: starting_chunk_size,
-                final_chunk_size,
-                memory_type,
-                props,
-                atom_mask,
+                sizes: ChunkSizes {
+                    chunk_size: starting_chunk_size,
+                    final_chunk_size,
+                    memory_type,
+                    props,
+                    atom_mask,
+                },
             },
         }
     }
@@ -448,14 +450,7 @@ impl<M: MemoryObject, A: Allocator> FitAllocator<M, A> {
         requires { map.len ((self.space).chunks) ≡ 0 }
     {
         let FitAllocator { store } = self;
-        let FitChunks {
-            fits,
-            chunk_size: _,
-            final_chunk_size: _,
-            memory_type: _,
-            props: _,
-            atom_mask: _,
-        } = store;
+        let FitChunks { fits, sizes: _ } = store;
         fits.close();
     }
 
@@ -465,7 +460,6 @@ impl<M: MemoryObject, A: Allocator> FitAllocator<M, A> {
     pub fn fits_a_chunk(&self, size: u64) -> bool
         ensures { result ≡ nat_le (up size (self.now).atom) (self.now).final_chunk }
     {
-        // (the largest chunk has whole atoms already)
-        size <= self.store.final_chunk_size
+        self.store.sizes.fits_a_chunk(size)
     }
 }

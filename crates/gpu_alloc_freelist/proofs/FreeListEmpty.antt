@@ -1,22 +1,20 @@
--- A free list and its allocator that hold nothing.
-use Rattle.std.proofs.Common.{◌≡◌, ℕ, ◌<◌, ◌≤◌, ◌^◌, [], None, Some, refl, arith}
+-- A free list that holds nothing.
+use Rattle.std.proofs.Common.{◌≡◌, ℕ, [], None, Some, refl, arith}
 use Rattle.std.specs.FinMap as map
 use Rattle.std.specs.Ordering.{nat_cmp}
-use Rattle.gpu_alloc_base.specs.FreeSpace.{IsPowerUpTo, IsMultipleOf}
 use Rattle.gpu_alloc_base.specs.Chunks.{Chunk}
 use Rattle.gpu_alloc_freelist.specs.FreeList.{no_list_space}
-use Rattle.gpu_alloc_freelist.specs.FreeListAllocator.{opened}
 use Rattle.gpu_alloc_freelist.specs.FreeListInside.{IsListed}
-use Rattle.gpu_alloc_freelist.specs.FreeListSound.{IsSoundFreeList, IsSoundListSpace}
+use Rattle.gpu_alloc_freelist.specs.FreeListSound.{IsSoundListSpace}
 use Rattle.gpu_alloc_freelist.specs.FreeListState.{IsLiveSlot}
 use Rattle.gpu_alloc_base.specs.declared.free_list_block.Slot.{Slot}
 use Rattle.gpu_alloc_base.proofs.Lists.{contains_none}
 use Rattle.gpu_alloc_base.proofs.Slots.{in_slots}
 
-none_live : (slot : Slot) → IsLiveSlot no_list_space slot → ⊥
+pub none_live : (slot : Slot) → IsLiveSlot no_list_space slot → ⊥
 none_live slot live = contains_none slot ((in_slots [] slot).0 live)
 
-none_held : (k : ℕ) (chunk : Chunk) → map.get no_list_space.chunks k ≡ Some chunk → ⊥
+pub none_held : (k : ℕ) (chunk : Chunk) → map.get no_list_space.chunks k ≡ Some chunk → ⊥
 none_held k chunk is = let none : map.get no_list_space.chunks k ≡ None = map.get-empty nat_cmp k in cc
 
 pub sound_space : IsSoundListSpace no_list_space
@@ -42,16 +40,4 @@ listed_none = record {
   };
   room = omega arith;
   whole = refl;
-}
-
--- sizes of whole atoms, the largest of which is no less than the first
-pub sound_opened : (starting final t p atom : ℕ) → IsMultipleOf atom starting → 0 < starting → IsMultipleOf atom final → starting ≤ final → final ≤ 2 ^ 62 → IsPowerUpTo 62 atom → IsSoundFreeList (opened starting final t p atom)
-sound_opened starting final t p atom whole some whole_final le bound power = record {
-  space = sound_space;
-  one_object = λ k n c d is_c is_d same. absurd (none_held k c is_c);
-  chunks = λ k c is. absurd (none_held k c is);
-  slots = λ slot live. absurd (none_live slot live);
-  next_chunk = ((whole, some), le);
-  final_chunk = (whole_final, bound);
-  atom = power;
 }

@@ -11,6 +11,7 @@ use Rattle.gpu_alloc_base.specs.declared.free_list_block.Slot.{Slot}
 use Rattle.gpu_alloc_base.specs.declared.region.FreeListRegion.{FreeListRegion}
 use Rattle.gpu_alloc_base.proofs.Maps.{kept_other, kept_key, one_value, found_value}
 use Rattle.gpu_alloc_base.proofs.Slots.{slot_removed}
+use Rattle.gpu_alloc_shared.proofs.Sized.{sound_less}
 use Rattle.gpu_alloc_freelist.proofs.Spaces.{space_without_chunk, space_without_slot, still_free, was_free}
 
 -- Runs, once a chunk is taken out.
@@ -121,24 +122,9 @@ module _ (s : ListSpace) (keep_last : Bool) (n : ℕ) where
 
 -- with a block less
 pub sound_without_slot : (l : FreeListState) (slot : Slot) → IsSoundFreeList l → IsSoundFreeList (record l { space = without_slot l.space slot })
-sound_without_slot l slot sound = record {
-  space = space_without_slot l.space slot sound.space;
-  one_object = sound.one_object;
-  chunks = sound.chunks;
-  slots = λ other live. sound.slots other ((slot_removed l.space.live slot other).0 live).1;
-  next_chunk = sound.next_chunk;
-  final_chunk = sound.final_chunk;
-  atom = sound.atom;
-}
+sound_without_slot l slot sound = sound_less l sound (without_slot l.space slot) (space_without_slot l.space slot sound.space) (λ k c at. at) (λ other live. ((slot_removed l.space.live slot other).0 live).1)
 
 -- with a chunk less in which nothing is live
 pub sound_without_chunk : (l : FreeListState) (n : ℕ) → IsSoundFreeList l → IsWhollyFree l.space n → IsSoundFreeList (record l { space = without_chunk l.space n })
-sound_without_chunk l n sound free = record {
-  space = space_without_chunk l.space n sound.space free.unused;
-  one_object = λ k m c d k_is m_is. sound.one_object k m c d (kept_key l.space.chunks n k c k_is).1 (kept_key l.space.chunks n m d m_is).1;
-  chunks = λ k c at. sound.chunks k c (kept_key l.space.chunks n k c at).1;
-  slots = sound.slots;
-  next_chunk = sound.next_chunk;
-  final_chunk = sound.final_chunk;
-  atom = sound.atom;
-}
+sound_without_chunk l n sound free =
+    sound_less l sound (without_chunk l.space n) (space_without_chunk l.space n sound.space free.unused) (λ k c at. (kept_key l.space.chunks n k c at).1) (λ slot live. live)

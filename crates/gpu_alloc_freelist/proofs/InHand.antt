@@ -1,12 +1,11 @@
 -- What the calls of a free list's allocator leave of the blocks in hand.
-use Rattle.std.proofs.Common.{◌≡◌, ℕ, ◌≤◌, false, List, Option, refl, ap, arith}
-use Rattle.gpu_alloc_types.specs.Device.{Event, Object}
-use Rattle.gpu_alloc_types.specs.Properties.{Properties}
+use Rattle.std.proofs.Common.{◌≡◌, ℕ, ◌≤◌, false, List, refl, ap, arith}
+use Rattle.gpu_alloc_types.specs.Device.{Event}
 use Rattle.gpu_alloc_base.specs.Accounts.{Account}
-use Rattle.gpu_alloc_base.specs.InHand.{Offers}
 use Rattle.gpu_alloc_base.proofs.InHand.{leaves_same}
+use Rattle.gpu_alloc_shared.proofs.Sized.{settings_kept}
 use Rattle.gpu_alloc_freelist.specs.FreeList.{MayGo}
-use Rattle.gpu_alloc_freelist.specs.FreeListAllocator.{Agrees, HoldsNothing, KeepsSettings, Leaves, LeavesNoRest, Releases, bytes_of}
+use Rattle.gpu_alloc_freelist.specs.FreeListAllocator.{KeepsSettings, Leaves, LeavesNoRest, Releases, bytes_of}
 use Rattle.gpu_alloc_freelist.specs.FreeListState.{FreeListState}
 use Rattle.gpu_alloc_freelist.proofs.ListInHand.{none_held}
 
@@ -20,7 +19,7 @@ module _ (a new : Account FreeListState) (gone : List ℕ) (es : List Event) (le
   releases_leave = leaves_same bytes_of a.allocator.space.live new.allocator.space.live live_same
 
   pub releases_keep : KeepsSettings a.allocator new.allocator
-  releases_keep = rw (lets.1) (record { final_chunk = refl; memory_type = refl; props = refl; atom = refl })
+  releases_keep = rw (lets.1) (settings_kept a.allocator _ _)
 
   -- the ledger does not grow
   pub releases_used : new.heap.used ≤ a.heap.used
@@ -29,8 +28,3 @@ module _ (a new : Account FreeListState) (gone : List ℕ) (es : List Event) (le
   -- no chunk is left, where no block is live and none may go
   pub releases_all : ((number : ℕ) → MayGo new.allocator.space false number → ⊥) → LeavesNoRest a.allocator new.allocator
   releases_all none = (live_same, record { held = λ empty. none_held new.allocator.space false none refl (rw live_same empty) })
-
--- What holds nothing.
-
-pub nothing_agrees : (memory_type props : ℕ) (l : FreeListState) → HoldsNothing memory_type props l → (p : Properties) (objects : ℕ → Option Object) → Offers p memory_type props → Agrees l p objects
-nothing_agrees memory_type props l nothing p objects offers = rw (nothing.0, nothing.1) (nothing.2.agrees p offers objects)

@@ -8,7 +8,6 @@ pub mod FreeListEmpty
 pub mod FreeListGrants
 pub mod FreeListRanges
 pub mod FreeListReturns
-pub mod FreeListSizes
 pub mod GoneChunks
 pub mod InHand
 pub mod ListInHand

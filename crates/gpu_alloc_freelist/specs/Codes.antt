@@ -13,6 +13,7 @@ use Rattle.gpu_alloc_freelist.specs.FreeListState.{FreeListState, ListSpace, Lis
 use Rattle.gpu_alloc_freelist.specs.Live.{LiveBlocks}
 use Rattle.gpu_alloc_freelist.specs.Runs.{Runs}
 use Rattle.gpu_alloc_base.specs.Slots.{slot_cmp}
+use Rattle.gpu_alloc_shared.specs.Sized.{sized_code}
 
 abbrev pub list_space_code : Coded ListSpace
 list_space_code =
@@ -27,19 +28,7 @@ list_store_code =
     (λ _. refl)
 
 abbrev pub listing_code : Coded FreeListState
-listing_code =
-    code_by (ListSpace × ((ℕ × ℕ) × (ℕ × (ℕ × ℕ))))
-    (coded× list_space_code (coded× (coded× coded_ℕ coded_ℕ) (coded× coded_ℕ (coded× coded_ℕ coded_ℕ))))
-    (λ l. (l.space, ((l.next_chunk, l.final_chunk), (l.memory_type, (l.props, l.atom)))))
-    (λ c. record {
-      space = c.0;
-      next_chunk = c.1.0.0;
-      final_chunk = c.1.0.1;
-      memory_type = c.1.1.0;
-      props = c.1.1.1.0;
-      atom = c.1.1.1.1;
-    })
-    (λ _. refl)
+listing_code = sized_code list_space_code
 
 abbrev pub sized_list_code : Coded SizedList
 sized_list_code =

@@ -5,7 +5,6 @@ use Rattle.std.specs.Prelude as list
 use Rattle.std.specs.List.{Contains}
 use Rattle.std.specs.FinMap as map
 use Rattle.std.specs.Ordering.{nat_cmp}
-use Rattle.gpu_alloc_types.specs.Flags.{has_bit, host_visible}
 use Rattle.gpu_alloc_types.specs.Properties.{Properties}
 use Rattle.gpu_alloc_types.specs.Device.{Asked, Object, Event, put}
 use Rattle.gpu_alloc_types.specs.Device.Event.{Deallocated}
@@ -15,26 +14,18 @@ use Rattle.gpu_alloc_base.specs.Case.{Case, Answers}
 use Rattle.gpu_alloc_base.specs.Wanted.{Wanted}
 use Rattle.gpu_alloc_base.specs.Chunks.{Chunk, object_in}
 use Rattle.gpu_alloc_base.specs.FreeSpace.{IsIn}
-use Rattle.gpu_alloc_base.specs.InHand as in_hand
 use Rattle.gpu_alloc_freelist.specs.FreeList.{HasPlace, IsTail, HasNumber, MayGo, with_slot, without_slot}
 use Rattle.gpu_alloc_freelist.specs.FreeList.{with_numbered_chunk, first_tail, no_list_space}
 use Rattle.gpu_alloc_freelist.specs.FreeListRule.{list_rule}
-pub use Rattle.gpu_alloc_freelist.specs.FreeListState.{alignment, bytes_of, chunk_size, next_size, rounded}
+pub use Rattle.gpu_alloc_freelist.specs.FreeListState.{bytes_of}
 use Rattle.gpu_alloc_freelist.specs.FreeListState.{ListSpace, FreeListState, IsLiveSlot, IsFreeIn}
 use Rattle.gpu_alloc_shared.specs.Shared as shared
+pub use Rattle.gpu_alloc_shared.specs.Sized.{KeepsSettings, alignment, chunk_size, next_size, question, rounded, sees_chunks}
+use Rattle.gpu_alloc_shared.specs.Sized.{sized_in}
 use Rattle.gpu_alloc_base.specs.FreeRuns.{IsFreeRun}
-use Rattle.gpu_alloc_base.specs.NewChunk.{ChunkQuestion}
 use Rattle.gpu_alloc_base.specs.declared.free_list_block.Slot.{Slot}
 use Rattle.gpu_alloc_base.specs.declared.error.AllocationError.{AllocationError}
 use Rattle.gpu_alloc_base.specs.declared.heap.Heap.{Heap}
-
--- whether the chunks are host-visible
-abbrev pub sees_chunks : FreeListState → Bool
-sees_chunks l = has_bit l.props host_visible
-
-abbrev pub question : FreeListState → ℕ → ℕ → ChunkQuestion
-question l size flags =
-    record { size = chunk_size l size; memory_type = l.memory_type; flags = flags; mapped = sees_chunks l }
 
 -- one more block is live
 abbrev pub listing_with_slot : FreeListState → Slot → FreeListState
@@ -144,14 +135,7 @@ Cleans a es new = (gone : List ℕ) × (AreReleased a.allocator.space false gone
 
 -- nothing is held
 abbrev pub opened : ℕ → ℕ → ℕ → ℕ → ℕ → FreeListState
-opened starting final memory_type props atom = record {
-  space = no_list_space;
-  next_chunk = starting;
-  final_chunk = final;
-  memory_type = memory_type;
-  props = props;
-  atom = atom;
-}
+opened = sized_in no_list_space
 
 -- What a caller may know of a granted block without following its steps.
 pub record IsGranted (old : FreeListState) (w : Wanted) (new : FreeListState) (slot : Slot) : Type 0 where
@@ -210,13 +194,6 @@ pub record IsRunOf (s : ListSpace) (r : FreeRange) : Type 0 where
 
 -- Blocks in hand.
 
--- what was given to `new` and decides which requests are valid, which no call changes
-pub record KeepsSettings (l new : FreeListState) : Type 0 where
-  pub final_chunk : new.final_chunk ≡ l.final_chunk
-  pub memory_type : new.memory_type ≡ l.memory_type
-  pub props : new.props ≡ l.props
-  pub atom : new.atom ≡ l.atom
-
 -- a call that takes no block keeps each block that was in hand
 abbrev pub Leaves : FreeListState → FreeListState → Type 0
 Leaves = shared.Leaves list_rule
@@ -231,11 +208,8 @@ Removes = shared.Removes list_rule
 
 -- nothing is held: so it agrees with every device that offers this memory type
 abbrev pub HoldsNothing : ℕ → ℕ → FreeListState → Type 0
-HoldsNothing memory_type props l =
-    (l.memory_type ≡ memory_type) × (l.props ≡ props)
-    × in_hand.HoldsNothing memory_type props l.space.live l.space.chunks
+HoldsNothing = shared.HoldsNothing list_rule
 
 -- what a cleanup leaves: the live blocks, and no chunk where there are none
 abbrev pub LeavesNoRest : FreeListState → FreeListState → Type 0
-LeavesNoRest l new =
-    (new.space.live ≡ l.space.live) × in_hand.LeavesNoRest l.space.live new.space.chunks
+LeavesNoRest = shared.LeavesNoRest list_rule

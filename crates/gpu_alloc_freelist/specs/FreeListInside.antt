@@ -1,8 +1,8 @@
--- The invariants of the fields of a free list and of its allocator.
+-- The invariants of the fields of a free list.
 use Rattle.std.specs.Prelude.{◌≡◌, ℕ, ◌+◌, ◌/◌, ◌<◌, ◌≤◌, Bool, true, List, length, min, get_or}
 use Rattle.std.specs.FinSet as set
 use Rattle.gpu_alloc_base.specs.Accounts.{HeldChunks}
-use Rattle.gpu_alloc_freelist.specs.FreeListState.{ListSpace, ListStore, FreeListState, IsFreeIn}
+use Rattle.gpu_alloc_freelist.specs.FreeListState.{ListSpace, ListStore, IsFreeIn}
 use Rattle.gpu_alloc_freelist.specs.Chunks.{IsWholeChunk}
 use Rattle.gpu_alloc_base.specs.Slots.{slot_cmp}
 use Rattle.gpu_alloc_freelist.specs.FreeListSound.{IsSoundListSpace}
@@ -28,16 +28,6 @@ pub record IsListed (s : ListSpace) (regions : List FreeListRegion) (live spare 
   pub runs : AreRuns regions (IsFreeIn s)
   pub room : live ≤ spare
   pub whole : wholes s.chunks regions ≡ counted
-
-abbrev pub listing_in : ListSpace → ℕ → ℕ → ℕ → ℕ → ℕ → FreeListState
-listing_in space next_chunk final_chunk memory_type props atom = record {
-  space = space;
-  next_chunk = next_chunk;
-  final_chunk = final_chunk;
-  memory_type = memory_type;
-  props = props;
-  atom = atom;
-}
 
 -- How a chunk to release is found.
 

@@ -1,38 +1,23 @@
 -- The rule of free lists, and what it owes as that of a store of shared chunks.
-use Rattle.std.specs.Prelude.{◌≡◌, ℕ, ◌+◌, ◌-◌, ◌<◌, ◌≤◌, false, max, Option, Some, None, refl}
+use Rattle.std.specs.Prelude.{◌≡◌, ℕ, ◌+◌, ◌<◌, ◌≤◌, false, Option, Some, None, refl}
 use Rattle.std.proofs.Common.{sym, ap, subst}
 use Rattle.std.proofs.Math.Nat.{not-suc-le_self}
 use Rattle.std.proofs.Math.Numerals.{suc-eq-add-one}
 use Rattle.std.specs.FinMap as map
 use Rattle.std.specs.FinSet as set
 use Rattle.gpu_alloc_base.specs.Accounts.{HeldChunks}
-use Rattle.gpu_alloc_base.specs.AlignMasks.{IsAlignMask}
 use Rattle.gpu_alloc_base.specs.Chunks.{Chunk}
-use Rattle.gpu_alloc_base.specs.FreeSpace.{IsMultipleOf}
-use Rattle.gpu_alloc_base.specs.Sizes.{up}
 use Rattle.gpu_alloc_base.specs.Slots.{slot_cmp}
 use Rattle.gpu_alloc_base.specs.declared.free_list_block.Slot.{Slot}
 use Rattle.gpu_alloc_freelist.specs.FreeList.{HasNumber, HasPlace, IsFirstToGo, IsTail, MayGo, first_tail, with_numbered_chunk, with_slot}
 use Rattle.gpu_alloc_freelist.specs.FreeListSound.{IsSoundFreeList}
 use Rattle.gpu_alloc_freelist.specs.FreeListState.{FreeListState, bytes_of, chunk_size, next_size}
 use Rattle.gpu_alloc_shared.specs.Rule.{IsLawful, Rule}
+use Rattle.gpu_alloc_shared.specs.Sized.{IsWholeAsk, ServesWhole, whole_ask}
 use Rattle.gpu_alloc_shared.specs.declared.store.Ask.{Ask}
 
--- a request that may be asked for
-pub record Serves (l : FreeListState) (size align_mask : ℕ) : Type 0 where
-  pub nonempty : 0 < size
-  pub fits : up size l.atom ≤ l.final_chunk
-  pub alignment : IsAlignMask align_mask
-
--- whole atoms, at an alignment no less than the atom
-pub record IsListAsk (l : FreeListState) (ask : Ask) : Type 0 where
-  pub nonempty : 0 < ask.size
-  pub whole : IsMultipleOf l.atom ask.size
-  pub alignment : IsAlignMask ask.align_mask
-  pub aligned : l.atom ≤ ask.align_mask + 1
-
 abbrev pub list_ask : FreeListState → ℕ → ℕ → Ask
-list_ask l size align_mask = record { size = up size l.atom; align_mask = max align_mask (l.atom - 1) }
+list_ask l = whole_ask l.atom
 
 -- one more chunk is held, with a block at its tail
 abbrev pub list_in_new_chunk : FreeListState → Ask → ℕ → Slot → FreeListState
@@ -53,10 +38,10 @@ list_rule = record {
   key = λ slot. slot.chunk;
   bytes = bytes_of;
   IsSound = IsSoundFreeList;
-  Serves = λ l heap size align_mask. Serves l size align_mask;
+  Serves = λ l heap size align_mask. ServesWhole l.final_chunk l.atom size align_mask;
   asked = list_ask;
   Fits = λ ask. Unit {0};
-  IsAsk = IsListAsk;
+  IsAsk = λ l. IsWholeAsk l.atom;
   Holds = λ l heap ask. ask.size ≤ l.final_chunk;
   HasPlace = λ l ask. HasPlace l.space ask.size (ask.align_mask + 1);
   IsTaken = λ l ask slot. IsTail l.space ask.size (ask.align_mask + 1) slot;

@@ -1,10 +1,11 @@
 -- What holds of a free list and of its allocator between calls.
 use Rattle.std.specs.Prelude.{◌≡◌, ℕ, ◌+◌, ◌<◌, ◌≤◌, ◌^◌, Some}
 use Rattle.std.specs.FinMap as map
-use Rattle.gpu_alloc_base.specs.FreeSpace.{IsIn, IsMultipleOf, IsPowerUpTo}
+use Rattle.gpu_alloc_base.specs.FreeSpace.{IsIn}
 use Rattle.gpu_alloc_base.specs.Chunks.{Chunk}
 use Rattle.gpu_alloc_freelist.specs.FreeListState.{ListSpace, FreeListState, IsLiveSlot}
 use Rattle.gpu_alloc_base.specs.declared.free_list_block.Slot.{Slot}
+use Rattle.gpu_alloc_shared.specs.Sized.{IsSoundSized}
 
 -- a live block is not empty, and lies in its chunk
 pub record LiesInChunk (s : ListSpace) (slot : Slot) : Type 0 where
@@ -23,13 +24,5 @@ pub record IsSoundListSpace (s : ListSpace) : Type 0 where
       → IsIn y.offset y.size at → x ≡ y
 
 -- chunks have objects of their own and are no larger than the largest, and chunks and blocks have whole atoms
-pub record IsSoundFreeList (l : FreeListState) : Type 0 where
-  pub space : IsSoundListSpace l.space
-  pub one_object : (k n : ℕ) (c d : Chunk) → map.get l.space.chunks k ≡ Some c → map.get l.space.chunks n ≡ Some d
-      → c.object ≡ d.object → k ≡ n
-  pub chunks : (k : ℕ) (c : Chunk) → map.get l.space.chunks k ≡ Some c → IsMultipleOf l.atom c.size
-      × (c.size ≤ l.final_chunk)
-  pub slots : (slot : Slot) → IsLiveSlot l.space slot → IsMultipleOf l.atom slot.offset × IsMultipleOf l.atom slot.size
-  pub next_chunk : (IsMultipleOf l.atom l.next_chunk × (0 < l.next_chunk)) × (l.next_chunk ≤ l.final_chunk)
-  pub final_chunk : IsMultipleOf l.atom l.final_chunk × (l.final_chunk ≤ 2 ^ 62)
-  pub atom : IsPowerUpTo 62 l.atom
+abbrev pub IsSoundFreeList : FreeListState → Type 0
+IsSoundFreeList = IsSoundSized (λ (s : ListSpace). s.chunks) (λ (s : ListSpace). s.live) IsSoundListSpace

@@ -1,5 +1,5 @@
 -- What a free list holds and has given out, and what its allocator keeps besides.
-use Rattle.std.specs.Prelude.{◌≡◌, ℕ, ◌+◌, ◌<◌, Some, IsTrue, max}
+use Rattle.std.specs.Prelude.{◌≡◌, ℕ, ◌<◌, Some, IsTrue}
 use Rattle.std.specs.FinMap as map
 use Rattle.std.specs.FinSet as set
 use Rattle.std.specs.Ordering.{nat_cmp}
@@ -7,9 +7,9 @@ use Rattle.gpu_alloc_base.specs.Chunks.{Chunk}
 use Rattle.gpu_alloc_base.specs.FreeSpace.{IsIn}
 use Rattle.gpu_alloc_base.specs.declared.free_list_block.Slot.{Slot}
 use Rattle.gpu_alloc_base.specs.InHand.{Bytes}
-use Rattle.gpu_alloc_base.specs.Sizes.{doubled_chunk, grown_chunk, up}
 use Rattle.gpu_alloc_base.specs.Slots.{slot_cmp}
-use Rattle.gpu_alloc_base.specs.Wanted.{Wanted}
+pub use Rattle.gpu_alloc_shared.specs.Sized.{alignment, chunk_size, next_size, rounded}
+use Rattle.gpu_alloc_shared.specs.Sized.{SizedState}
 
 -- The held chunks by number, the live blocks, and the number of the latest chunk: 0 before the first.
 pub record ListSpace : Type 0 where
@@ -22,15 +22,9 @@ pub record ListStore : Type 0 where
   pub space : ListSpace
   pub room : ℕ
 
--- A free-list allocator: its space, the next chunk's least size, the largest chunk, the memory type with its property
--- bits, and the atom, of which chunk and block sizes are multiples.
-pub record FreeListState : Type 0 where
-  pub space : ListSpace
-  pub next_chunk : ℕ
-  pub final_chunk : ℕ
-  pub memory_type : ℕ
-  pub props : ℕ
-  pub atom : ℕ
+-- A free-list allocator: its space, and the sizes of what it gives out.
+abbrev pub FreeListState : Type 0
+FreeListState = SizedState ListSpace
 
 -- An allocator's list with its sizes: what is held and live, and how many more chunks there is room for.
 pub record SizedList : Type 0 where
@@ -46,21 +40,6 @@ pub record IsFreeIn (s : ListSpace) (chunk at : ℕ) : Type 0 where
   pub is : map.get s.chunks chunk ≡ Some held
   pub inside : at < held.size
   pub unused : (slot : Slot) → IsLiveSlot s slot → slot.chunk ≡ chunk → IsIn slot.offset slot.size at → ⊥
-
--- the size of a block for a request, in whole atoms
-abbrev pub rounded : FreeListState → Wanted → ℕ
-rounded l w = up w.size l.atom
-
--- the alignment of a block: the greater of the request's and the atom
-abbrev pub alignment : FreeListState → Wanted → ℕ
-alignment l w = max (w.align_mask + 1) l.atom
-
--- the size of a chunk for a block of this size, and the next one's once it was made
-abbrev pub chunk_size : FreeListState → ℕ → ℕ
-chunk_size l size = grown_chunk l.next_chunk l.final_chunk size
-
-abbrev pub next_size : FreeListState → ℕ → ℕ
-next_size l size = doubled_chunk l.final_chunk size
 
 -- the bytes of a block
 abbrev pub bytes_of : Slot → Bytes

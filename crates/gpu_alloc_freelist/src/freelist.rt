@@ -38,7 +38,7 @@ use gpu_alloc_base::free_list_block::Slot;
 use gpu_alloc_base::heap::Heap;
 use gpu_alloc_base::range_order::put_in_order;
 use gpu_alloc_base::{AllocationError, FreeListBlock};
-use gpu_alloc_shared::{Store, returning};
+use gpu_alloc_shared::{ChunkSizes, Store, returning};
 use gpu_alloc_types::{
     AllocationFlags, FreeRange, MemoryObject, MemoryPropertyFlags, ObjectDevice,
 };
@@ -102,11 +102,13 @@ impl<M: MemoryObject, A: Allocator + Copy> FreeListAllocator<M, A> {
         FreeListAllocator {
             store: FreeListChunks {
                 freelist: FreeList::new(alloc),
-                chunk_size: starting_chunk_size,
-                final_chunk_size,
-                memory_type,
-                props,
-                atom_mask,
+                sizes: ChunkSizes {
+                    chunk_size: starting_chunk_size,
+                    final_chunk_size,
+                    memory_type,
+                    props,
+                    atom_mask,
+                },
             },
         }
     }
@@ -360,14 +362,7 @@ impl<M: MemoryObject, A: Allocator> FreeListAllocator<M, A> {
         requires { map.len ((self.space).chunks) ≡ 0 }
     {
         let FreeListAllocator { store } = self;
-        let FreeListChunks {
-            freelist,
-            chunk_size: _,
-            final_chunk_size: _,
-            memory_type: _,
-            props: _,
-            atom_mask: _,
-        } = store;
+        let FreeListChunks { freelist, sizes: _ } = store;
         freelist.close();
     }
 
@@ -377,8 +372,7 @@ impl<M: MemoryObject, A: Allocator> FreeListAllocator<M, A> {
     pub fn fits_a_chunk(&self, size: u64) -> bool
         ensures { result ≡ nat_le (up size (self.now).atom) (self.now).final_chunk }
     {
-        // (the largest chunk has whole atoms already)
-        size <= self.store.final_chunk_size
+        self.store.sizes.fits_a_chunk(size)
     }
 
     /// Releases wholly free chunks, except that of the last run if it is to be kept. (Most returns leave no such chunk,

@@ -6,6 +6,7 @@ use Rattle.gpu_alloc_types.specs.Properties.{Properties}
 use Rattle.gpu_alloc_base.specs.Accounts.{Account}
 use Rattle.gpu_alloc_base.specs.Case.{Answers, RefusesQuestion}
 use Rattle.gpu_alloc_base.specs.Chunks.{Chunk, IsThere}
+use Rattle.gpu_alloc_base.specs.InHand.{Offers}
 use Rattle.gpu_alloc_base.specs.NewChunk.{ChunkQuestion, HasOneChunkMore}
 use Rattle.gpu_alloc_base.specs.declared.error.AllocationError.{AllocationError}
 use Rattle.gpu_alloc_base.specs.declared.error.AllocationError.TheVariants.{OutOfDeviceMemory, OutOfHostMemory, NoCompatibleMemoryTypes, TooManyObjects}
@@ -13,7 +14,7 @@ use Rattle.gpu_alloc_base.proofs.Books.{KeepsBooks, answers_agree as chunks_agre
 use Rattle.gpu_alloc_base.proofs.Maps.{own_inserted}
 use Rattle.gpu_alloc_base.proofs.Outcomes.{if_some}
 use Rattle.gpu_alloc_shared.specs.Rule.{IsLawful, IsUnheldIn, Rule}
-use Rattle.gpu_alloc_shared.specs.Shared.{Agrees, LooksFirst, ObjectsAfter, ask_case, object_of, sees_chunks}
+use Rattle.gpu_alloc_shared.specs.Shared.{Agrees, HoldsNothing, LooksFirst, ObjectsAfter, ask_case, object_of, sees_chunks}
 
 module _ {T A B : Type 0} (r : Rule T A B) where
   -- what the device does not hold is no chunk's object
@@ -22,6 +23,10 @@ module _ {T A B : Type 0} (r : Rule T A B) where
       let there = if_some (λ c. HeldWith objects c.object (IsThere (r.served t).memory_type (sees_chunks r t) c)) (map.get (r.chunks t) key) chunk is (agrees.holds key) in
       let here : objects object ≡ Some there.0 = subst (λ n. objects n ≡ Some there.0) same there.1 in
       cc
+
+  -- what holds nothing agrees with every device that offers its memory type
+  pub nothing_agrees : (memory_type props : ℕ) (t : T) → HoldsNothing r memory_type props t → (p : Properties) (objects : ℕ → Option Object) → Offers p memory_type props → Agrees r t p objects
+  nothing_agrees memory_type props t nothing p objects offers = rw (nothing.0, nothing.1) (nothing.2.agrees p offers objects)
 
   -- Where a place is looked for first.
 

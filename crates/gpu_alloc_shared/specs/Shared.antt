@@ -43,6 +43,16 @@ module _ {T A B : Type 0} (r : Rule T A B) where
   abbrev pub Removes : T → B → T → Type 0
   Removes t b new = in_hand.Removes r.bytes (r.live t) b (r.live new)
 
+  -- what a cleanup leaves: the live blocks, and no chunk where there are none
+  abbrev pub LeavesNoRest : T → T → Type 0
+  LeavesNoRest t new = (r.live new ≡ r.live t) × in_hand.LeavesNoRest (r.live t) (r.chunks new)
+
+  -- nothing is held: so it agrees with every device that offers this memory type
+  abbrev pub HoldsNothing : ℕ → ℕ → T → Type 0
+  HoldsNothing memory_type props t =
+      ((r.served t).memory_type ≡ memory_type) × ((r.served t).props ≡ props)
+      × in_hand.HoldsNothing memory_type props (r.live t) (r.chunks t)
+
   -- The device and its objects.
 
   abbrev pub sees_chunks : T → Bool

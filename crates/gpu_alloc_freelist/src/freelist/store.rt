@@ -5,22 +5,21 @@ ghost use Rattle.gpu_alloc_types.specs.Device.{Asked};
 ghost use Rattle.gpu_alloc_types.specs.Flags.{allocation_bits, has_bit, with_device_address};
 ghost use Rattle.gpu_alloc_base.specs.Accounts.{account, chunks_and_remaining, IsCounted};
 ghost use Rattle.gpu_alloc_base.specs.Case.{Answers, RefusesFirst};
-ghost use Rattle.gpu_alloc_base.specs.Sizes.{up};
 ghost use Rattle.gpu_alloc_base.specs.Steps.{Begins};
 ghost use Rattle.gpu_alloc_base.specs.Wanted.{requested, wanted};
 ghost use Rattle.gpu_alloc_freelist.specs.FreeList.{MayGo};
 ghost use Rattle.gpu_alloc_freelist.specs.FreeListAllocator as list;
-ghost use Rattle.gpu_alloc_freelist.specs.FreeListRule.{Serves, list_lawful, list_rule};
+ghost use Rattle.gpu_alloc_freelist.specs.FreeListRule.{list_lawful, list_rule};
 ghost use Rattle.gpu_alloc_freelist.specs.FreeListSound.{IsSoundFreeList};
 ghost use Rattle.gpu_alloc_freelist.specs.FreeListState.{IsLiveSlot};
 ghost use Rattle.gpu_alloc_shared.specs.Shared.{case_of};
+ghost use Rattle.gpu_alloc_shared.specs.Sized.{ServesWhole};
 
 use super::list::FreeList;
 use gpu_alloc_base::heap::Heap;
-use gpu_alloc_base::sizes::next_power_of_two;
 use gpu_alloc_base::steps::Steps;
 use gpu_alloc_base::{AllocationError, FreeListBlock};
-use gpu_alloc_shared::{Ask, Store, returning, serving};
+use gpu_alloc_shared::{Ask, ChunkSizes, Store, returning, serving};
 use gpu_alloc_types::{AllocationFlags, MemoryObject, MemoryPropertyFlags, ObjectDevice};
 use std::alloc::{AllocError, Allocator, Global};
 use std::marker::Model;
@@ -29,11 +28,7 @@ use std::sync::ledger::{Blank, Ledger};
 /// A free list of one memory type's chunks, and the sizes of what comes next.
 pub struct FreeListChunks<M: MemoryObject, A: Allocator = Global> {
     pub(super) freelist: FreeList<M, A>,
-    pub(super) chunk_size: u64,
-    pub(super) final_chunk_size: u64,
-    pub(super) memory_type: u32,
-    pub(super) props: MemoryPropertyFlags,
-    pub(super) atom_mask: u64,
+    pub(super) sizes: ChunkSizes,
 }
 
 impl<M: MemoryObject, A: Allocator> Model for FreeListChunks<M, A> {
@@ -44,19 +39,15 @@ impl<M: MemoryObject, A: Allocator> Model for FreeListChunks<M, A> {
 
     ghost coded = { sized_list_code };
 
-    ghost use Rattle.std.specs.Prelude.{◌+◌};
-    ghost use Rattle.gpu_alloc_types.specs.Flags.{property_bits};
-    ghost use Rattle.gpu_alloc_freelist.specs.FreeListInside.{listing_in};
     ghost use Rattle.gpu_alloc_freelist.specs.FreeListSound.{IsSoundFreeList};
+    ghost use Rattle.gpu_alloc_shared.specs.Sized.{sized};
 
     ghost view = { λ a. record {
-      state = listing_in (a.freelist).space a.chunk_size a.final_chunk_size a.memory_type (property_bits a.props)
-          (a.atom_mask + 1);
+      state = sized (a.freelist).space a.sizes;
       room = (a.freelist).room;
     } };
 
-    ghost invariant = { λ a. IsSoundFreeList (listing_in (a.freelist).space a.chunk_size a.final_chunk_size a.memory_type
-        (property_bits a.props) (a.atom_mask + 1)) };
+    ghost invariant = { λ a. IsSoundFreeList (sized (a.freelist).space a.sizes) };
 }
 
 impl<M: MemoryObject, A: Allocator> Store<M> for FreeListChunks<M, A> {
@@ -80,37 +71,28 @@ impl<M: MemoryObject, A: Allocator> Store<M> for FreeListChunks<M, A> {
 
     #[inline(always)]
     fn memory_type(&self) -> u32 {
-        self.memory_type
+        self.sizes.memory_type
     }
 
     #[inline(always)]
     fn props(&self) -> MemoryPropertyFlags {
-        self.props
+        self.sizes.props
     }
 
     #[inline(always)]
     fn asked(&self, size: u64, align_mask: u64) -> Option<Ask> {
-        Some(Ask {
-            size: self.rounded_size(size),
-            align_mask: align_mask.max(self.atom_mask),
-        })
+        Some(self.sizes.asked(size, align_mask))
     }
 
     #[inline(always)]
     fn chunk_size(&self, heap: &Heap, ask: Ask) -> u64 {
         let _ = heap;
-        if ask.size <= self.chunk_size {
-            return self.chunk_size;
-        }
-        let multiple = next_power_of_two((ask.size - 1) / self.chunk_size + 1);
-        self.chunk_size
-            .saturating_mul(multiple)
-            .min(self.final_chunk_size)
+        self.sizes.chunk_size(ask.size)
     }
 
     #[inline(always)]
     fn largest_chunk(&self) -> Option<u64> {
-        Some(self.final_chunk_size)
+        Some(self.sizes.final_chunk_size)
     }
 
     #[inline(always)]
@@ -156,7 +138,7 @@ impl<M: MemoryObject, A: Allocator> Store<M> for FreeListChunks<M, A> {
         let block = self
             .freelist
             .begin(memory, handle, whole, ask.align_mask, ask.size);
-        self.chunk_size = (2 * whole).min(self.final_chunk_size);
+        self.sizes.grow(whole);
         block
     }
 
@@ -201,7 +183,7 @@ impl<M: MemoryObject, A: Allocator> FreeListChunks<M, A> {
     ) -> Result<FreeListBlock<M>, AllocationError>
         requires looks { Begins looks L.name L.parts }
         requires splits { Begins splits K.name K.parts }
-        requires serves { Serves (self.old).state size align_mask }
+        requires serves { ServesWhole (self.old).state.final_chunk (self.old).state.atom size align_mask }
         requires address { IsTrue (has_bit (allocation_bits flags) with_device_address)
             → IsTrue (D.properties device.old).buffer_device_address }
         requires agrees { list.Agrees (self.old).state (D.properties device.old) (D.objects device.old) }
@@ -249,7 +231,7 @@ impl<M: MemoryObject, A: Allocator> FreeListChunks<M, A> {
         looks: Blank,
     ) -> Option<AllocationError>
         requires looks { Begins looks L.name L.parts }
-        requires serves { Serves (self.now).state size align_mask }
+        requires serves { ServesWhole (self.now).state.final_chunk (self.now).state.atom size align_mask }
         ensures refuses { (flags : ℕ) → RefusesFirst (case_of list_rule
             (account (self.now).state heap.now allocations_remains) (wanted size align_mask flags)) result }
         ensures sound { IsSoundFreeList (self.now).state }
@@ -302,16 +284,5 @@ impl<M: MemoryObject, A: Allocator> FreeListChunks<M, A> {
         ensures { IsTrue result → (number : ℕ) → MayGo (self.now).state.space keep_last number → ⊥ }
     {
         self.freelist.keeps_all(keep_last)
-    }
-
-    /// A size in whole atoms.
-    #[inline(always)]
-    fn rounded_size(&self, size: u64) -> u64
-        requires nonempty { 0 < size }
-        requires fits { up size (self.now).state.atom ≤ (self.now).state.final_chunk }
-        ensures is { result ≡ up size (self.now).state.atom }
-    {
-        let atom = self.atom_mask + 1;
-        (size - 1) / atom * atom + atom
     }
 }

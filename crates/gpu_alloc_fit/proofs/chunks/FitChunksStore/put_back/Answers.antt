@@ -1,16 +1,14 @@
-use Rattle.std.proofs.Common.{◌+◌}
-use Rattle.gpu_alloc_types.specs.Flags.{property_bits}
 use Rattle.gpu_alloc_base.specs.declared.free_list_block.Slot.{Slot}
 use Rattle.gpu_alloc_fit.specs.Fit.{FitState}
-use Rattle.gpu_alloc_fit.specs.FitSound.{fitting_in}
 use Rattle.gpu_alloc_runs.specs.Space.{IsLiveFitSpan}
+use Rattle.gpu_alloc_shared.specs.Sized.{sized}
 use Rattle.gpu_alloc_fit.proofs.FitReturns.{goes_so, sound_returned, stays_so}
 use Rattle.gpu_alloc_fit.proofs.chunks.FitChunksStore.put_back.Given.{Over}
 use Rattle.gpu_alloc_fit.proofs.chunks.FitChunksStore.put_back.Goals.{After-keeps_sound}
 use Rattle.gpu_alloc_fit.proofs.chunks.FitChunksStore.put_back.Goals as goal
 
 abbrev old : (g : Over) → After-keeps_sound g → FitState
-old g c = fitting_in c.self.inside.fits.space c.self.inside.chunk_size c.self.inside.final_chunk_size c.self.inside.memory_type (property_bits c.self.inside.props) (c.self.inside.atom_mask + 1)
+old g c = sized c.self.inside.fits.space c.self.inside.sizes
 
 abbrev Is : (g : Over) → After-keeps_sound g → Slot → Type 0
 Is g c slot = IsLiveFitSpan (old g c).space (g.M.MemoryObject.object c.args.returned.memory) c.args.returned.offset c.args.returned.size slot

@@ -1,8 +1,8 @@
-use Rattle.std.proofs.Common.{◌+◌, arith, sym}
-use Rattle.gpu_alloc_base.proofs.ChunkSizes.{up_within}
+use Rattle.gpu_alloc_shared.proofs.Sized.{sizes_of}
 use Rattle.gpu_alloc_fit.proofs.fit.FitAllocator.fits_a_chunk.Goals as goal
 
+pub fits_a_chunk-requires : goal.fits_a_chunk-requires
+fits_a_chunk-requires g c = sizes_of _ c.self-inside.invariant
+
 pub returns : goal.returns
-returns g c =
-    let inside = c.self-inside.inside.0.0 in
-    rw (← c.self.view_is, ← c.self-inside.view_is) (sym (up_within c.args.size (inside.atom_mask + 1) inside.final_chunk_size (omega arith) c.self-inside.invariant.final_chunk.0))
+returns g c = rw (← c.self.view_is, ← c.self-inside.view_is) c.fits_a_chunk.ensures

@@ -1,21 +1,16 @@
-use Rattle.std.proofs.Common.{subst}
 use Rattle.gpu_alloc_base.specs.Accounts.{account}
-use Rattle.gpu_alloc_base.specs.Case.{Answers}
-use Rattle.gpu_alloc_base.specs.Wanted.{Wanted, requested}
-use Rattle.gpu_alloc_freelist.specs.FreeListAllocator.{list_case, rounded}
-use Rattle.gpu_alloc_freelist.proofs.FreeListAnswers.{alignment_is, answers_granted, answers_keep}
+use Rattle.gpu_alloc_base.specs.Wanted.{requested}
+use Rattle.gpu_alloc_freelist.proofs.FreeListAnswers.{answers_granted, answers_keep, answers_so}
 use Rattle.gpu_alloc_freelist.proofs.freelist.FreeListAllocator.alloc.Goals as goal
 
 pub returns-clause-allocates : goal.returns-clause-allocates
 returns-clause-allocates g c =
-    let l = c.self.inside.store.state in
-    let w : Wanted = requested c.args.size c.args.align_mask c.args.flags in
     let told = c.alloc.ensures.allocates in
     rw (← c.self.view_is) (
       told.0,
       told.1,
-      subst (λ n. Answers (list_case (account l c.args.heap.now c.args.allocations_remains.now) (rounded l w) n w.flags) told.0 c.alloc.result
-          (account c.alloc.new.self.state c.alloc.new.heap c.alloc.new.allocations_remains)) (alignment_is l w c.alloc.ensures.was) told.2,
+      answers_so (account c.self.inside.store.state c.args.heap.now c.args.allocations_remains.now) (requested c.args.size c.args.align_mask c.args.flags) c.alloc.ensures.was told.0 c.alloc.result
+          (account c.alloc.new.self.state c.alloc.new.heap c.alloc.new.allocations_remains) told.2,
     )
 
 pub returns-clause-granted : goal.returns-clause-granted

@@ -98,7 +98,7 @@ block g c =
 pub invariant_of-self-2 : goal.invariant_of-self-2
 invariant_of-self-2 g c = record {
   stored = taken_stored g.M.MemoryObject.object c.self.inside.chunks c.make_room.new.tiles c.cut_out-block.new.nodes c.self.inside.spare (roomy g c) c.cut_out-block.result c.in-Some.key c.in-Some.run' _ (at_run g c) c.cut_out-block.ensures.added
-      c.cut_out-block.ensures.live refl c.cut_out-block.ensures.others c.cut_out-block.ensures.elsewhere c.cut_out-block.ensures.kept c.without-self-inside.result c.without-self-inside.ensures;
+      c.cut_out-block.ensures.live refl c.cut_out-block.ensures.others c.cut_out-block.ensures.elsewhere c.cut_out-block.ensures.kept c.forget.new.spare c.forget.ensures;
   filed = c.cut_out-block.ensures.filed;
   whole_last = used_last (chunk_size_in c.self.inside.chunks) (chunk_size_in c.self.inside.chunks) c.make_room.new.tiles c.cut_out-block.new.nodes c.in-Some.run'.chunk (λ k ne. refl) (roomy g c).kept c.cut_out-block.ensures.kept c.cut_out-block.ensures.elsewhere c.cut_out-block.ensures.ends
       (store_same g.M.MemoryObject.object c.self.inside.chunks c.self.inside.chunks c.self.inside.tiles c.make_room.new.tiles refl (ap (λ s. s.slots) c.make_room.ensures.rest_kept) c.self.inside.classes c.self.inside.spare c.self.invariant).whole_last

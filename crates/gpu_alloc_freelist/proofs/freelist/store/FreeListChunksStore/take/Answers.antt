@@ -1,6 +1,4 @@
-use Rattle.std.proofs.Common.{◌+◌}
-use Rattle.gpu_alloc_types.specs.Flags.{property_bits}
-use Rattle.gpu_alloc_freelist.specs.FreeListInside.{listing_in}
+use Rattle.gpu_alloc_shared.specs.Sized.{sized}
 use Rattle.gpu_alloc_freelist.specs.FreeListState.{FreeListState}
 use Rattle.gpu_alloc_freelist.proofs.FreeListAnswers.{adds_taken, leaves_taken, sound_taken, takes_so}
 use Rattle.gpu_alloc_freelist.proofs.freelist.store.FreeListChunksStore.take.Given.{Over}
@@ -8,7 +6,7 @@ use Rattle.gpu_alloc_freelist.proofs.freelist.store.FreeListChunksStore.take.Goa
 use Rattle.gpu_alloc_freelist.proofs.freelist.store.FreeListChunksStore.take.Goals as goal
 
 abbrev old : (g : Over) → After-get_block g → FreeListState
-old g c = listing_in c.self.inside.freelist.space c.self.inside.chunk_size c.self.inside.final_chunk_size c.self.inside.memory_type (property_bits c.self.inside.props) (c.self.inside.atom_mask + 1)
+old g c = sized c.self.inside.freelist.space c.self.inside.sizes
 
 pub invariant_of-self : goal.invariant_of-self
 invariant_of-self g c = sound_taken (old g c) c.args.ask c.get_block.new.self.space c.get_block.result c.self.invariant (rw (← c.self.view_is) at c.requires.asked) c.get_block.ensures.takes
