@@ -11,8 +11,6 @@ use Rattle.std.specs.Prelude.{sum_by}
 use Rattle.gpu_alloc_types.specs.Device.{Event, Object}
 use Rattle.gpu_alloc_types.specs.Properties.{Properties}
 use Rattle.gpu_alloc_block.specs.Agreement.{Agrees}
-use Rattle.gpu_alloc_buddy.specs.BuddyState.{Buddy}
-use Rattle.gpu_alloc_freelist.specs.FreeListState.{FreeListState}
 use Rattle.gpu_alloc.specs.Inside.{state_in, properties_in}
 use Rattle.gpu_alloc.proofs.Linked.{IsConsistent}
 use Rattle.gpu_alloc.specs.FitSharing.{IsFitChunk}
@@ -32,7 +30,7 @@ use Rattle.gpu_alloc.proofs.SameTypes.{AgreeOnFits, AgreeOnType, agree_after, ag
 use Rattle.gpu_alloc_base.proofs.Lists.{contains_none}
 use Rattle.gpu_alloc_base.proofs.Maps.{one_value}
 use Rattle.gpu_alloc.proofs.Soundness.{sound_is}
-use Rattle.gpu_alloc_fit.specs.Fit.{FitState}
+use Rattle.gpu_alloc.specs.declared.allocator.stores.TypeStores.{TypeStores}
 
 -- One memory type: what its free list gives back, and then its fit chunks.
 
@@ -134,12 +132,12 @@ no_sum : {X : Type 0} (f : X → ℕ) (xs : List X) → length xs ≡ 0 → sum_
 no_sum f [] none = refl
 no_sum f (x ∷ xs) none = absurd (omega (arith, none))
 
-module _ {A : Type 0} (l : Limits A) (heaps : List Heap) (buddies : List Buddy) (lists : List FreeListState) (fits : List FitState) (t : Table) (remaining : ℕ) (is : IsConsistent l.sharing l.config (properties_in l heaps) heaps buddies lists fits t remaining) where
+module _ {A M X : Type 0} (l : Limits A) (heaps : List Heap) (ss : List (TypeStores M X)) (t : Table) (remaining : ℕ) (is : IsConsistent l.sharing l.config (properties_in l heaps) heaps ss t remaining) where
   abbrev s : State
-  s = state_in l heaps buddies lists fits t remaining
+  s = state_in l heaps ss t remaining
 
   sound : IsSound s
-  sound = sound_is l heaps buddies lists fits t remaining is
+  sound = sound_is l heaps ss t remaining is
 
   module _ (gone : List ℕ) (all : AreAllReleased s (length (properties_in l heaps).memory_types) gone) where
     -- a chunk in which nothing is live goes

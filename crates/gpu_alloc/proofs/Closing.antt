@@ -1,4 +1,4 @@
--- An allocator at last: where no object is held, no buddy allocator, no free list and no allocator of fit chunks has a chunk.
+-- An allocator at last: where no object is held, no store has a chunk.
 use Rattle.std.proofs.Common.{◌≡◌, ℕ, List, [], ◌∷◌, ◌++◌, length, get_or, Option, Some, None, IfSome, refl, ◌∙◌, ap, subst, cond, arith, length-append}
 use Rattle.std.proofs.lemmas.List.{get_or_append_left}
 use Rattle.std.proofs.lemmas.Option.{slice_get-get_or}
@@ -9,8 +9,13 @@ use Rattle.std.specs.Ordering.{nat_cmp}
 use Rattle.gpu_alloc_buddy.specs.BuddyState.{Buddy}
 use Rattle.gpu_alloc_base.specs.Chunks.{Chunk}
 use Rattle.gpu_alloc_freelist.specs.FreeListState.{FreeListState}
-use Rattle.gpu_alloc.proofs.Linked.{HasBuddies, HasFits, HasLists}
-use Rattle.gpu_alloc.specs.Opening.{AreFirstBuddies, AreFirstFreeLists}
+use Rattle.gpu_alloc.proofs.Linked.{HasStores, IsChosenOf}
+use Rattle.gpu_alloc.specs.Opening.{AreFirst, IsFirstStore}
+use Rattle.gpu_alloc.specs.Stores.{ChosenHasNoChunk, HaveNoChunk}
+use Rattle.gpu_alloc.specs.declared.allocator.stores.Chosen.{Chosen}
+use Rattle.gpu_alloc.specs.declared.allocator.stores.Chosen.TheVariants.{Buddy as InBuddies, Fit as InFits}
+use Rattle.gpu_alloc.specs.declared.allocator.stores.TypeStores.{TypeStores}
+use Rattle.gpu_alloc_block.specs.declared.sharing.Sharing.{Sharing}
 use Rattle.gpu_alloc.specs.Spans.{Table}
 use Rattle.gpu_alloc_block.specs.State.{HeldObject}
 use Rattle.gpu_alloc_base.specs.declared.config.Config.{Config}
@@ -44,36 +49,27 @@ module _ {X : Type 0} (P : X → Type 0) where
   pub all_last : (xs : List X) (x : X) → All P (xs ++ x ∷ []) → P x
   all_last xs x all = subst P (get_or-append_seam xs x [] x) (all (length xs) x (omega (arith, length-append xs (x ∷ []))))
 
--- Allocators.
+-- Stores.
 
--- without a chunk
-abbrev pub HasNoChunk : Buddy → Type 0
-HasNoChunk b = finite.len b.chunks ≡ 0
+-- first ones hold no chunk
+module _ {M X : Type 0} (sharing : Sharing) (c : Config) (p : Properties) where
+  first_chosen_empty : (t : ℕ) (x : Chosen M X) → IsFirstStore sharing c p t x → ChosenHasNoChunk x
+  first_chosen_empty t (InBuddies b) is = ap (λ (x : Buddy). finite.len x.chunks) is.1.0 ∙ finite.len-empty nat_cmp Chunk
+  first_chosen_empty t (InFits f) is = ap (λ (x : FitState). finite.len x.space.chunks) is.1.0 ∙ finite.len-empty nat_cmp Chunk
 
--- first ones have none
-pub first_chunkless : (c : Config) (p : Properties) (buddies : List Buddy) → AreFirstBuddies c p buddies → All HasNoChunk buddies
-first_chunkless c p buddies are = all_of_each HasNoChunk buddies _ (λ i b is. ap (λ (x : Buddy). finite.len x.chunks) is.0 ∙ finite.len-empty nat_cmp Chunk) are
+  pub first_empty : (ss : List (TypeStores M X)) → AreFirst sharing c p ss → All HaveNoChunk ss
+  first_empty ss are = all_of_each HaveNoChunk ss _ (λ i e is. (first_chosen_empty i e.chosen is.0, ap (λ (x : FreeListState). finite.len x.space.chunks) is.1.0 ∙ finite.len-empty nat_cmp Chunk)) are
 
-abbrev pub IsEmptyList : FreeListState → Type 0
-IsEmptyList l = finite.len l.space.chunks ≡ 0
-
-pub first_lists_empty : (c : Config) (p : Properties) (lists : List FreeListState) → AreFirstFreeLists c p lists → All IsEmptyList lists
-first_lists_empty c p lists are = all_of_each IsEmptyList lists _ (λ i l is. ap (λ (x : FreeListState). finite.len x.space.chunks) is.0 ∙ finite.len-empty nat_cmp Chunk) are
-
-abbrev pub IsEmptyFit : FitState → Type 0
-IsEmptyFit f = finite.len f.space.chunks ≡ 0
-
-module _ (c : Config) (p : Properties) (t : Table) (none : finite.len t.held ≡ 0) where
+module _ (t : Table) (none : finite.len t.held ≡ 0) where
   unheld : (object : ℕ) (h : HeldObject) → finite.get t.held object ≡ Some h → ⊥
   unheld object h held =
       let nothing : finite.get t.held object ≡ None = ap (λ (m : Held). finite.get m object) (finite.empty_of_len t.held none) ∙ finite.get-empty nat_cmp object in
       cc
 
-  pub chunkless_all : (buddies : List Buddy) → HasBuddies c p t buddies → All HasNoChunk buddies
-  chunkless_all buddies has = all_of_each HasNoChunk buddies _ (λ i b is. empty_without_key b.chunks (λ key chunk found. unheld chunk.object _ (is.linked.chunks key chunk found))) has.each
+module _ {M X : Type 0} (sharing : Sharing) (c : Config) (p : Properties) (t : Table) (none : finite.len t.held ≡ 0) where
+  chosen_empty : (i : ℕ) (x : Chosen M X) → IsChosenOf c p t sharing i x → ChosenHasNoChunk x
+  chosen_empty i (InBuddies b) is = empty_without_key b.chunks (λ key chunk found. unheld t none chunk.object _ (is.1.linked.chunks key chunk found))
+  chosen_empty i (InFits f) is = empty_without_key f.space.chunks (λ key chunk found. unheld t none chunk.object _ (is.1.linked.chunks key chunk found))
 
-  pub lists_empty : (lists : List FreeListState) → HasLists c p t lists → All IsEmptyList lists
-  lists_empty lists has = all_of_each IsEmptyList lists _ (λ i l is. empty_without_key l.space.chunks (λ number chunk found. unheld chunk.object _ (is.linked.chunks number chunk found))) has.each
-
-  pub fits_empty : (fits : List FitState) → HasFits c p t fits → All IsEmptyFit fits
-  fits_empty fits has = all_of_each IsEmptyFit fits _ (λ i f is. empty_without_key f.space.chunks (λ key chunk found. unheld chunk.object _ (is.linked.chunks key chunk found))) has.each
+  pub all_empty : (ss : List (TypeStores M X)) → HasStores c p t sharing ss → All HaveNoChunk ss
+  all_empty ss has = all_of_each HaveNoChunk ss _ (λ i e is. (chosen_empty i e.chosen is.chosen, empty_without_key e.free_list.space.chunks (λ number chunk found. unheld t none chunk.object _ (is.free_list.linked.chunks number chunk found)))) has.each

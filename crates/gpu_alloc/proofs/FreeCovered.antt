@@ -93,7 +93,7 @@ range_nonempty s t r is = elim is [ inl piece ↦ omega (arith, piece.end, some_
     some_bytes p = let power = p.piece.place.power in let some = pow_pos power.0 in omega (arith, some, power.1)
 
 -- an object in which runs are free is shared
-runs_shared : (kind : Kind) → has_runs kind ≡ true → is_shared kind ≡ true
+pub runs_shared : (kind : Kind) → has_runs kind ≡ true → is_shared kind ≡ true
 runs_shared Dedicated runs = absurd (cc)
 runs_shared Imported runs = absurd (cc)
 runs_shared BuddyChunk runs = refl

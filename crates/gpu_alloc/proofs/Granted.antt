@@ -29,7 +29,7 @@ use Rattle.gpu_alloc.specs.FitSharing.{IsInFreeRun, first_fit, fit_alignment, fi
 use Rattle.gpu_alloc.specs.FreeListSharing.{IsFreeInChunk, IsListChunk, IsRunTail, largest_list_chunk, latest_number, list_alignment, list_question, list_size, next_list_chunk, tail_of}
 use Rattle.gpu_alloc.specs.Request.{IsAskable}
 use Rattle.gpu_alloc.specs.Sound.{IsSound}
-use Rattle.gpu_alloc_block.specs.State.{Block, HeldObject, IsLive, Span, State, granted_block, is_shared, span_of}
+use Rattle.gpu_alloc_block.specs.State.{AreSpansApart, Block, HeldObject, IsLive, Span, State, granted_block, is_shared, span_of}
 use Rattle.gpu_alloc.specs.declared.allocator.Strategy.{Strategy}
 use Rattle.gpu_alloc.specs.declared.allocator.Strategy.TheVariants.{OwnObject, InBuddyChunk, InFreeList, InFitChunk}
 use Rattle.gpu_alloc_block.specs.declared.block.Kind.{Kind}
@@ -58,50 +58,40 @@ module _ (s : State) (r : Request) (sound : IsSound s) where
       pub some_atom : 0 < atom_of s.properties t
       pub candidate : IsCandidate s r t
 
+    -- it lies in this object, apart from all that is live
+    lies_granted : (new : State) (h : HeldObject) → IsSized → map.get new.held span.object ≡ Some h → span.offset + span.size ≤ h.counted → h.memory_type ≡ t → h.kind ≡ kind → IsLive new span → ((other : Span) → IsLive s other → AreSpansApart other span) → IsGranted s r new (granted_block s t kind span)
+    lies_granted new h sized found fits of_type of_kind live apart = record {
+      enough = sized.enough;
+      aligned = sized.aligned;
+      whole_atoms = sized.whole_atoms;
+      buddy = sized.buddy;
+      inside = (h, found, fits);
+      unmapped = refl;
+      made = sized.made;
+      some_atom = sized.some_atom;
+      candidate = sized.candidate;
+      props = refl;
+      atom = refl;
+      owned = record { live = live; held = (h, found, of_type, of_kind) };
+      was_free = apart;
+    }
+
     -- its bytes were free
     in_place : IsSized → 0 < span.size → ((at : ℕ) → IsIn span.offset span.size at → IsFreeByte s t kind span.object at) → IsGranted s r (with_span s span) (granted_block s t kind span)
     in_place sized some free =
         let last = free (span.offset + span.size - 1) (record { from = omega (arith, some); to = omega (arith, some) }) in
-        record {
-          enough = sized.enough;
-          aligned = sized.aligned;
-          whole_atoms = sized.whole_atoms;
-          buddy = sized.buddy;
-          inside = (last.chunk, last.held, omega (arith, some, last.inside));
-          unmapped = refl;
-          made = sized.made;
-          some_atom = sized.some_atom;
-          candidate = sized.candidate;
-          props = refl;
-          atom = refl;
-          owned = record { live = live_new s.live span; held = (last.chunk, last.held, last.of_type, last.of_kind) };
-          was_free = λ other live. elim (cases_eq other.object span.object) [
-            | inl same ↦ inr (ranges_apart other.offset other.size span.offset span.size (sound.nonempty other live) some (λ at also inside. (free at inside).unused other live same also))
-            | inr apart ↦ inl apart
-          ];
-        }
+        lies_granted (with_span s span) last.chunk sized last.held (omega (arith, some, last.inside)) last.of_type last.of_kind (live_new s.live span) (λ other live. elim (cases_eq other.object span.object) [
+          | inl same ↦ inr (ranges_apart other.offset other.size span.offset span.size (sound.nonempty other live) some (λ at also inside. (free at inside).unused other live same also))
+          | inr apart ↦ inl apart
+        ])
 
     -- its object is new
     in_new_object : (new : State) (counted : ℕ) → IsSized → span.offset + span.size ≤ counted → map.get s.held span.object ≡ None
         → new.held ≡ map.insert s.held span.object (record { memory_type = t; counted = counted; kind = kind }) → new.live ≡ set.insert s.live span → IsGranted s r new (granted_block s t kind span)
     in_new_object new counted sized fits free held live =
         let h : HeldObject = record { memory_type = t; counted = counted; kind = kind } in
-        let found : map.get new.held span.object ≡ Some h = ap (λ m. map.get m span.object) held ∙ own_inserted s.held span.object h in
-        record {
-          enough = sized.enough;
-          aligned = sized.aligned;
-          whole_atoms = sized.whole_atoms;
-          buddy = sized.buddy;
-          inside = (h, found, fits);
-          unmapped = refl;
-          made = sized.made;
-          some_atom = sized.some_atom;
-          candidate = sized.candidate;
-          props = refl;
-          atom = refl;
-          owned = record { live = subst (λ x. IsTrue (set.contains x span)) (sym live) (live_new s.live span); held = (h, found, refl, refl) };
-          was_free = λ other there. inl (λ same. let was = (sound.inside other there).1 in let none = ap (map.get s.held) same ∙ free in absurd (cc));
-        }
+        lies_granted new h sized (ap (λ m. map.get m span.object) held ∙ own_inserted s.held span.object h) fits refl refl (subst (λ x. IsTrue (set.contains x span)) (sym live) (live_new s.live span))
+        (λ other there. inl (λ same. let was = (sound.inside other there).1 in let none = ap (map.get s.held) same ∙ free in absurd (cc)))
 
   module _ (atoms : KeepsAtoms s) (asked : IsAskable s.properties.buffer_device_address r) (t : ℕ) (chosen : IsCandidate s r t) where
     abbrev atom : ℕ

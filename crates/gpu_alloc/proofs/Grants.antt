@@ -8,8 +8,6 @@ use Rattle.gpu_alloc_base.specs.NewChunk.{made}
 use Rattle.gpu_alloc.specs.Allocation.{TriesBy}
 use Rattle.gpu_alloc.specs.Candidates.{own_candidate, own_question, holding, whole_block}
 use Rattle.gpu_alloc.specs.declared.allocator.Strategy.TheVariants.{OwnObject}
-use Rattle.gpu_alloc_buddy.specs.BuddyState.{Buddy}
-use Rattle.gpu_alloc_freelist.specs.FreeListState.{FreeListState}
 use Rattle.gpu_alloc.specs.Inside.{state_in}
 use Rattle.gpu_alloc.specs.Spans.{Table}
 use Rattle.gpu_alloc_block.specs.State.{State, HeldObject, Block, span_of}
@@ -18,19 +16,19 @@ use Rattle.gpu_alloc_block.specs.declared.block.Kind.TheVariants.{Dedicated as D
 use Rattle.gpu_alloc_base.specs.declared.heap.Heap.{Heap}
 use Rattle.gpu_alloc.specs.declared.request.Request.{Request}
 use Rattle.gpu_alloc.proofs.HeapLists.{state_kept}
-use Rattle.gpu_alloc_fit.specs.Fit.{FitState}
+use Rattle.gpu_alloc.specs.declared.allocator.stores.TypeStores.{TypeStores}
 
 -- the object of a block that is an object of its own
 abbrev pub own_object : ℕ → ℕ → HeldObject
 own_object size memory_type = record { memory_type = memory_type; counted = size; kind = DedicatedObject }
 
 -- what the fields stand for where an object is held with a block in it
-pub state_held : {A : Type 0} (l : Limits A) (heaps : List Heap) (buddies : List Buddy) (lists : List FreeListState) (fits : List FitState) (i : ℕ) (h old : Heap) (t now : Table) (remaining : ℕ) (object : HeldObject) (b : Block) → old ≡ get_or heaps i old → h.size ≡ old.size → h.limit ≡ old.limit
+pub state_held : {A M X : Type 0} (l : Limits A) (heaps : List Heap) (ss : List (TypeStores M X)) (i : ℕ) (h old : Heap) (t now : Table) (remaining : ℕ) (object : HeldObject) (b : Block) → old ≡ get_or heaps i old → h.size ≡ old.size → h.limit ≡ old.limit
     → now.held ≡ finite.insert t.held b.object object → now.live ≡ set_of.insert t.live (span_of b)
-    → state_in l (set heaps i h) buddies lists fits now (remaining - 1) ≡ holding (state_in l heaps buddies lists fits t remaining) object b
-state_held l heaps buddies lists fits i h old t now remaining object b at same limit held live =
-    state_kept l heaps buddies lists fits i h old now (remaining - 1) at same limit
-    ∙ (λ k. record (state_in l heaps buddies lists fits t remaining) { held = held k; live = live k; remaining = remaining - 1 })
+    → state_in l (set heaps i h) ss now (remaining - 1) ≡ holding (state_in l heaps ss t remaining) object b
+state_held l heaps ss i h old t now remaining object b at same limit held live =
+    state_kept l heaps ss i h old now (remaining - 1) at same limit
+    ∙ (λ k. record (state_in l heaps ss t remaining) { held = held k; live = live k; remaining = remaining - 1 })
 
 -- it has a question where one more may be held
 pub has_own : {s : State} {size memory_type : ℕ} → 0 < s.remaining → HasQuestion (own_candidate s size memory_type)

@@ -11,17 +11,16 @@ use Rattle.gpu_alloc_types.specs.declared.types.MemoryType.{MemoryType}
 use Rattle.gpu_alloc_block.specs.State.{State, heap_limit, ledger, share}
 use Rattle.gpu_alloc.specs.Budget.{asked_bytes, asked_share, heap_bytes, with_heap_limit}
 use Rattle.gpu_alloc.specs.Spans.{Table}
-use Rattle.gpu_alloc_buddy.specs.BuddyState.{Buddy}
-use Rattle.gpu_alloc_freelist.specs.FreeListState.{FreeListState}
-use Rattle.gpu_alloc.specs.Inside.{fits_in, properties_in, state_in, types_in, lists_in, AreLedgers, IsBooked, IsLedger, limit_of, offer_of}
+use Rattle.gpu_alloc.specs.Inside.{types_with, properties_in, state_in, AreLedgers, IsBooked, IsLedger, limit_of, offer_of}
 use Rattle.gpu_alloc_base.specs.Heap.{unused}
 use Rattle.gpu_alloc.specs.Opening.{size_of_heap}
 use Rattle.gpu_alloc.specs.FirstTypes.{first_types}
+use Rattle.gpu_alloc.specs.Stores.{type_sizes}
 use Rattle.gpu_alloc.specs.declared.limits.Limits.{Limits}
 use Rattle.gpu_alloc_types.specs.declared.types.MemoryHeap.{MemoryHeap}
 use Rattle.gpu_alloc_base.specs.declared.heap.Heap.{Heap}
 use Rattle.gpu_alloc.proofs.Ledgers.{Entries}
-use Rattle.gpu_alloc_fit.specs.Fit.{FitState}
+use Rattle.gpu_alloc.specs.declared.allocator.stores.TypeStores.{TypeStores}
 
 -- Heaps, as one of them changes.
 
@@ -93,30 +92,35 @@ pub record IsHeap (s : State) (i : ℕ) (heap : Heap) : Type 0 where
   pub limit : heap.limit ≡ heap_limit s i
   pub limited : heap.limit ≤ heap.size
 
-pub heap_is : {A : Type 0} (l : Limits A) (heaps : List Heap) (buddies : List Buddy) (lists : List FreeListState) (fits : List FitState) (t : Table) (remaining : ℕ) → AreLedgers (properties_in l heaps) heaps (finite.entries t.held)
-    → (i : ℕ) (heap : Heap) → i < length heaps → heap ≡ get_or heaps i heap → IsHeap (state_in l heaps buddies lists fits t remaining) i heap
-heap_is l heaps buddies lists fits t remaining ledgers i heap inside at =
+pub heap_is : {A M X : Type 0} (l : Limits A) (heaps : List Heap) (ss : List (TypeStores M X)) (t : Table) (remaining : ℕ) → AreLedgers (properties_in l heaps) heaps (finite.entries t.held)
+    → (i : ℕ) (heap : Heap) → i < length heaps → heap ≡ get_or heaps i heap → IsHeap (state_in l heaps ss t remaining) i heap
+heap_is l heaps ss t remaining ledgers i heap inside at =
     let is = ledger_is (properties_in l heaps) heaps i heap (finite.entries t.held) ledgers inside at in
     record { used = is.used; size = sym (size_offered heaps i heap inside at); asked = is.within; limit = sym (limit_told heaps i heap inside at); limited = is.limited }
 
+-- a heap that the device offers
+pub offered_heap_is : {A M X : Type 0} (l : Limits A) (heaps : List Heap) (ss : List (TypeStores M X)) (t : Table) (remaining : ℕ) → AreLedgers (properties_in l heaps) heaps (finite.entries t.held)
+    → (i : ℕ) (heap : Heap) → i < length (properties_in l heaps).memory_heaps → heap ≡ get_or heaps i heap → IsHeap (state_in l heaps ss t remaining) i heap
+offered_heap_is l heaps ss t remaining ledgers i heap known at = heap_is l heaps ss t remaining ledgers i heap (omega (arith, known, length-map heaps offer_of)) at
+
 -- the heap of a memory type
-pub type_heap_is : {A : Type 0} (l : Limits A) (heaps : List Heap) (buddies : List Buddy) (lists : List FreeListState) (fits : List FitState) (t : Table) (remaining : ℕ) → IsBooked (properties_in l heaps) heaps t remaining
+pub type_heap_is : {A M X : Type 0} (l : Limits A) (heaps : List Heap) (ss : List (TypeStores M X)) (t : Table) (remaining : ℕ) → IsBooked (properties_in l heaps) heaps t remaining
     → (index i : ℕ) (heap : Heap) → index < length (properties_in l heaps).memory_types → i ≡ heap_at (properties_in l heaps) index → heap ≡ get_or heaps i heap
-    → IsHeap (state_in l heaps buddies lists fits t remaining) (heap_at (properties_in l heaps) index) heap
-type_heap_is l heaps buddies lists fits t remaining books index i heap known here at =
+    → IsHeap (state_in l heaps ss t remaining) (heap_at (properties_in l heaps) index) heap
+type_heap_is l heaps ss t remaining books index i heap known here at =
     let inside = heap_inside (properties_in l heaps) index books.usable known in
-    heap_is l heaps buddies lists fits t remaining books.ledgers (heap_at (properties_in l heaps) index) heap (omega (arith, inside, length-map heaps offer_of)) (at ∙ ap (λ n. get_or heaps n heap) here)
+    heap_is l heaps ss t remaining books.ledgers (heap_at (properties_in l heaps) index) heap (omega (arith, inside, length-map heaps offer_of)) (at ∙ ap (λ n. get_or heaps n heap) here)
 
 -- The properties and the state, as one heap's ledger changes.
 
 pub properties_kept : {A : Type 0} (l : Limits A) (heaps : List Heap) (i : ℕ) (h old : Heap) → old ≡ get_or heaps i old → h.size ≡ old.size → properties_in l (set heaps i h) ≡ properties_in l heaps
 properties_kept l heaps i h old at same = ap (λ (offers : List MemoryHeap). record (properties_in l heaps) { memory_heaps = offers }) (offers_kept heaps i h old at same)
 
-pub state_kept : {A : Type 0} (l : Limits A) (heaps : List Heap) (buddies : List Buddy) (lists : List FreeListState) (fits : List FitState) (i : ℕ) (h old : Heap) (t : Table) (remaining : ℕ) → old ≡ get_or heaps i old → h.size ≡ old.size → h.limit ≡ old.limit
-    → state_in l (set heaps i h) buddies lists fits t remaining ≡ state_in l heaps buddies lists fits t remaining
-state_kept l heaps buddies lists fits i h old t remaining at same limit = λ k.
+pub state_kept : {A M X : Type 0} (l : Limits A) (heaps : List Heap) (ss : List (TypeStores M X)) (i : ℕ) (h old : Heap) (t : Table) (remaining : ℕ) → old ≡ get_or heaps i old → h.size ≡ old.size → h.limit ≡ old.limit
+    → state_in l (set heaps i h) ss t remaining ≡ state_in l heaps ss t remaining
+state_kept l heaps ss i h old t remaining at same limit = λ k.
     let p = properties_kept l heaps i h old at same k in
-    record (state_in l heaps buddies lists fits t remaining) { heap_limits = limits_kept heaps i h old at limit k; types = fits_in (lists_in (types_in (first_types l.config p) buddies) lists) fits; properties = p }
+    record (state_in l heaps ss t remaining) { heap_limits = limits_kept heaps i h old at limit k; types = types_with type_sizes (first_types l.config p) ss; properties = p }
 
 -- with another limit of one heap, which is not over its size
 pub ledgers_limited : (p : Properties) (heaps : List Heap) (i limit : ℕ) (h old : Heap) (entries : Entries) → AreLedgers p heaps entries → i < length heaps → old ≡ get_or heaps i old → h ≡ record old { limit = min limit old.size }
@@ -125,20 +129,20 @@ ledgers_limited p heaps i limit h old entries are inside at limited =
     let is = ledger_is p heaps i old entries are inside at in
     ledgers_set p heaps i h entries entries are (subst (IsLedger p i entries) (sym limited) (record { used = is.used; within = is.within; limited = omega arith })) (λ q other. (refl, refl))
 
-state_limited : {A : Type 0} (l : Limits A) (heaps : List Heap) (buddies : List Buddy) (lists : List FreeListState) (fits : List FitState) (i : ℕ) (h old : Heap) (t : Table) (remaining : ℕ) → old ≡ get_or heaps i old → h.size ≡ old.size
-    → state_in l (set heaps i h) buddies lists fits t remaining ≡ record (state_in l heaps buddies lists fits t remaining) { heap_limits = set (map limit_of heaps) i h.limit }
-state_limited l heaps buddies lists fits i h old t remaining at same = λ k.
+state_limited : {A M X : Type 0} (l : Limits A) (heaps : List Heap) (ss : List (TypeStores M X)) (i : ℕ) (h old : Heap) (t : Table) (remaining : ℕ) → old ≡ get_or heaps i old → h.size ≡ old.size
+    → state_in l (set heaps i h) ss t remaining ≡ record (state_in l heaps ss t remaining) { heap_limits = set (map limit_of heaps) i h.limit }
+state_limited l heaps ss i h old t remaining at same = λ k.
     let p = properties_kept l heaps i h old at same k in
-    record (state_in l heaps buddies lists fits t remaining) { heap_limits = map-set limit_of heaps i h k; types = fits_in (lists_in (types_in (first_types l.config p) buddies) lists) fits; properties = p }
+    record (state_in l heaps ss t remaining) { heap_limits = map-set limit_of heaps i h k; types = types_with type_sizes (first_types l.config p) ss; properties = p }
 
-pub limit_is_set : {A : Type 0} (l : Limits A) (heaps : List Heap) (buddies : List Buddy) (lists : List FreeListState) (fits : List FitState) (t : Table) (remaining : ℕ) → AreLedgers (properties_in l heaps) heaps (finite.entries t.held)
+pub limit_is_set : {A M X : Type 0} (l : Limits A) (heaps : List Heap) (ss : List (TypeStores M X)) (t : Table) (remaining : ℕ) → AreLedgers (properties_in l heaps) heaps (finite.entries t.held)
     → (i limit : ℕ) (h old : Heap) → i < length heaps → old ≡ get_or heaps i old → h ≡ record old { limit = min limit old.size }
-    → state_in l (set heaps i h) buddies lists fits t remaining ≡ with_heap_limit (state_in l heaps buddies lists fits t remaining) i limit
-limit_is_set l heaps buddies lists fits t remaining ledgers i limit h old inside at limited =
-    let of = heap_is l heaps buddies lists fits t remaining ledgers i old inside at in
+    → state_in l (set heaps i h) ss t remaining ≡ with_heap_limit (state_in l heaps ss t remaining) i limit
+limit_is_set l heaps ss t remaining ledgers i limit h old inside at limited =
+    let of = heap_is l heaps ss t remaining ledgers i old inside at in
     let least : h.limit ≡ min limit (heap_bytes (properties_in l heaps) i) = ap (λ (x : Heap). x.limit) limited ∙ ap (min limit) of.size in
-    state_limited l heaps buddies lists fits i h old t remaining at (ap (λ (x : Heap). x.size) limited)
-    ∙ (λ k. record (state_in l heaps buddies lists fits t remaining) { heap_limits = set (map limit_of heaps) i (least k) })
+    state_limited l heaps ss i h old t remaining at (ap (λ (x : Heap). x.size) limited)
+    ∙ (λ k. record (state_in l heaps ss t remaining) { heap_limits = set (map limit_of heaps) i (least k) })
 
 -- of heaps of which nothing is held all may be asked for
 pub unused-limits : (hs : List MemoryHeap) → map limit_of (map (λ h. unused h.size) hs) ≡ map size_of_heap hs

@@ -7,7 +7,7 @@ use Rattle.std.proofs.lemmas.List.Elements.{Contains-append_cases}
 use Rattle.std.proofs.lemmas.Nat.Bits.{bit_at-pow_other, bit_at-pow_same}
 use Rattle.std.specs.Option.{is_some}
 use Rattle.std.specs.Prelude.{MatchBool, IsNone, OnErr}
-use Rattle.gpu_alloc_types.specs.Device.{Event}
+use Rattle.gpu_alloc_types.specs.Device.{Asked, Chain, Event}
 use Rattle.gpu_alloc_types.specs.Flags.{usage_bits}
 use Rattle.gpu_alloc_base.specs.Accounts.{Account, account}
 use Rattle.gpu_alloc_base.specs.Case as case
@@ -261,6 +261,15 @@ module _ (s : State) (r : Request) (hint : Option Dedicated) (paged : Option Req
       let free : (is_required hint && (s.remaining == 0)) ≡ false = rw (not_required s r hint paged t has) refl in
       let some = some_there (candidates_of s (only r t)) t alone_there in
       one_serves (candidates_of s (only r t)) alone_within alone_there es answer new (MatchBool-at_false _ _ some (MatchBool-at_false _ _ free (MatchBool-at_false _ _ within h)))
+
+-- the call for that type alone, where it is the first with a place, decides the whole one, and asked the device for nothing
+pub taken : (s : State) (request : Request) (hint : Option Dedicated) (paged : Option Request) (t : ℕ) → is_too_large s request ≡ false → nat_eq (length (candidates_of s request)) 0 ≡ false → IsFirstWithPlace s (asked_of s request hint paged) (candidates_of s request) (Some t)
+    → {mask : ℕ} → mask ≡ 2 ^ t → {D : Type 0} {step : D → Event → D → Type 0} {old after : D} (answer : Result Block AllocationError) (new : State) → Asked step old after (λ es. AllocatesBy s (plan_with s (record request { memory_types = mask }) hint paged) es answer new)
+    → AllocatesHeld s (plan_with s request hint paged) (some_of answer) new × (after ≡ old)
+taken s request hint paged t within some first {mask} only_t {step = step} {old} {after} answer new told =
+    let is = first_is s (asked_of s request hint paged) (candidates_of s request) t first in
+    let serves = only_serves s request hint paged t is.0 is.1 told.0 answer new within (subst (λ m. AllocatesBy s (plan_with s (record request { memory_types = m }) hint paged) told.0 answer new) only_t told.2) in
+    (rw (within, some) (Some t, first, serves.1), subst (λ es. Chain step old es after) serves.0 told.1)
 
 -- The whole call.
 

@@ -1,10 +1,12 @@
 pub mod Agreed
 pub mod Agreeing
+pub mod Allocations
 pub mod Atoms
 pub mod BlocksAgreed
 pub mod Budgets
 pub mod Buddies
 pub mod Changes
+pub mod ChosenStores
 pub mod Cleanups
 pub mod Closing
 pub mod Consistency
@@ -50,4 +52,5 @@ pub mod WholeLists
 pub mod WholeOwned
 pub mod WholeParts
 pub mod WholeRows
+pub mod WholeStores
 pub mod Wholes

@@ -33,12 +33,12 @@ module _ (F : ℕ → ℕ → Type 0) (object : ℕ) (test : (x : ℕ) → F obj
   -- Runs.
 
   -- how far down from a byte all are free
-  record IsFirst (at first : ℕ) : Type 0 where
+  record IsFirstStore (at first : ℕ) : Type 0 where
     le : first ≤ at
     free : (x : ℕ) → first ≤ x → x ≤ at → F object x
     stops : (x : ℕ) → x + 1 ≡ first → F object x → ⊥
 
-  first_of : (at : ℕ) → F object at → (first : ℕ) × IsFirst at first
+  first_of : (at : ℕ) → F object at → (first : ℕ) × IsFirstStore at first
   first_of zero free = (0, record { le = omega arith; free = λ x low high. let e : 0 ≡ x = omega arith in subst (F object) e free; stops = λ x e. absurd (omega (arith, e)) })
   first_of (suc k) free = elim (test k) [
     | inl more ↦ let below = first_of k more in (

@@ -1,7 +1,7 @@
 -- An allocator at first.
-use Rattle.std.proofs.Common.{◌≡◌, ℕ, zero, suc, ◌*◌, ◌^◌, ◌<◌, ◌≤◌, List, [], ◌∷◌, ◌++◌, length, map, Option, Some, None, IfSome, option_map, refl, sym, ◌∙◌, ap, subst, arith}
+use Rattle.std.proofs.Common.{◌≡◌, ℕ, zero, suc, ◌*◌, ◌^◌, ◌<◌, ◌≤◌, List, [], ◌∷◌, ◌++◌, length, get_or, map, Option, Some, None, IfSome, option_map, refl, sym, ◌∙◌, ap, subst, arith}
 use Rattle.std.proofs.lemmas.List.{length-map}
-use Rattle.std.proofs.lemmas.Option.{slice_get-map}
+use Rattle.std.proofs.lemmas.Option.{slice_get-get_or, slice_get-map}
 use Rattle.std.specs.FinMap as finite
 use Rattle.std.specs.FinSet as set_of
 use Rattle.std.specs.List.{slice_get, sum_by}
@@ -22,14 +22,24 @@ use Rattle.gpu_alloc_fit.specs.Fit.{FitState}
 use Rattle.gpu_alloc_fit.specs.FitSound.{IsSoundFit}
 use Rattle.gpu_alloc_base.specs.FreeSpace.{IsMultipleOf}
 use Rattle.gpu_alloc_base.specs.Heap.{unused}
+use Rattle.gpu_alloc_base.proofs.Leaves.{leaf_exact, leaf_total}
+use Rattle.gpu_alloc_base.proofs.Slots.{slot_exact, slot_total}
+use Rattle.gpu_alloc_buddy.specs.BuddyRule.{buddy_rule}
+use Rattle.gpu_alloc_fit.specs.FitRule.{fit_rule}
+use Rattle.gpu_alloc_freelist.specs.FreeListRule.{list_rule}
+use Rattle.gpu_alloc_block.specs.declared.block.Kind.TheVariants.{BuddyChunk, FitChunk, FreeListChunk}
 use Rattle.gpu_alloc_base.proofs.ChunkSizes.{cut_whole, starting_fits}
 use Rattle.gpu_alloc_base.proofs.Multiples.{multiple_min, multiple_times}
 use Rattle.gpu_alloc.specs.FitSharing.{IsFitChunkSize, grain, largest_fit}
-use Rattle.gpu_alloc.specs.Inside.{IsBooked, IsBuddyFor, IsFitFor, IsKnown, IsLedger, IsListFor, IsLiveIn, AreSmall, types_in, lists_in, fits_in}
+use Rattle.gpu_alloc.specs.Inside.{IsBooked, IsKnown, IsLedger, IsLiveIn, AreSmall, types_with}
+use Rattle.gpu_alloc.specs.StoresFor.{IsBuddyFor, IsFitFor, IsFitForType, IsForType, IsListFor, IsListForType}
 use Rattle.gpu_alloc.specs.Own.{OwnTable}
 use Rattle.gpu_alloc.specs.Whole.{whole, IsKept}
-use Rattle.gpu_alloc.proofs.Wholes.{apart_unused, nothing_held, nothing_live}
-use Rattle.gpu_alloc.specs.Opening.{first_buddy, AreFirstBuddies, first_listing, AreFirstFreeLists, first_fitting, AreFirstFits}
+use Rattle.gpu_alloc.specs.Stores.{IsChosenFor, AreStoresFor, chosen_part, chosen_sizes, list_part, type_sizes}
+use Rattle.gpu_alloc.specs.declared.allocator.stores.Chosen.{Chosen}
+use Rattle.gpu_alloc.specs.declared.allocator.stores.Chosen.TheVariants.{Buddy as InBuddies, Fit as InFits}
+use Rattle.gpu_alloc.proofs.Wholes.{HoldsNone, apart_unused, no_part, nothing_held, nothing_live, there_at}
+use Rattle.gpu_alloc.specs.Opening.{AreFirst, IsFirstStore, first_buddy, first_fitting, first_listing}
 use Rattle.gpu_alloc_base.specs.Sizes.{minimal_size, initial_size, starting_size, final_size}
 use Rattle.gpu_alloc.specs.FirstTypes.{first_type_state, first_types}
 use Rattle.gpu_alloc.specs.Spans.{Table}
@@ -40,33 +50,36 @@ use Rattle.gpu_alloc_base.specs.declared.config.Config.{Config}
 use Rattle.gpu_alloc_base.specs.declared.heap.Heap.{Heap}
 use Rattle.gpu_alloc_block.specs.declared.sharing.Sharing.{Sharing}
 use Rattle.gpu_alloc.proofs.Ledgers.{Entries, Held}
+use Rattle.gpu_alloc.specs.declared.allocator.stores.TypeStores.{TypeStores}
 
 -- A memory type's first buddy allocator, its first free list and its first allocator of fit chunks.
 
--- by what the device offers
-pub first_buddy_is : (c : Config) (p : Properties) (t atom : ℕ) (own : MemoryType) (heap : MemoryHeap) → slice_get p.memory_types t ≡ Some own → slice_get p.memory_heaps own.heap ≡ Some heap
-    → atom ≡ atom_for p (property_bits own.props) → buddy.opened (minimal_size c heap.size) (initial_size c heap.size) t (property_bits own.props) atom ≡ first_buddy c p t
-first_buddy_is c p t atom own heap found in_heap is =
-    let size : heap.size ≡ heap_size p t = sym (ap (λ o. size_of (slice_get p.memory_heaps (heap_of o))) found ∙ ap size_of in_heap) in
-    let props : property_bits own.props ≡ props_at p t = sym (ap bits_of found) in
-    let whole : atom ≡ atom_of p t = is ∙ ap (atom_for p) props in
-    λ k. buddy.opened (minimal_size c (size k)) (initial_size c (size k)) t (props k) (whole k)
+-- what the device offers it
+pub record IsOffered (p : Properties) (t atom : ℕ) (own : MemoryType) (heap : MemoryHeap) : Type 0 where
+  pub size : heap.size ≡ heap_size p t
+  pub props : property_bits own.props ≡ props_at p t
+  pub atom_is : atom ≡ atom_of p t
 
-pub first_listing_is : (c : Config) (p : Properties) (t atom : ℕ) (own : MemoryType) (heap : MemoryHeap) → slice_get p.memory_types t ≡ Some own → slice_get p.memory_heaps own.heap ≡ Some heap
-    → atom ≡ atom_for p (property_bits own.props) → list.opened (starting_size c heap.size atom) (final_size c heap.size atom) t (property_bits own.props) atom ≡ first_listing c p t
-first_listing_is c p t atom own heap found in_heap is =
-    let size : heap.size ≡ heap_size p t = sym (ap (λ o. size_of (slice_get p.memory_heaps (heap_of o))) found ∙ ap size_of in_heap) in
-    let props : property_bits own.props ≡ props_at p t = sym (ap bits_of found) in
-    let whole : atom ≡ atom_of p t = is ∙ ap (atom_for p) props in
-    λ k. list.opened (starting_size c (size k) (whole k)) (final_size c (size k) (whole k)) t (props k) (whole k)
+pub offered : (p : Properties) → IsUsable p → (t atom : ℕ) (d : MemoryType) (h : MemoryHeap) → t < length p.memory_types → atom ≡ atom_for p (property_bits (get_or p.memory_types t d).props)
+    → IsOffered p t atom (get_or p.memory_types t d) (get_or p.memory_heaps (get_or p.memory_types t d).heap h)
+offered p usable t atom d h known is =
+    let found = slice_get-get_or p.memory_types t d known in
+    let in_heap = slice_get-get_or p.memory_heaps (get_or p.memory_types t d).heap h (usable.heap_known t d known) in
+    let props : property_bits (get_or p.memory_types t d).props ≡ props_at p t = sym (ap bits_of found) in
+    record { size = sym (ap (λ o. size_of (slice_get p.memory_heaps (heap_of o))) found ∙ ap size_of in_heap); props = props; atom_is = is ∙ ap (atom_for p) props }
 
-pub first_fitting_is : (c : Config) (p : Properties) (t atom g : ℕ) (own : MemoryType) (heap : MemoryHeap) → slice_get p.memory_types t ≡ Some own → slice_get p.memory_heaps own.heap ≡ Some heap
-    → atom ≡ atom_for p (property_bits own.props) → g ≡ grain atom → fit.opened (starting_size c heap.size g) (largest_fit c heap.size g) t (property_bits own.props) g ≡ first_fitting c p t
-first_fitting_is c p t atom g own heap found in_heap is grain_is =
-    let size : heap.size ≡ heap_size p t = sym (ap (λ o. size_of (slice_get p.memory_heaps (heap_of o))) found ∙ ap size_of in_heap) in
-    let props : property_bits own.props ≡ props_at p t = sym (ap bits_of found) in
-    let whole : g ≡ grain (atom_of p t) = grain_is ∙ ap grain (is ∙ ap (atom_for p) props) in
-    λ k. fit.opened (starting_size c (size k) (whole k)) (largest_fit c (size k) (whole k)) t (props k) (whole k)
+-- and so what each is at first
+module _ (c : Config) (p : Properties) (t atom : ℕ) {own : MemoryType} {heap : MemoryHeap} (of : IsOffered p t atom own heap) where
+  pub first_buddy_is : buddy.opened (minimal_size c heap.size) (initial_size c heap.size) t (property_bits own.props) atom ≡ first_buddy c p t
+  first_buddy_is = λ k. buddy.opened (minimal_size c (of.size k)) (initial_size c (of.size k)) t (of.props k) (of.atom_is k)
+
+  pub first_listing_is : list.opened (starting_size c heap.size atom) (final_size c heap.size atom) t (property_bits own.props) atom ≡ first_listing c p t
+  first_listing_is = λ k. list.opened (starting_size c (of.size k) (of.atom_is k)) (final_size c (of.size k) (of.atom_is k)) t (of.props k) (of.atom_is k)
+
+  pub first_fitting_is : (g : ℕ) → g ≡ grain atom → fit.opened (starting_size c heap.size g) (largest_fit c heap.size g) t (property_bits own.props) g ≡ first_fitting c p t
+  first_fitting_is g is =
+      let whole : g ≡ grain (atom_of p t) = is ∙ ap grain of.atom_is in
+      λ k. fit.opened (starting_size c (of.size k) (whole k)) (largest_fit c (of.size k) (whole k)) t (of.props k) (whole k)
 
 -- Sizes of fit chunks.
 
@@ -92,105 +105,68 @@ each_more P [] x each is (suc i) = tt
 each_more P (y ∷ xs) x each is zero = each zero
 each_more P (y ∷ xs) x each is (suc i) = each_more (λ j. P (suc j)) xs x (λ j. each (suc j)) is i
 
-pub one_first_more : (c : Config) (p : Properties) (buddies : List Buddy) (t : ℕ) (b : Buddy) → AreFirstBuddies c p buddies → length buddies ≡ t → b ≡ first_buddy c p t → IsSoundBuddy b → AreFirstBuddies c p (buddies ++ b ∷ [])
-one_first_more c p buddies t b are count is sound = each_more (λ i x. (x ≡ first_buddy c p i) × IsSoundBuddy x) buddies b are (is ∙ ap (first_buddy c p) (sym count), sound)
+-- Stores at first.
 
-pub one_first_list_more : (c : Config) (p : Properties) (lists : List FreeListState) (t : ℕ) (l : FreeListState) → AreFirstFreeLists c p lists → length lists ≡ t → l ≡ first_listing c p t → IsSoundFreeList l → AreFirstFreeLists c p (lists ++ l ∷ [])
-one_first_list_more c p lists t l are count is sound = each_more (λ i x. (x ≡ first_listing c p i) × IsSoundFreeList x) lists l are (is ∙ ap (first_listing c p) (sym count), sound)
+-- what a memory type's heap and properties say of it
+module _ (p : Properties) (i : ℕ) (own : MemoryType) (found : slice_get p.memory_types i ≡ Some own) where
+  pub size_found : heap_size p i ≡ size_of (slice_get p.memory_heaps own.heap)
+  size_found = ap (λ o. size_of (slice_get p.memory_heaps (heap_of o))) found
 
-pub one_first_fit_more : (c : Config) (p : Properties) (fits : List FitState) (t : ℕ) (f : FitState) → AreFirstFits c p fits → length fits ≡ t → f ≡ first_fitting c p t → IsSoundFit f → AreFirstFits c p (fits ++ f ∷ [])
-one_first_fit_more c p fits t f are count is sound = each_more (λ i x. (x ≡ first_fitting c p i) × IsSoundFit x) fits f are (is ∙ ap (first_fitting c p) (sym count), sound)
+  pub atom_found : atom_of p i ≡ atom_for p (property_bits own.props)
+  atom_found = ap (λ o. atom_for p (bits_of o)) found
 
--- none has a chunk or a block
+module _ {M X : Type 0} (sharing : Sharing) (c : Config) (p : Properties) where
+  -- a memory type's
+  abbrev IsFirstEach : ℕ → TypeStores M X → Type 0
+  IsFirstEach t e = IsFirstStore sharing c p t e.chosen × ((e.free_list ≡ first_listing c p t) × IsSoundFreeList e.free_list)
 
-there_at : {X : Type 0} (xs : List X) (j : ℕ) (x : X) → IsAt xs j x → slice_get xs j ≡ Some x
-there_at [] j x here = absurd here
-there_at (y ∷ ys) zero x here = ap Some here
-there_at (y ∷ ys) (suc j) x here = there_at ys j x here
+  pub one_first_more : (ss : List (TypeStores M X)) (t : ℕ) (e : TypeStores M X) → AreFirst sharing c p ss → length ss ≡ t → IsFirstStore sharing c p t e.chosen → e.free_list ≡ first_listing c p t → IsSoundFreeList e.free_list → AreFirst sharing c p (ss ++ e ∷ [])
+  one_first_more ss t e are count first is sound = each_more IsFirstEach ss e are (subst (λ i. IsFirstEach i e) (sym count) (first, (is, sound)))
 
-pub buddies_unused : (c : Config) (p : Properties) (buddies : List Buddy) → AreFirstBuddies c p buddies → (i : ℕ) (b : Buddy) → IsAt buddies i b → (b.chunks ≡ finite.empty) × (b.live ≡ set_of.empty)
-buddies_unused c p buddies are i b at =
-    let is = (subst (λ (o : Option Buddy). IfSome o (λ x. (x ≡ first_buddy c p i) × IsSoundBuddy x)) (there_at buddies i b at) (are i)).0 in
-    (ap (λ (x : Buddy). x.chunks) is, ap (λ (x : Buddy). x.live) is)
+  -- none has a chunk or a block
 
-pub lists_unused : (c : Config) (p : Properties) (lists : List FreeListState) → AreFirstFreeLists c p lists → (i : ℕ) (l : FreeListState) → IsAt lists i l → (l.space.chunks ≡ finite.empty) × (l.space.live ≡ set_of.empty)
-lists_unused c p lists are i l at =
-    let is = (subst (λ (o : Option FreeListState). IfSome o (λ x. (x ≡ first_listing c p i) × IsSoundFreeList x)) (there_at lists i l at) (are i)).0 in
-    (ap (λ (x : FreeListState). x.space.chunks) is, ap (λ (x : FreeListState). x.space.live) is)
+  chosen_unused : (t : ℕ) (x : Chosen M X) → IsFirstStore sharing c p t x → HoldsNone (chosen_part x)
+  chosen_unused t (InBuddies b) is = no_part buddy_rule leaf_total leaf_exact (λ key. BuddyChunk) b (ap (λ (x : Buddy). x.chunks) is.1.0) (ap (λ (x : Buddy). x.live) is.1.0)
+  chosen_unused t (InFits f) is = no_part fit_rule slot_total slot_exact (λ key. FitChunk) f (ap (λ (x : FitState). x.space.chunks) is.1.0) (ap (λ (x : FitState). x.space.live) is.1.0)
 
-pub fits_unused : (c : Config) (p : Properties) (fits : List FitState) → AreFirstFits c p fits → (i : ℕ) (f : FitState) → IsAt fits i f → (f.space.chunks ≡ finite.empty) × (f.space.live ≡ set_of.empty)
-fits_unused c p fits are i f at =
-    let is = (subst (λ (o : Option FitState). IfSome o (λ x. (x ≡ first_fitting c p i) × IsSoundFit x)) (there_at fits i f at) (are i)).0 in
-    (ap (λ (x : FitState). x.space.chunks) is, ap (λ (x : FitState). x.space.live) is)
+  pub first_unused : (ss : List (TypeStores M X)) → AreFirst sharing c p ss → (i : ℕ) (e : TypeStores M X) → IsAt ss i e → HoldsNone (chosen_part e.chosen) × HoldsNone (list_part e.free_list)
+  first_unused ss are i e at =
+      let is = subst (λ (o : Option (TypeStores M X)). IfSome o (IsFirstEach i)) (there_at ss i e at) (are i) in
+      (chosen_unused i e.chosen is.0, no_part list_rule slot_total slot_exact FreeListChunk e.free_list (ap (λ (x : FreeListState). x.space.chunks) is.1.0) (ap (λ (x : FreeListState). x.space.live) is.1.0))
 
--- the chunk sizes are the first ones
-types_kept : (types : List TypeState) (buddies : List Buddy) → length types ≤ length buddies → ((i : ℕ) → IfSome (slice_get types i) (λ t. IfSome (slice_get buddies i) (λ b. b.next_chunk ≡ t.next_chunk))) → types_in types buddies ≡ types
-types_kept [] buddies le same = refl
-types_kept (t ∷ types) [] le same = absurd (omega arith)
-types_kept (t ∷ types) (b ∷ buddies) le same = λ k. record t { next_chunk = same zero k } ∷ types_kept types buddies (omega arith) (λ i. same (suc i)) k
+  -- the chunk sizes and the numbers are the first ones
 
-pub first_types_kept : (c : Config) (p : Properties) (buddies : List Buddy) → length buddies ≡ length p.memory_types → AreFirstBuddies c p buddies → types_in (first_types c p) buddies ≡ first_types c p
-first_types_kept c p buddies count are =
-    types_kept (first_types c p) buddies (omega (arith, count, length-map p.memory_types (first_type_state c p)))
-    (λ i. subst (λ o. IfSome o (λ t. IfSome (slice_get buddies i) (λ b. b.next_chunk ≡ t.next_chunk))) (sym (slice_get-map (first_type_state c p) p.memory_types i)) (of_type i (slice_get p.memory_types i) refl))
-  where
-    next : (i : ℕ) (own : MemoryType) → slice_get p.memory_types i ≡ Some own → (o : Option Buddy) → IfSome o (λ b. (b ≡ first_buddy c p i) × IsSoundBuddy b) → IfSome o (λ b. b.next_chunk ≡ (first_type_state c p own).next_chunk)
-    next i own found None is = tt
-    next i own found (Some b) is =
-        let size : heap_size p i ≡ size_of (slice_get p.memory_heaps own.heap) = ap (λ o. size_of (slice_get p.memory_heaps (heap_of o))) found in
-        ap (λ (x : Buddy). x.next_chunk) is.0 ∙ ap (λ n. max (initial_size c n) (minimal_size c n)) size
+  types_kept : (types : List TypeState) (ss : List (TypeStores M X)) → length types ≤ length ss → ((i : ℕ) → IfSome (slice_get types i) (λ t. IfSome (slice_get ss i) (λ e. type_sizes e t ≡ t))) → types_with type_sizes types ss ≡ types
+  types_kept [] ss le same = refl
+  types_kept (t ∷ types) [] le same = absurd (omega arith)
+  types_kept (t ∷ types) (e ∷ ss) le same = λ k. same zero k ∷ types_kept types ss (omega arith) (λ i. same (suc i)) k
 
-    of_type : (i : ℕ) (o : Option MemoryType) → slice_get p.memory_types i ≡ o → IfSome (option_map (first_type_state c p) o) (λ t. IfSome (slice_get buddies i) (λ b. b.next_chunk ≡ t.next_chunk))
-    of_type i None found = tt
-    of_type i (Some own) found = next i own found (slice_get buddies i) (are i)
+  module _ (i : ℕ) (own : MemoryType) (found : slice_get p.memory_types i ≡ Some own) where
+    chosen_kept : (x : Chosen M X) → IsFirstStore sharing c p i x → chosen_sizes x (first_type_state c p own) ≡ first_type_state c p own
+    chosen_kept (InBuddies b) is =
+        let next = ap (λ (x : Buddy). x.next_chunk) is.1.0 ∙ ap (λ n. max (initial_size c n) (minimal_size c n)) (size_found p i own found) in
+        λ k. record (first_type_state c p own) { next_chunk = next k }
+    chosen_kept (InFits f) is =
+        let next = ap (λ (x : FitState). x.next_chunk) is.1.0 ∙ (λ k. starting_size c (size_found p i own found k) (grain (atom_found p i own found k))) in
+        λ k. record (first_type_state c p own) { fit_chunk = next k }
 
--- and the first numbers
-lists_kept : (types : List TypeState) (lists : List FreeListState) → length types ≤ length lists
-    → ((i : ℕ) → IfSome (slice_get types i) (λ t. IfSome (slice_get lists i) (λ l. (l.next_chunk ≡ t.list_chunk) × (l.space.latest ≡ t.number)))) → lists_in types lists ≡ types
-lists_kept [] lists le same = refl
-lists_kept (t ∷ types) [] le same = absurd (omega arith)
-lists_kept (t ∷ types) (l ∷ lists) le same = λ k. record t { list_chunk = (same zero).0 k; number = (same zero).1 k } ∷ lists_kept types lists (omega arith) (λ i. same (suc i)) k
+    type_kept : (o : Option (TypeStores M X)) → IfSome o (IsFirstEach i) → IfSome o (λ e. type_sizes e (first_type_state c p own) ≡ first_type_state c p own)
+    type_kept None is = tt
+    type_kept (Some e) is =
+        let next = ap (λ (x : FreeListState). x.next_chunk) is.1.0 ∙ (λ k. starting_size c (size_found p i own found k) (atom_found p i own found k)) in
+        let latest = ap (λ (x : FreeListState). x.space.latest) is.1.0 in
+        (λ k. chosen_sizes e.chosen (record (first_type_state c p own) { list_chunk = next k; number = latest k })) ∙ chosen_kept e.chosen is.0
 
-pub first_lists_kept : (c : Config) (p : Properties) (lists : List FreeListState) → length lists ≡ length p.memory_types → AreFirstFreeLists c p lists → lists_in (first_types c p) lists ≡ first_types c p
-first_lists_kept c p lists count are =
-    lists_kept (first_types c p) lists (omega (arith, count, length-map p.memory_types (first_type_state c p)))
-    (λ i. subst (λ o. IfSome o (λ t. IfSome (slice_get lists i) (λ l. (l.next_chunk ≡ t.list_chunk) × (l.space.latest ≡ t.number)))) (sym (slice_get-map (first_type_state c p) p.memory_types i)) (of_type i (slice_get p.memory_types i) refl))
-  where
-    first : (i : ℕ) (own : MemoryType) → slice_get p.memory_types i ≡ Some own → (o : Option FreeListState) → IfSome o (λ l. (l ≡ first_listing c p i) × IsSoundFreeList l)
-        → IfSome o (λ l. (l.next_chunk ≡ (first_type_state c p own).list_chunk) × (l.space.latest ≡ (first_type_state c p own).number))
-    first i own found None is = tt
-    first i own found (Some l) is =
-        let size : heap_size p i ≡ size_of (slice_get p.memory_heaps own.heap) = ap (λ o. size_of (slice_get p.memory_heaps (heap_of o))) found in
-        let atom : atom_of p i ≡ atom_for p (property_bits own.props) = ap (λ o. atom_for p (bits_of o)) found in
-        (ap (λ (x : FreeListState). x.next_chunk) is.0 ∙ (λ k. starting_size c (size k) (atom k)), ap (λ (x : FreeListState). x.space.latest) is.0)
+  pub first_types_kept : (ss : List (TypeStores M X)) → length ss ≡ length p.memory_types → AreFirst sharing c p ss → types_with type_sizes (first_types c p) ss ≡ first_types c p
+  first_types_kept ss count are =
+      types_kept (first_types c p) ss (omega (arith, count, length-map p.memory_types (first_type_state c p)))
+      (λ i. subst (λ o. IfSome o (λ t. IfSome (slice_get ss i) (λ e. type_sizes e t ≡ t))) (sym (slice_get-map (first_type_state c p) p.memory_types i)) (of_type i (slice_get p.memory_types i) refl))
+    where
+      of_type : (i : ℕ) (o : Option MemoryType) → slice_get p.memory_types i ≡ o → IfSome (option_map (first_type_state c p) o) (λ t. IfSome (slice_get ss i) (λ e. type_sizes e t ≡ t))
+      of_type i None found = tt
+      of_type i (Some own) found = type_kept i own found (slice_get ss i) (are i)
 
-    of_type : (i : ℕ) (o : Option MemoryType) → slice_get p.memory_types i ≡ o → IfSome (option_map (first_type_state c p) o) (λ t. IfSome (slice_get lists i) (λ l. (l.next_chunk ≡ t.list_chunk) × (l.space.latest ≡ t.number)))
-    of_type i None found = tt
-    of_type i (Some own) found = first i own found (slice_get lists i) (are i)
-
--- and the first fit chunks' sizes
-fits_kept : (types : List TypeState) (fits : List FitState) → length types ≤ length fits → ((i : ℕ) → IfSome (slice_get types i) (λ t. IfSome (slice_get fits i) (λ f. f.next_chunk ≡ t.fit_chunk))) → fits_in types fits ≡ types
-fits_kept [] fits le same = refl
-fits_kept (t ∷ types) [] le same = absurd (omega arith)
-fits_kept (t ∷ types) (f ∷ fits) le same = λ k. record t { fit_chunk = same zero k } ∷ fits_kept types fits (omega arith) (λ i. same (suc i)) k
-
-pub first_fits_kept : (c : Config) (p : Properties) (fits : List FitState) → length fits ≡ length p.memory_types → AreFirstFits c p fits → fits_in (first_types c p) fits ≡ first_types c p
-first_fits_kept c p fits count are =
-    fits_kept (first_types c p) fits (omega (arith, count, length-map p.memory_types (first_type_state c p)))
-    (λ i. subst (λ o. IfSome o (λ t. IfSome (slice_get fits i) (λ f. f.next_chunk ≡ t.fit_chunk))) (sym (slice_get-map (first_type_state c p) p.memory_types i)) (of_type i (slice_get p.memory_types i) refl))
-  where
-    first : (i : ℕ) (own : MemoryType) → slice_get p.memory_types i ≡ Some own → (o : Option FitState) → IfSome o (λ f. (f ≡ first_fitting c p i) × IsSoundFit f) → IfSome o (λ f. f.next_chunk ≡ (first_type_state c p own).fit_chunk)
-    first i own found None is = tt
-    first i own found (Some f) is =
-        let size : heap_size p i ≡ size_of (slice_get p.memory_heaps own.heap) = ap (λ o. size_of (slice_get p.memory_heaps (heap_of o))) found in
-        let atom : atom_of p i ≡ atom_for p (property_bits own.props) = ap (λ o. atom_for p (bits_of o)) found in
-        ap (λ (x : FitState). x.next_chunk) is.0 ∙ (λ k. starting_size c (size k) (grain (atom k)))
-
-    of_type : (i : ℕ) (o : Option MemoryType) → slice_get p.memory_types i ≡ o → IfSome (option_map (first_type_state c p) o) (λ t. IfSome (slice_get fits i) (λ f. f.next_chunk ≡ t.fit_chunk))
-    of_type i None found = tt
-    of_type i (Some own) found = first i own found (slice_get fits i) (are i)
-
--- The table, the heaps, the buddy allocators, the free lists and the allocators of fit chunks, with nothing held.
+-- The table, the heaps and the stores, with nothing held.
 
 -- nothing is counted
 nothing : {X : Type 0} (f : X → ℕ) (xs : List X) → length xs ≡ 0 → sum_by f xs ≡ 0
@@ -233,35 +209,14 @@ module _ (t : Table) (unheld : t.held ≡ finite.empty) (unused_spans : t.live �
 -- a memory type's first ones are for it
 
 buddy_for : (c : Config) (p : Properties) (i : ℕ) (b : Buddy) → b ≡ first_buddy c p i → IsSoundBuddy b → IsBuddyFor c p i b
-buddy_for c p i b is sound = record {
-  for_type = record {
-    memory_type = ap (λ (x : Buddy). x.memory_type) is;
-    props = ap (λ (x : Buddy). x.props) is;
-    atom = ap (λ (x : Buddy). x.atom) is;
-    minimal = ap (λ (x : Buddy). x.minimal) is;
-  };
-  sound = sound;
-}
+buddy_for c p i b is sound = record { for_type = subst (IsForType c p i) (sym is) (record { memory_type = refl; props = refl; atom = refl; minimal = refl }); sound = sound }
 
 list_for : (c : Config) (p : Properties) (i : ℕ) (l : FreeListState) → l ≡ first_listing c p i → IsSoundFreeList l → IsListFor c p i l
-list_for c p i l is sound = record {
-  for_type = record {
-    memory_type = ap (λ (x : FreeListState). x.memory_type) is;
-    props = ap (λ (x : FreeListState). x.props) is;
-    atom = ap (λ (x : FreeListState). x.atom) is;
-    final_chunk = ap (λ (x : FreeListState). x.final_chunk) is;
-  };
-  sound = sound;
-}
+list_for c p i l is sound = record { for_type = subst (IsListForType c p i) (sym is) (record { memory_type = refl; props = refl; atom = refl; final_chunk = refl }); sound = sound }
 
 fit_for : (c : Config) (p : Properties) (i : ℕ) (f : FitState) → f ≡ first_fitting c p i → IsSoundFit f → IsFitFor c p i f
 fit_for c p i f is sound = record {
-  for_type = record {
-    memory_type = ap (λ (x : FitState). x.memory_type) is;
-    props = ap (λ (x : FitState). x.props) is;
-    atom = ap (λ (x : FitState). x.atom) is;
-    final_chunk = ap (λ (x : FitState). x.final_chunk) is;
-  };
+  for_type = subst (IsFitForType c p i) (sym is) (record { memory_type = refl; props = refl; atom = refl; final_chunk = refl });
   sized = record {
     next = subst (IsFitChunkSize c (heap_size p i) (grain (atom_of p i))) (sym (ap (λ (x : FitState). x.next_chunk) is)) (first_sized c (heap_size p i) (grain (atom_of p i)) (omega arith));
     chunks = λ key chunk held. absurd (
@@ -272,40 +227,23 @@ fit_for c p i f is sound = record {
   sound = sound;
 }
 
--- what each memory type has at first
-pub record AreFirst (c : Config) (p : Properties) (buddies : List Buddy) (lists : List FreeListState) (fits : List FitState) : Type 0 where
-  pub buddy_count : length buddies ≡ length p.memory_types
-  pub first_buddies : AreFirstBuddies c p buddies
-  pub list_count : length lists ≡ length p.memory_types
-  pub first_lists : AreFirstFreeLists c p lists
-  pub fit_count : length fits ≡ length p.memory_types
-  pub first_fits : AreFirstFits c p fits
-
-pub kept-opened : (sharing : Sharing) (c : Config) (p : Properties) (heaps : List Heap) (own : OwnTable) (buddies : List Buddy) (lists : List FreeListState) (fits : List FitState) (remaining : ℕ) → own.held ≡ finite.empty → own.live ≡ set_of.empty → IsUsable p → remaining < 2 ^ 32
-    → heaps ≡ map (λ h. unused h.size) p.memory_heaps → AreFirst c p buddies lists fits → IsKept sharing c p heaps buddies lists fits own remaining
-kept-opened sharing c p heaps own buddies lists fits remaining held live usable few unused_heaps are =
-    let no_buddy = buddies_unused c p buddies are.first_buddies in
-    let no_list = lists_unused c p lists are.first_lists in
-    let no_fit = fits_unused c p fits are.first_fits in
-    let none_held : (whole own buddies lists fits).held ≡ finite.empty = nothing_held own buddies lists fits held live no_buddy no_list no_fit in
-    let none_live : (whole own buddies lists fits).live ≡ set_of.empty = nothing_live own buddies lists fits held live no_buddy no_list no_fit in
+pub kept-opened : {M X : Type 0} (sharing : Sharing) (c : Config) (p : Properties) (heaps : List Heap) (own : OwnTable) (ss : List (TypeStores M X)) (remaining : ℕ) → own.held ≡ finite.empty → own.live ≡ set_of.empty → IsUsable p → remaining < 2 ^ 32
+    → heaps ≡ map (λ h. unused h.size) p.memory_heaps → length ss ≡ length p.memory_types → AreFirst sharing c p ss → IsKept sharing c p heaps ss own remaining
+kept-opened {M} {X} sharing c p heaps own ss remaining held live usable few unused_heaps count are =
+    let none = first_unused sharing c p ss are in
+    let none_held : (whole own ss).held ≡ finite.empty = nothing_held own ss held live none in
+    let none_live : (whole own ss).live ≡ set_of.empty = nothing_live own ss held live none in
     record {
-      books = booked-opened (whole own buddies lists fits) none_held none_live p heaps remaining usable few unused_heaps;
-      shared = record { count = are.buddy_count; each = λ i. each i (slice_get buddies i) (are.first_buddies i) };
-      listed = record { count = are.list_count; each = λ i. each_list i (slice_get lists i) (are.first_lists i) };
-      fitted = record { count = are.fit_count; each = λ i. each_fit i (slice_get fits i) (are.first_fits i) };
-      chosen = λ object h at. absurd (let none = no_object (whole own buddies lists fits) none_held none_live object in cc);
-      apart = apart_unused own buddies lists fits held live no_buddy no_list no_fit;
+      books = booked-opened (whole own ss) none_held none_live p heaps remaining usable few unused_heaps;
+      shared = record { count = count; each = λ i. each i (slice_get ss i) (are i) };
+      chosen = λ object h at. absurd (let none = no_object (whole own ss) none_held none_live object in cc);
+      apart = apart_unused own ss held live none;
     }
   where
-    each : (i : ℕ) (o : Option Buddy) → IfSome o (λ b. (b ≡ first_buddy c p i) × IsSoundBuddy b) → IfSome o (IsBuddyFor c p i)
+    chosen_for : (i : ℕ) (x : Chosen M X) → IsFirstStore sharing c p i x → IsChosenFor c p sharing i x
+    chosen_for i (InBuddies b) is = (is.0, buddy_for c p i b is.1.0 is.1.1)
+    chosen_for i (InFits f) is = (is.0, fit_for c p i f is.1.0 is.1.1)
+
+    each : (i : ℕ) (o : Option (TypeStores M X)) → IfSome o (IsFirstEach sharing c p i) → IfSome o (AreStoresFor c p sharing i)
     each i None is = tt
-    each i (Some b) is = buddy_for c p i b is.0 is.1
-
-    each_list : (i : ℕ) (o : Option FreeListState) → IfSome o (λ l. (l ≡ first_listing c p i) × IsSoundFreeList l) → IfSome o (IsListFor c p i)
-    each_list i None is = tt
-    each_list i (Some l) is = list_for c p i l is.0 is.1
-
-    each_fit : (i : ℕ) (o : Option FitState) → IfSome o (λ f. (f ≡ first_fitting c p i) × IsSoundFit f) → IfSome o (IsFitFor c p i)
-    each_fit i None is = tt
-    each_fit i (Some f) is = fit_for c p i f is.0 is.1
+    each i (Some e) is = record { chosen = chosen_for i e.chosen is.0; free_list = list_for c p i e.free_list is.1.0 is.1.1 }

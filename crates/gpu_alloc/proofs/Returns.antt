@@ -5,8 +5,6 @@ use Rattle.std.specs.FinMap as finite
 use Rattle.std.specs.FinSet as set_of
 use Rattle.gpu_alloc_block.specs.State.{State, HeldObject, Block, IsOwned, is_shared, span_of}
 use Rattle.gpu_alloc.specs.Spans.{Table}
-use Rattle.gpu_alloc_buddy.specs.BuddyState.{Buddy}
-use Rattle.gpu_alloc_freelist.specs.FreeListState.{FreeListState}
 use Rattle.gpu_alloc.specs.Inside.{state_in, properties_in, IsBooked}
 use Rattle.gpu_alloc.specs.Release.{ReleasedWith, without_span, without_all}
 use Rattle.gpu_alloc.specs.declared.limits.Limits.{Limits}
@@ -16,7 +14,7 @@ use Rattle.gpu_alloc_base.specs.declared.heap.Heap.{Heap}
 use Rattle.gpu_alloc.proofs.Consistency.{HoldsFewer, known_object}
 use Rattle.gpu_alloc.proofs.HeapLists.{state_kept}
 use Rattle.gpu_alloc_base.proofs.Maps.{one_value}
-use Rattle.gpu_alloc_fit.specs.Fit.{FitState}
+use Rattle.gpu_alloc.specs.declared.allocator.stores.TypeStores.{TypeStores}
 
 -- the state without a block and its object
 abbrev pub returned : State → Block → State
@@ -31,11 +29,11 @@ goes_with (FreeListChunk number) s object own = absurd (cc)
 goes_with FitChunk s object own = absurd (cc)
 
 -- The table gave back what it had of the block's object, and holds it no more.
-pub release : {A : Type 0} (l : Limits A) (heaps : List Heap) (buddies : List Buddy) (lists : List FreeListState) (fits : List FitState) (t now : Table) (remaining : ℕ) (b : Block) (name : ℕ) (h : HeldObject) (is : IsBooked (properties_in l heaps) heaps t remaining)
-    → IsOwned (state_in l heaps buddies lists fits t remaining) b → is_shared b.kind ≡ false → name ≡ b.object → finite.get t.held name ≡ Some h
+pub release : {A M X : Type 0} (l : Limits A) (heaps : List Heap) (ss : List (TypeStores M X)) (t now : Table) (remaining : ℕ) (b : Block) (name : ℕ) (h : HeldObject) (is : IsBooked (properties_in l heaps) heaps t remaining)
+    → IsOwned (state_in l heaps ss t remaining) b → is_shared b.kind ≡ false → name ≡ b.object → finite.get t.held name ≡ Some h
     → now.held ≡ finite.remove t.held name → now.live ≡ set_of.remove t.live (span_of b)
     → (is_shared h.kind ≡ false) × HoldsFewer (properties_in l heaps) heaps t remaining is refl now h (span_of b)
-release l heaps buddies lists fits t now remaining b name h is owned alone same_name found held live =
+release l heaps ss t now remaining b name h is owned alone same_name found held live =
     let there : finite.get t.held b.object ≡ Some h = ap (finite.get t.held) (sym same_name) ∙ found in
     let same : owned.held.0 ≡ h = one_value _ owned.held.0 h owned.held.1 there in
     let own : is_shared h.kind ≡ false = ap is_shared (ap (λ (x : HeldObject). x.kind) (sym same) ∙ owned.held.3) ∙ alone in
@@ -50,8 +48,8 @@ release l heaps buddies lists fits t now remaining b name h is owned alone same_
     )
 
 -- what the fields stand for then
-pub state_returned : {A : Type 0} (l : Limits A) (heaps : List Heap) (buddies : List Buddy) (lists : List FreeListState) (fits : List FitState) (i : ℕ) (h old : Heap) (t now : Table) (remaining : ℕ) (b : Block) → old ≡ get_or heaps i old → h.size ≡ old.size → h.limit ≡ old.limit
-    → now.held ≡ finite.remove t.held b.object → now.live ≡ set_of.remove t.live (span_of b) → state_in l (set heaps i h) buddies lists fits now (remaining + 1) ≡ returned (state_in l heaps buddies lists fits t remaining) b
-state_returned l heaps buddies lists fits i h old t now remaining b at same limit held live =
-    state_kept l heaps buddies lists fits i h old now (remaining + 1) at same limit
-    ∙ (λ k. record (state_in l heaps buddies lists fits t remaining) { held = held k; live = live k; remaining = remaining + 1 })
+pub state_returned : {A M X : Type 0} (l : Limits A) (heaps : List Heap) (ss : List (TypeStores M X)) (i : ℕ) (h old : Heap) (t now : Table) (remaining : ℕ) (b : Block) → old ≡ get_or heaps i old → h.size ≡ old.size → h.limit ≡ old.limit
+    → now.held ≡ finite.remove t.held b.object → now.live ≡ set_of.remove t.live (span_of b) → state_in l (set heaps i h) ss now (remaining + 1) ≡ returned (state_in l heaps ss t remaining) b
+state_returned l heaps ss i h old t now remaining b at same limit held live =
+    state_kept l heaps ss i h old now (remaining + 1) at same limit
+    ∙ (λ k. record (state_in l heaps ss t remaining) { held = held k; live = live k; remaining = remaining + 1 })

@@ -2,5 +2,7 @@
 pub mod Calls
 pub mod Free
 pub mod Owned
+pub mod Returned
 pub mod Stores
+pub mod Tries
 pub mod Types

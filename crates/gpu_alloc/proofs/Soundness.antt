@@ -1,5 +1,5 @@
 -- What the allocator's fields keep, as its state describes it.
-use Rattle.std.proofs.Common.{◌≡◌, ◌≢◌, ◌⊎◌, inl, inr, ℕ, zero, suc, ◌+◌, ◌<◌, ◌≤◌, true, false, List, [], ◌∷◌, length, get_or, Option, Some, None, IfSome, IsSome, slice_get, refl, sym, ◌∙◌, ap, subst, arith}
+use Rattle.std.proofs.Common.{◌≡◌, ◌≢◌, ◌⊎◌, inl, inr, ℕ, zero, suc, ◌+◌, ◌<◌, ◌≤◌, true, false, List, [], ◌∷◌, length, Option, option_map, Some, None, IfSome, IsSome, slice_get, refl, sym, ◌∙◌, ap, subst, arith}
 use Rattle.std.proofs.lemmas.Bool.{cases_eq, cases_lt, cases_Bool}
 use Rattle.std.proofs.lemmas.Nat.{pow_pos}
 use Rattle.std.specs.FinMap as map
@@ -13,11 +13,18 @@ use Rattle.gpu_alloc.specs.Atoms.{KeepsAtoms, IsNextFitChunk, IsNextListChunk}
 use Rattle.gpu_alloc.specs.FitSharing.{fit_chunk_of, grain, grain_of, next_fit_chunk, IsFitChunk, IsFitChunkSize, IsFitSize}
 use Rattle.gpu_alloc.specs.FreeListSharing.{IsListChunk, latest_number, list_chunk_of, next_list_chunk, number_of}
 use Rattle.gpu_alloc.specs.FirstTypes.{first_types, first_type_state}
-use Rattle.gpu_alloc.specs.Inside.{state_in, properties_in, span_of_leaf, span_of_slot, IsLiveIn, IsKnown, offer_of}
-use Rattle.gpu_alloc.proofs.Wholes.{read_is}
-use Rattle.gpu_alloc.proofs.Linked.{IsBuddyOf, IsFitOf, IsListOf, IsConsistent}
-use Rattle.gpu_alloc.specs.Sound.{IsSound, IsUnused, LiesIn, may_be_unused}
+use Rattle.gpu_alloc.specs.Inside.{state_in, types_with, properties_in, IsLiveIn, IsKnown, offer_of}
+use Rattle.gpu_alloc.specs.StoresFor.{span_of_leaf, span_of_slot}
+use Rattle.gpu_alloc.proofs.Wholes.{read_is, stands_at}
+use Rattle.gpu_alloc.proofs.Linked.{IsBuddyOf, IsChosenOf, IsConsistent, IsEachOf, IsFitOf, IsListOf}
+use Rattle.gpu_alloc.specs.Sound.{IsSound, IsUnused, LiesIn, is_chosen, may_be_unused}
 use Rattle.gpu_alloc.specs.Spans.{Table}
+use Rattle.gpu_alloc.specs.Stores.{chosen_sizes, type_sizes}
+use Rattle.gpu_alloc.specs.declared.allocator.stores.Chosen.{Chosen}
+use Rattle.gpu_alloc.specs.declared.allocator.stores.Chosen.TheVariants.{Buddy as InBuddies, Fit as InFits}
+use Rattle.gpu_alloc_base.specs.Sizes.{starting_size}
+use Rattle.gpu_alloc_block.specs.Parts.{IsAt}
+use Rattle.std.proofs.lemmas.Option.{slice_get-map}
 use Rattle.gpu_alloc_block.specs.State.{HeldObject, Span, State, TypeState, AreSpansApart, is_shared}
 use Rattle.gpu_alloc_block.specs.declared.block.Kind.TheVariants.{BuddyChunk, FreeListChunk, FitChunk}
 use Rattle.gpu_alloc_block.specs.declared.sharing.Sharing.{Sharing}
@@ -29,15 +36,19 @@ use Rattle.gpu_alloc.proofs.Consistency.{chunk_kinds}
 use Rattle.gpu_alloc.proofs.HeapLists.{heap_is}
 use Rattle.std.proofs.lemmas.List.{length-map}
 use Rattle.gpu_alloc.proofs.Buddies.Named.{buddy_named}
-use Rattle.gpu_alloc.proofs.Fits.Named.{fit_is_named, fit_named}
+use Rattle.gpu_alloc.proofs.Fits.Named.{fit_in, fit_is_named, fit_named}
 use Rattle.gpu_alloc.proofs.FreeLists.Named.{list_is_named, slot_there, under_number}
-use Rattle.gpu_alloc.proofs.Shared.Calls.{sizes_read, types_there}
-use Rattle.gpu_alloc.proofs.Shared.Stores.{IsHeldAs, Stores, types_from}
+use Rattle.gpu_alloc.proofs.Shared.Calls.{sizes_read}
+use Rattle.gpu_alloc.proofs.Shared.Stores.{IsHeldAs}
+use Rattle.gpu_alloc.proofs.Shared.Types.{types_within}
+use Rattle.gpu_alloc.proofs.Fits.Small.{cut_some, largest_bound}
+use Rattle.gpu_alloc.proofs.Opened.{atom_found, first_sized, size_found, starting_within}
 use Rattle.gpu_alloc.proofs.Atoms.{atom_power}
 use Rattle.gpu_alloc_base.proofs.Maps.{one_value}
 use Rattle.gpu_alloc_base.proofs.PowersOfTwo.{power_of_bit}
 use Rattle.gpu_alloc_fit.specs.Fit.{FitState}
 use Rattle.gpu_alloc_runs.specs.Space.{IsWhollyFree, IsLiveSlot as IsLiveFit}
+use Rattle.gpu_alloc.specs.declared.allocator.stores.TypeStores.{TypeStores}
 
 -- two ranges with no byte in both are apart
 pub ranges_apart : (a m b n : ℕ) → 0 < m → 0 < n → ((at : ℕ) → IsIn a m at → IsIn b n at → ⊥) → (a + m ≤ b) ⊎ (b + n ≤ a)
@@ -197,33 +208,46 @@ module _ {c : Config} {p : Properties} {t : Table} {f : FitState} {object : ℕ}
 
 -- Each held object.
 
-module _ {sharing : Sharing} {c : Config} {p : Properties} {t : Table} {buddies : List Buddy} {lists : List FreeListState} {fits : List FitState} {heaps : List Heap} {remaining : ℕ} (is : IsConsistent sharing c p heaps buddies lists fits t remaining) where
+-- a chunk's kind says which was chosen
+module _ {M X : Type 0} {c : Config} {p : Properties} {t : Table} (sharing : Sharing) where
+  buddy_chosen : (i : ℕ) (x : Chosen M X) → IsChosenOf c p t sharing i x → is_chosen sharing BuddyChunk ≡ true → (b : Buddy) × IsBuddyOf c p t i b
+  buddy_chosen i (InBuddies b) is chosen = (b, is.1)
+  buddy_chosen i (InFits f) is chosen = absurd (let never : false ≡ true = ap (λ s. is_chosen s BuddyChunk) (sym is.0) ∙ chosen in cc)
+
+  fit_chosen : (i : ℕ) (x : Chosen M X) → IsChosenOf c p t sharing i x → is_chosen sharing FitChunk ≡ true → (f : FitState) × IsFitOf c p t i f
+  fit_chosen i (InBuddies b) is chosen = absurd (let never : false ≡ true = ap (λ s. is_chosen s FitChunk) (sym is.0) ∙ chosen in cc)
+  fit_chosen i (InFits f) is chosen = (f, is.1)
+
+module _ {M X : Type 0} {sharing : Sharing} {c : Config} {p : Properties} {t : Table} {ss : List (TypeStores M X)} {heaps : List Heap} {remaining : ℕ} (is : IsConsistent sharing c p heaps ss t remaining) where
   known_at : (object : ℕ) (h : HeldObject) → map.get t.held object ≡ Some h → IsKnown t p object h
   known_at object h held = subst (λ (o : Option HeldObject). IfSome o (IsKnown t p object)) held (is.books.known object)
 
-  buddy_at : (object : ℕ) (h : HeldObject) → map.get t.held object ≡ Some h → (b : Buddy) × IsBuddyOf c p t h.memory_type b
-  buddy_at object h held = element (IsBuddyOf c p t h.memory_type) buddies h.memory_type (omega (arith, (known_at object h held).of_type, is.shared.count)) (is.shared.each h.memory_type)
+  stores_at : (object : ℕ) (h : HeldObject) → map.get t.held object ≡ Some h → (e : TypeStores M X) × IsEachOf c p t sharing h.memory_type e
+  stores_at object h held = element (IsEachOf c p t sharing h.memory_type) ss h.memory_type (omega (arith, (known_at object h held).of_type, is.shared.count)) (is.shared.each h.memory_type)
+
+  buddy_at : (object : ℕ) (h : HeldObject) → map.get t.held object ≡ Some h → h.kind ≡ BuddyChunk → (b : Buddy) × IsBuddyOf c p t h.memory_type b
+  buddy_at object h held kind = let there = stores_at object h held in buddy_chosen sharing h.memory_type there.0.chosen there.1.chosen (ap (is_chosen sharing) (sym kind) ∙ is.chosen object h held)
 
   list_at : (object : ℕ) (h : HeldObject) → map.get t.held object ≡ Some h → (l : FreeListState) × IsListOf c p t h.memory_type l
-  list_at object h held = element (IsListOf c p t h.memory_type) lists h.memory_type (omega (arith, (known_at object h held).of_type, is.listed.count)) (is.listed.each h.memory_type)
+  list_at object h held = let there = stores_at object h held in (there.0.free_list, there.1.free_list)
 
-  fit_at : (object : ℕ) (h : HeldObject) → map.get t.held object ≡ Some h → (f : FitState) × IsFitOf c p t h.memory_type f
-  fit_at object h held = element (IsFitOf c p t h.memory_type) fits h.memory_type (omega (arith, (known_at object h held).of_type, is.fitted.count)) (is.fitted.each h.memory_type)
+  fit_at : (object : ℕ) (h : HeldObject) → map.get t.held object ≡ Some h → h.kind ≡ FitChunk → (f : FitState) × IsFitOf c p t h.memory_type f
+  fit_at object h held kind = let there = stores_at object h held in fit_chosen sharing h.memory_type there.0.chosen there.1.chosen (ap (is_chosen sharing) (sym kind) ∙ is.chosen object h held)
 
   -- the live spans of a chunk are inside and apart
   chunk_inside : (object : ℕ) (h : HeldObject) → map.get t.held object ≡ Some h → is_shared h.kind ≡ true → (span : Span) → IsLiveIn t span → span.object ≡ object → span.offset + span.size ≤ h.counted
   chunk_inside object h held kind = elim (chunk_kinds h.kind kind) [
-    | inl of_buddy ↦ buddy_inside (buddy_at object h held).1 held of_buddy
+    | inl of_buddy ↦ buddy_inside (buddy_at object h held of_buddy).1 held of_buddy
     | inr (inl of_list) ↦ list_inside (list_at object h held).1 held of_list.1
-    | inr (inr of_fit) ↦ fit_inside (fit_at object h held).1 held of_fit
+    | inr (inr of_fit) ↦ fit_inside (fit_at object h held of_fit).1 held of_fit
   ]
 
   chunk_apart : (object : ℕ) (h : HeldObject) → map.get t.held object ≡ Some h → is_shared h.kind ≡ true
       → (x y : Span) → IsLiveIn t x → IsLiveIn t y → x.object ≡ object → y.object ≡ object → x ≢ y → (x.offset + x.size ≤ y.offset) ⊎ (y.offset + y.size ≤ x.offset)
   chunk_apart object h held kind = elim (chunk_kinds h.kind kind) [
-    | inl of_buddy ↦ buddy_apart (buddy_at object h held).1 held of_buddy
+    | inl of_buddy ↦ buddy_apart (buddy_at object h held of_buddy).1 held of_buddy
     | inr (inl of_list) ↦ list_apart (list_at object h held).1 held of_list.1
-    | inr (inr of_fit) ↦ fit_apart (fit_at object h held).1 held of_fit
+    | inr (inr of_fit) ↦ fit_apart (fit_at object h held of_fit).1 held of_fit
   ]
 
   -- an object of one block has one live span
@@ -261,7 +285,7 @@ module _ {sharing : Sharing} {c : Config} {p : Properties} {t : Table} {buddies 
   is_used : (object : ℕ) (h : HeldObject) → map.get t.held object ≡ Some h → may_be_unused h.kind ≡ false → HasSpan t object
   is_used object h held never = elim (cases_Bool (is_shared h.kind)) [
     | inl kind ↦ elim (chunk_kinds h.kind kind) [
-      | inl of_buddy ↦ chunk_used (buddy_at object h held).1 held of_buddy
+      | inl of_buddy ↦ chunk_used (buddy_at object h held of_buddy).1 held of_buddy
       | inr (inl of_list) ↦ absurd (let both = ap may_be_unused (sym of_list.1) ∙ never in cc)
       | inr (inr of_fit) ↦ absurd (let both = ap may_be_unused (sym of_fit) ∙ never in cc)
     ]
@@ -272,7 +296,7 @@ module _ {sharing : Sharing} {c : Config} {p : Properties} {t : Table} {buddies 
   each_used object None none = tt
   each_used object (Some h) held = is_used object h held
 
--- The whole state.
+-- Next fit chunks where none are chosen.
 
 -- what stands at a place
 there_is : {X : Type 0} (xs : List X) (i : ℕ) → i < length xs → (x : X) × (slice_get xs i ≡ Some x)
@@ -280,40 +304,64 @@ there_is [] i inside = absurd (omega (arith, inside))
 there_is (x ∷ xs) zero inside = (x, refl)
 there_is (x ∷ xs) (suc i) inside = there_is xs i (omega (arith, inside))
 
-module _ {A : Type 0} (l : Limits A) (heaps : List Heap) (buddies : List Buddy) (lists : List FreeListState) (fits : List FitState) (t : Table) (remaining : ℕ)
-    (is : IsConsistent l.sharing l.config (properties_in l heaps) heaps buddies lists fits t remaining) (index number : ℕ) where
+-- what is read of a memory type's sizes
+type_read : {X : Type 0} (g : X → TypeState → TypeState) (types : List TypeState) (xs : List X) (i : ℕ) (type : TypeState) (x : X) → slice_get types i ≡ Some type → IsAt xs i x → slice_get (types_with g types xs) i ≡ Some (g x type)
+type_read g [] xs i type x found at = absurd (cc)
+type_read g (y ∷ types) [] i type x found at = absurd at
+type_read g (y ∷ types) (z ∷ xs) zero type x found at = (let same : y ≡ type = cc in λ k. Some (g (at k) (same k)))
+type_read g (y ∷ types) (z ∷ xs) (suc i) type x found at = type_read g types xs i type x found at
+
+-- the first size stays
+first_fit_stays : {M X : Type 0} (c : Config) (p : Properties) (ss : List (TypeStores M X)) (i : ℕ) (e : TypeStores M X) (b : Buddy) → IsAt ss i e → e.chosen ≡ InBuddies b → i < length p.memory_types
+    → fit_chunk_of (slice_get (types_with type_sizes (first_types c p) ss) i) ≡ starting_size c (heap_size p i) (grain (atom_of p i))
+first_fit_stays c p ss i e b at it known =
+    let own = there_is p.memory_types i known in
+    let found = slice_get-map (first_type_state c p) p.memory_types i ∙ ap (option_map (first_type_state c p)) own.1 in
+    ap fit_chunk_of (type_read type_sizes (first_types c p) ss i (first_type_state c p own.0) e found at)
+    ∙ ap (λ x. (chosen_sizes x (record (first_type_state c p own.0) { list_chunk = e.free_list.next_chunk; number = e.free_list.space.latest })).fit_chunk) it
+    ∙ (λ k. starting_size c (sym (size_found p i own.0 own.1) k) (grain (sym (atom_found p i own.0 own.1) k)))
+
+-- The whole state.
+
+module _ {A M X : Type 0} (l : Limits A) (heaps : List Heap) (ss : List (TypeStores M X)) (t : Table) (remaining : ℕ)
+    (is : IsConsistent l.sharing l.config (properties_in l heaps) heaps ss t remaining) (index number : ℕ) where
   abbrev s : State
-  s = state_in l heaps buddies lists fits t remaining
+  s = state_in l heaps ss t remaining
 
-  abbrev ss : Stores
-  ss = record { buddies = buddies; lists = lists; fits = fits }
-
-  -- The free list of a memory type that is known.
+  -- The stores of a memory type that is known.
 
   module _ (known : index < length (properties_in l heaps).memory_types) where
-    own_list : (fl : FreeListState) × (slice_get lists index ≡ Some fl)
-    own_list = there_is lists index (omega (arith, known, is.listed.count))
+    own_stores : (e : TypeStores M X) × (slice_get ss index ≡ Some e)
+    own_stores = there_is ss index (omega (arith, known, is.shared.count))
 
-    list_own : IsListOf l.config (properties_in l heaps) t index own_list.0
-    list_own = subst (λ (o : Option FreeListState). IfSome o (IsListOf l.config (properties_in l heaps) t index)) own_list.1 (is.listed.each index)
+    stores_own : IsEachOf l.config (properties_in l heaps) t l.sharing index own_stores.0
+    stores_own = subst (λ (o : Option (TypeStores M X)). IfSome o (IsEachOf l.config (properties_in l heaps) t l.sharing index)) own_stores.1 (is.shared.each index)
 
-    list_read : own_list.0 ≡ get_or lists index own_list.0
-    list_read = read_is lists index own_list.0 own_list.1
+    own_at : IsAt ss index own_stores.0
+    own_at = stands_at ss index own_stores.0 own_stores.1
 
     abbrev first : List TypeState
     first = first_types l.config (properties_in l heaps)
 
-    fitted : index < length fits
-    fitted = omega (arith, known, is.fitted.count)
+    first_known : index < length first
+    first_known = omega (arith, known, length-map (properties_in l heaps).memory_types (first_type_state l.config (properties_in l heaps)))
 
-    typed : index < length (types_from first ss)
-    typed = types_there first ss index (omega (arith, known, length-map (properties_in l heaps).memory_types (first_type_state l.config (properties_in l heaps)))) (omega (arith, known, is.shared.count)) (omega (arith, known, is.listed.count)) fitted
+    typed : index < length (types_with type_sizes first ss)
+    typed = types_within type_sizes first ss index first_known (omega (arith, known, is.shared.count))
 
-    latest_is : latest_number s index ≡ own_list.0.space.latest
-    latest_is = sizes_read list_is_named first ss index own_list.0 list_read typed number_of own_list.0.space.latest (λ type. refl)
+    -- Its free list.
 
-    next_is : next_list_chunk s index ≡ own_list.0.next_chunk
-    next_is = sizes_read list_is_named first ss index own_list.0 list_read typed list_chunk_of own_list.0.next_chunk (λ type. refl)
+    abbrev own_list : FreeListState
+    own_list = own_stores.0.free_list
+
+    list_own : IsListOf l.config (properties_in l heaps) t index own_list
+    list_own = stores_own.free_list
+
+    latest_is : latest_number s index ≡ own_list.space.latest
+    latest_is = sizes_read list_is_named ss index own_stores.0 own_list own_at refl first typed number_of own_list.space.latest (λ type. refl)
+
+    next_is : next_list_chunk s index ≡ own_list.next_chunk
+    next_is = sizes_read list_is_named ss index own_stores.0 own_list own_at refl first typed list_chunk_of own_list.next_chunk (λ type. refl)
 
     next_whole : IsNextListChunk s index
     next_whole =
@@ -321,34 +369,43 @@ module _ {A : Type 0} (l : Limits A) (heaps : List Heap) (buddies : List Buddy) 
         let given = list_own.for_type in
         record {
           some = omega (arith, next_is, sound.next_chunk.0.1);
-          whole = subst (λ n. IsMultipleOf n (next_list_chunk s index)) given.atom (subst (IsMultipleOf own_list.0.atom) (sym next_is) sound.next_chunk.0.0);
+          whole = subst (λ n. IsMultipleOf n (next_list_chunk s index)) given.atom (subst (IsMultipleOf own_list.atom) (sym next_is) sound.next_chunk.0.0);
           most = omega (arith, next_is, given.final_chunk, sound.next_chunk.1);
           bound = omega (arith, given.final_chunk, sound.final_chunk.1);
         }
 
-    -- Its allocator of fit chunks.
+    -- Its fit chunks, where they are chosen; else the first size stays the next one.
 
-    own_fitting : (f : FitState) × (slice_get fits index ≡ Some f)
-    own_fitting = there_is fits index fitted
+    abbrev IsNext : Type 0
+    IsNext = IsNextFitChunk s index × IsFitSize s index (next_fit_chunk s index)
 
-    fitting_own : IsFitOf l.config (properties_in l heaps) t index own_fitting.0
-    fitting_own = subst (λ (o : Option FitState). IfSome o (IsFitOf l.config (properties_in l heaps) t index)) own_fitting.1 (is.fitted.each index)
+    next_by : (x : Chosen M X) → own_stores.0.chosen ≡ x → IsChosenOf l.config (properties_in l heaps) t l.sharing index x → IsNext
+    next_by (InBuddies b) it is =
+        let p = properties_in l heaps in
+        let g = grain (atom_of p index) in
+        let stays = first_fit_stays l.config p ss index own_stores.0 b own_at it known in
+        let within = starting_within l.config (heap_size p index) g (omega arith) in (
+          record {
+            some = omega (arith, stays, cut_some (heap_size p index) g l.config.starting_free_list_chunk (omega arith));
+            most = omega (arith, stays, within);
+            bound = largest_bound l.config (heap_size p index) (atom_of p index) (omega (arith, list_own.sound.atom.1.1, pow_pos list_own.sound.atom.0, list_own.for_type.atom)) (omega (arith, list_own.for_type.final_chunk, list_own.sound.final_chunk.1));
+          },
+          subst (IsFitSize s index) (sym stays) (first_sized l.config (heap_size p index) g (omega arith)),
+        )
+    next_by (InFits f) it is =
+        let next = sizes_read fit_is_named ss index own_stores.0 f own_at (ap fit_in it) first typed fit_chunk_of f.next_chunk (λ type. refl) in
+        let sound = is.1.sound in
+        let given = is.1.for_type in (
+          record {
+            some = omega (arith, next, sound.next_chunk.0.1);
+            most = omega (arith, next, given.final_chunk, sound.next_chunk.1);
+            bound = omega (arith, given.final_chunk, sound.final_chunk.1);
+          },
+          subst (IsFitSize s index) (sym next) is.1.sized.next,
+        )
 
-    next_fit_is : next_fit_chunk s index ≡ own_fitting.0.next_chunk
-    next_fit_is = sizes_read fit_is_named first ss index own_fitting.0 (read_is fits index own_fitting.0 own_fitting.1) typed fit_chunk_of own_fitting.0.next_chunk (λ type. refl)
-
-    next_fit_within : IsNextFitChunk s index
-    next_fit_within =
-        let sound = fitting_own.sound in
-        let given = fitting_own.for_type in
-        record {
-          some = omega (arith, next_fit_is, sound.next_chunk.0.1);
-          most = omega (arith, next_fit_is, given.final_chunk, sound.next_chunk.1);
-          bound = omega (arith, given.final_chunk, sound.final_chunk.1);
-        }
-
-    next_fit_sized : IsFitSize s index (next_fit_chunk s index)
-    next_fit_sized = subst (IsFitSize s index) (sym next_fit_is) fitting_own.sized.next
+    next_fit : IsNext
+    next_fit = next_by own_stores.0.chosen refl stores_own.chosen
 
   -- The chunks of its free list.
 
@@ -363,7 +420,7 @@ module _ {A : Type 0} (l : Limits A) (heaps : List Heap) (buddies : List Buddy) 
   one_object : (a b : ℕ) → IsListChunk s index number a → IsListChunk s index number b → a ≡ b
   one_object a b of also =
       let known = type_known a of in
-      let fl = (own_list known).0 in
+      let fl = (own_list known) in
       let own = list_own known in
       ap (λ (c : Chunk). c.object) (one_value _ (chunk_at a of.chunk) (chunk_at b also.chunk) (chunk_under fl own a of) (chunk_under fl own b also))
 
@@ -371,7 +428,7 @@ module _ {A : Type 0} (l : Limits A) (heaps : List Heap) (buddies : List Buddy) 
   within object of =
       let known = type_known object of in
       let own = list_own known in
-      let is_number = own.sound.space.numbers number (chunk_at object of.chunk) (chunk_under (own_list known).0 own object of) in
+      let is_number = own.sound.space.numbers number (chunk_at object of.chunk) (chunk_under (own_list known) own object of) in
       (is_number.0, omega (arith, is_number.1, latest_is known))
 
   -- it ends, and a live span in it begins, at a whole atom
@@ -379,7 +436,7 @@ module _ {A : Type 0} (l : Limits A) (heaps : List Heap) (buddies : List Buddy) 
   chunk_ends object of =
       let known = type_known object of in
       let own = list_own known in
-      subst (λ n. IsMultipleOf n of.chunk.counted) own.for_type.atom (own.sound.chunks number (chunk_at object of.chunk) (chunk_under (own_list known).0 own object of)).0
+      subst (λ n. IsMultipleOf n of.chunk.counted) own.for_type.atom (own.sound.chunks number (chunk_at object of.chunk) (chunk_under (own_list known) own object of)).0
 
   span_begins : (span : Span) → IsListChunk s index number span.object → IsLiveIn t span → IsMultipleOf (atom_of s.properties index) span.offset
   span_begins span of live =
@@ -391,14 +448,14 @@ module _ {A : Type 0} (l : Limits A) (heaps : List Heap) (buddies : List Buddy) 
 
   fit_sized : (object : ℕ) (of : IsFitChunk s index object) → IsFitSize s index of.chunk.counted
   fit_sized object of =
-      let there = fit_at is object of.chunk of.held in
+      let there = fit_at is object of.chunk of.held of.of_kind in
       let key = fit_key there.1 of.held of.of_kind in
       let p = properties_in l heaps in
       subst (λ i. IsFitChunkSize l.config (heap_size p i) (grain (atom_of p i)) of.chunk.counted) of.of_type (there.1.sized.chunks key.0 (chunk_at object of.chunk) key.1)
 
   fit_whole : (span : Span) → IsFitChunk s index span.object → IsLiveIn t span → IsMultipleOf (grain_of s index) span.offset × IsMultipleOf (grain_of s index) span.size
   fit_whole span of live =
-      let there = fit_at is span.object of.chunk of.held in
+      let there = fit_at is span.object of.chunk of.held of.of_kind in
       let p = properties_in l heaps in
       subst (λ i. IsMultipleOf (grain (atom_of p i)) span.offset × IsMultipleOf (grain (atom_of p i)) span.size) of.of_type (fit_grains there.1 of.held of.of_kind span live refl)
 
@@ -417,45 +474,45 @@ module _ {A : Type 0} (l : Limits A) (heaps : List Heap) (buddies : List Buddy) 
 
   one_idle : (a b : ℕ) → IsFitChunk s index a → IsFitChunk s index b → IsUnused s a → IsUnused s b → a ≡ b
   one_idle a b of =
-      let there = fit_at is a of.chunk of.held in
+      let there = fit_at is a of.chunk of.held of.of_kind in
       one_without there.0 (subst (λ i. IsFitOf l.config (properties_in l heaps) t i there.0) of.of_type there.1) a b of
 
-pub sound_is : {A : Type 0} (l : Limits A) (heaps : List Heap) (buddies : List Buddy) (lists : List FreeListState) (fits : List FitState) (t : Table) (remaining : ℕ) → IsConsistent l.sharing l.config (properties_in l heaps) heaps buddies lists fits t remaining
-    → IsSound (state_in l heaps buddies lists fits t remaining)
-sound_is l heaps buddies lists fits t remaining is = record {
+pub sound_is : {A M X : Type 0} (l : Limits A) (heaps : List Heap) (ss : List (TypeStores M X)) (t : Table) (remaining : ℕ) → IsConsistent l.sharing l.config (properties_in l heaps) heaps ss t remaining
+    → IsSound (state_in l heaps ss t remaining)
+sound_is l heaps ss t remaining is = record {
   nonempty = λ span live. (is.books.spans span live).nonempty;
   inside = lies_inside is;
   alone = is_alone is;
-  buddy = λ span h live held kind. buddy_size (buddy_at is span.object h held).1 held kind span live refl;
+  buddy = λ span h live held kind. buddy_size (buddy_at is span.object h held kind).1 held kind span live refl;
   apart = are_apart is;
   used = λ object. each_used is object (map.get t.held object) refl;
-  numbers = λ index number a b. one_object l heaps buddies lists fits t remaining is index number a b;
-  numbered = λ index number object. within l heaps buddies lists fits t remaining is index number object;
+  numbers = λ index number a b. one_object l heaps ss t remaining is index number a b;
+  numbered = λ index number object. within l heaps ss t remaining is index number object;
   chosen = is.chosen;
-  one_unused = λ index a b. one_idle l heaps buddies lists fits t remaining is index 0 a b;
-  fit_sizes = λ index object. fit_sized l heaps buddies lists fits t remaining is index 0 object;
-  next_fit = λ index. next_fit_sized l heaps buddies lists fits t remaining is index 0;
-  fit = λ index span. fit_whole l heaps buddies lists fits t remaining is index 0 span;
+  one_unused = λ index a b. one_idle l heaps ss t remaining is index 0 a b;
+  fit_sizes = λ index object. fit_sized l heaps ss t remaining is index 0 object;
+  next_fit = λ index known. (next_fit l heaps ss t remaining is index 0 known).1;
+  fit = λ index span. fit_whole l heaps ss t remaining is index 0 span;
   within = λ heap inside.
       let there : heap < length heaps = omega (arith, inside, length-map heaps offer_of) in
       let own = there_is heaps heap there in
-      let of = heap_is l heaps buddies lists fits t remaining is.books.ledgers heap own.0 there (read_is heaps heap own.0 own.1) in
+      let of = heap_is l heaps ss t remaining is.books.ledgers heap own.0 there (read_is heaps heap own.0 own.1) in
       omega (arith, of.asked, of.size);
   limits = λ heap inside.
       let there : heap < length heaps = omega (arith, inside, length-map heaps offer_of) in
       let own = there_is heaps heap there in
-      let of = heap_is l heaps buddies lists fits t remaining is.books.ledgers heap own.0 there (read_is heaps heap own.0 own.1) in
+      let of = heap_is l heaps ss t remaining is.books.ledgers heap own.0 there (read_is heaps heap own.0 own.1) in
       omega (arith, of.limit, of.limited, of.size);
 }
 
-pub atoms_kept : {A : Type 0} (l : Limits A) (heaps : List Heap) (buddies : List Buddy) (lists : List FreeListState) (fits : List FitState) (t : Table) (remaining : ℕ) → IsConsistent l.sharing l.config (properties_in l heaps) heaps buddies lists fits t remaining
-    → KeepsAtoms (state_in l heaps buddies lists fits t remaining)
-atoms_kept l heaps buddies lists fits t remaining is = record {
+pub atoms_kept : {A M X : Type 0} (l : Limits A) (heaps : List Heap) (ss : List (TypeStores M X)) (t : Table) (remaining : ℕ) → IsConsistent l.sharing l.config (properties_in l heaps) heaps ss t remaining
+    → KeepsAtoms (state_in l heaps ss t remaining)
+atoms_kept l heaps ss t remaining is = record {
   atom = λ index.
       let p = properties_in l heaps in
       power_of_bit (atom_of p index) (atom_power p.non_coherent_atom_size (atom_of p index) (is_non_coherent p index) is.books.usable.atom refl);
-  ends = λ index number object. chunk_ends l heaps buddies lists fits t remaining is index number object;
-  begins = λ index number span. span_begins l heaps buddies lists fits t remaining is index number span;
-  next = λ index. next_whole l heaps buddies lists fits t remaining is index 0;
-  next_fit = λ index. next_fit_within l heaps buddies lists fits t remaining is index 0;
+  ends = λ index number object. chunk_ends l heaps ss t remaining is index number object;
+  begins = λ index number span. span_begins l heaps ss t remaining is index number span;
+  next = λ index. next_whole l heaps ss t remaining is index 0;
+  next_fit = λ index known. (next_fit l heaps ss t remaining is index 0 known).0;
 }

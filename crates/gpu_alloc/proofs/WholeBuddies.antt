@@ -13,10 +13,11 @@ use Rattle.gpu_alloc_buddy.specs.BuddySound.{IsSoundBuddy}
 use Rattle.gpu_alloc_buddy.specs.BuddyState.{Buddy}
 use Rattle.gpu_alloc_pairs.specs.HeldLists.{ListsChunks}
 use Rattle.gpu_alloc_pairs.specs.declared.pairs.Chunk.{Chunk as Row}
-use Rattle.gpu_alloc.specs.Inside.{chunk_object, span_of_leaf}
+use Rattle.gpu_alloc.specs.StoresFor.{chunk_object, span_of_leaf}
 use Rattle.gpu_alloc.specs.Listing.{AreOnce}
 use Rattle.gpu_alloc.specs.Spans.{span_in}
-use Rattle.gpu_alloc.specs.Whole.{buddy_part}
+use Rattle.gpu_alloc.specs.Stores.{part}
+use Rattle.gpu_alloc_buddy.specs.BuddyRule.{buddy_rule}
 use Rattle.gpu_alloc.specs.declared.spans.HeldRow.{HeldRow}
 use Rattle.gpu_alloc.proofs.WholeRows.{AreRowsOf, key_listed, listed_by_key, rows_of, own_spans_are, own_spans_once}
 use Rattle.gpu_alloc.proofs.Wholes.{one_buddy}
@@ -36,7 +37,7 @@ module _ {M : Type 0} (object : M → ℕ) (b : Buddy) (named : HaveOwnObjects b
   pub is_short : (e : ℕ × Row M) → Contains listed e → e.1.order < 64
   is_short e has = lists.short e.0 e.1 (key_listed said b.chunks named lists.rows lists.exact listed lists.are e has)
 
-  pub buddy_rows : (memory_type : ℕ) → b.memory_type ≡ memory_type → AreRowsOf (buddy_part b).held (buddy_row object memory_type) listed
+  pub buddy_rows : (memory_type : ℕ) → b.memory_type ≡ memory_type → AreRowsOf (part buddy_rule (λ key. BuddyChunk) b).held (buddy_row object memory_type) listed
   buddy_rows memory_type typed =
       rows_of named (listed_by_key said b.chunks named lists.rows lists.exact listed lists.are) (λ _. chunk_object b) (buddy_row object memory_type)
       (λ e i. (object e.1.memory, record { memory_type = sym typed i; counted = 2 ^ e.1.order; kind = BuddyChunk }))
@@ -44,7 +45,7 @@ module _ {M : Type 0} (object : M → ℕ) (b : Buddy) (named : HaveOwnObjects b
 -- Its live blocks.
 
 module _ (b : Buddy) (sound : IsSoundBuddy b) (leaves : List Leaf) (exact : set.from_list leaves ≡ b.live) (once : IsDistinct (eq_by_cmp leaf_cmp) leaves) where
-  pub leaf_rows_are : set.from_list (map span_in leaves) ≡ (buddy_part b).live
+  pub leaf_rows_are : set.from_list (map span_in leaves) ≡ (part buddy_rule (λ key. BuddyChunk) b).live
   leaf_rows_are = own_spans_are leaf_total leaf_exact span_of_leaf b.live (one_buddy b sound) leaves exact once
 
   pub leaf_rows_once : AreOnce (map span_in leaves)

@@ -14,10 +14,11 @@ use Rattle.gpu_alloc_fit.specs.FitSound.{IsSoundFit}
 use Rattle.gpu_alloc_runs.specs.Inside.{chunk_of_row, leaf_of_slot}
 use Rattle.gpu_alloc_runs.specs.Listed.{ListsChunks}
 use Rattle.gpu_alloc_runs.specs.declared.fits.Chunk.{Chunk as Row}
-use Rattle.gpu_alloc.specs.Inside.{fit_object, span_of_slot}
+use Rattle.gpu_alloc.specs.StoresFor.{fit_object, span_of_slot}
 use Rattle.gpu_alloc.specs.Listing.{AreOnce}
 use Rattle.gpu_alloc.specs.Spans.{span_in}
-use Rattle.gpu_alloc.specs.Whole.{fit_part}
+use Rattle.gpu_alloc.specs.Stores.{part}
+use Rattle.gpu_alloc_fit.specs.FitRule.{fit_rule}
 use Rattle.gpu_alloc.specs.declared.spans.HeldRow.{HeldRow}
 use Rattle.gpu_alloc.proofs.Tables.Listed.{mapped_twice}
 use Rattle.gpu_alloc.proofs.WholeRows.{AreRowsOf, listed_by_key, rows_of, own_spans_are, own_spans_once}
@@ -31,7 +32,7 @@ fit_row object memory_type e =
     (object e.1.memory, record { memory_type = memory_type; counted = e.1.size; kind = FitChunk })
 
 pub fit_rows : {M : Type 0} (object : M → ℕ) (f : FitState) → HaveOwnObjects f.space.chunks → (listed : List (ℕ × Row M)) → ListsChunks object f.space.chunks listed → (memory_type : ℕ) → f.memory_type ≡ memory_type
-    → AreRowsOf (fit_part f).held (fit_row object memory_type) listed
+    → AreRowsOf (part fit_rule (λ key. FitChunk) f).held (fit_row object memory_type) listed
 fit_rows object f named listed lists memory_type typed =
     rows_of named (listed_by_key (chunk_of_row object) f.space.chunks named lists.rows lists.exact listed lists.are) (λ _. fit_object f) (fit_row object memory_type)
     (λ e i. (object e.1.memory, record { memory_type = sym typed i; counted = e.1.size; kind = FitChunk }))
@@ -42,7 +43,7 @@ module _ (f : FitState) (sound : IsSoundFit f) (slots : List Slot) (exact : set.
   named_so : map span_in (map leaf_of_slot slots) ≡ map span_of_slot slots
   named_so = mapped_twice leaf_of_slot span_in span_of_slot (λ e. refl) slots
 
-  pub fit_spans_are : set.from_list (map span_in (map leaf_of_slot slots)) ≡ (fit_part f).live
+  pub fit_spans_are : set.from_list (map span_in (map leaf_of_slot slots)) ≡ (part fit_rule (λ key. FitChunk) f).live
   fit_spans_are = ap (λ (xs : List Span). set.from_list {R = span_cmp} xs) named_so ∙ own_spans_are slot_total slot_exact span_of_slot f.space.live (one_fit f sound) slots exact once
 
   pub fit_spans_once : AreOnce (map span_in (map leaf_of_slot slots))

@@ -25,10 +25,10 @@ use Rattle.gpu_alloc_freelist.specs.FreeListSound.{IsSoundFreeList}
 use Rattle.gpu_alloc_freelist.specs.FreeListState.{FreeListState}
 use Rattle.gpu_alloc_freelist.specs.Live.{ListsSlots}
 use Rattle.gpu_alloc_freelist.specs.declared.freelist.chunks.NumberedChunk.{NumberedChunk}
-use Rattle.gpu_alloc.specs.Inside.{list_object, span_of_slot}
+use Rattle.gpu_alloc.specs.StoresFor.{list_object, span_of_slot}
 use Rattle.gpu_alloc.specs.Listing.{AreOnce}
 use Rattle.gpu_alloc.specs.Spans.{span_in}
-use Rattle.gpu_alloc.specs.Whole.{list_part}
+use Rattle.gpu_alloc.specs.Stores.{list_part}
 use Rattle.gpu_alloc.specs.declared.spans.HeldRow.{HeldRow}
 use Rattle.gpu_alloc_base.specs.declared.buddy_block.Leaf.{Leaf as LiveSpan}
 use Rattle.gpu_alloc.proofs.Tables.Listed.{mapped_twice, once_named, rows_apart}

@@ -1,5 +1,5 @@
 -- What parts hold in all, as they are walked one after the other: what was met, and what those that are left hold.
-use Rattle.std.proofs.Common.{◌≡◌, ◌⊎◌, inl, inr, ℕ, zero, suc, ◌+◌, ◌<◌, ◌≤◌, Bool, true, false, ◌||◌, List, [], ◌∷◌, ◌++◌, drop, get_or, map, length, slice_get, IfSome, nat_eq, Option, Some, None, IsTrue, refl, sym, ◌∙◌, ap, subst, arith}
+use Rattle.std.proofs.Common.{◌≡◌, ◌⊎◌, inl, inr, ℕ, zero, suc, ◌+◌, ◌<◌, ◌≤◌, Bool, true, false, ◌||◌, List, [], ◌∷◌, ◌++◌, drop, get_or, map, length, IfSome, nat_eq, Option, Some, None, IsTrue, refl, sym, ◌∙◌, ap, subst, arith}
 use Rattle.std.proofs.lemmas.List.{at_drop_all, at_drop_more, length-append, map-append}
 use Rattle.std.proofs.lemmas.Option.{slice_get_read}
 use Rattle.std.specs.Cmp.{nat_cmp_total}
@@ -19,20 +19,20 @@ use Rattle.gpu_alloc_block.specs.State.{HeldObject, Span, span_cmp}
 use Rattle.gpu_alloc_block.proofs.LiveSpans.{not_live, span_exact, span_total}
 use Rattle.gpu_alloc_block.proofs.Parts.Entries.{first, second, later_above, t_true, there_entry}
 use Rattle.gpu_alloc_block.proofs.Parts.Unions.{or_else, get_join, held_at, live_at}
+use Rattle.gpu_alloc_base.specs.declared.buddy_block.Leaf.{Leaf as LiveSpan}
 use Rattle.gpu_alloc_base.specs.declared.heap.Heap.{Heap}
-use Rattle.gpu_alloc_buddy.specs.BuddyState.{Buddy}
-use Rattle.gpu_alloc_fit.specs.Fit.{FitState}
-use Rattle.gpu_alloc_freelist.specs.FreeListState.{FreeListState}
-use Rattle.gpu_alloc.specs.Inside.{properties_in, IsBuddyFor, IsFitFor, IsListFor}
+use Rattle.gpu_alloc.specs.Inside.{properties_in}
 use Rattle.gpu_alloc.specs.Listing.{AreOnce}
 use Rattle.gpu_alloc.specs.Own.{OwnTable}
-use Rattle.gpu_alloc.specs.Spans.{held_objects_in}
-use Rattle.gpu_alloc.specs.Whole.{AreOneWhole, IsKept, IsPartFor, buddy_part, fit_part, list_part, parts_of, whole}
+use Rattle.gpu_alloc.specs.Spans.{held_objects_in, span_in}
+use Rattle.gpu_alloc.specs.Stores.{AreStoresFor, chosen_part, list_part, parts_in}
+use Rattle.gpu_alloc.specs.Whole.{AreOneWhole, IsKept, IsPartFor, parts_of, whole}
 use Rattle.gpu_alloc.specs.declared.limits.Limits.{Limits}
 use Rattle.gpu_alloc.specs.declared.spans.HeldRow.{HeldRow}
 use Rattle.gpu_alloc.proofs.Tables.Listed.{appended_cases, distinct_append, distinct_named, once_append, spans_append}
 use Rattle.gpu_alloc.proofs.Tables.Unions.{get_over, key_there, objects_append}
 use Rattle.gpu_alloc.proofs.Tables.Unions as tables
+use Rattle.gpu_alloc.specs.declared.allocator.stores.TypeStores.{TypeStores}
 
 abbrev pub Held : Type 0
 Held = finite.FinMap nat_cmp HeldObject
@@ -48,70 +48,51 @@ live_more p ps q = set.contains-union span_total p.live (live_in_parts ps) q
 
 -- Look for a name.
 
-pub first_holds : (p : Part) (ps : List Part) (q : ℕ) (h : HeldObject) → finite.get p.held q ≡ Some h → finite.get (held_in_parts (p ∷ ps)) q ≡ Some h
+first_holds : (p : Part) (ps : List Part) (q : ℕ) (h : HeldObject) → finite.get p.held q ≡ Some h → finite.get (held_in_parts (p ∷ ps)) q ≡ Some h
 first_holds p ps q h is = get_more p ps q ∙ ap (λ o. or_else o (finite.get (held_in_parts ps) q)) is
 
-pub rest_holds : (p : Part) (ps : List Part) (q : ℕ) → finite.get p.held q ≡ None → finite.get (held_in_parts (p ∷ ps)) q ≡ finite.get (held_in_parts ps) q
+rest_holds : (p : Part) (ps : List Part) (q : ℕ) → finite.get p.held q ≡ None → finite.get (held_in_parts (p ∷ ps)) q ≡ finite.get (held_in_parts ps) q
 rest_holds p ps q none = get_more p ps q ∙ ap (λ o. or_else o (finite.get (held_in_parts ps) q)) none
 
--- Buddy allocators, free lists and allocators of fit chunks by memory type.
+-- all that is held under the name is what the parts that are left hold under it
+module _ (all : Held) (q : ℕ) where
+  abbrev pub IsLeft : List Part → Type 0
+  IsLeft ps = finite.get all q ≡ finite.get (held_in_parts ps) q
 
--- all that is left from the free list of a memory type on
-abbrev pub lists_from : List FreeListState → List FitState → ℕ → List Part
-lists_from lists fits i = map list_part (drop i lists) ++ map fit_part fits
+  -- what the first of them holds is it
+  pub left_first : (p : Part) (ps : List Part) (h : HeldObject) → IsLeft (p ∷ ps) → Some h ≡ finite.get p.held q → Some h ≡ finite.get all q
+  left_first p ps h left is = sym (left ∙ first_holds p ps q h (sym is))
 
--- and from the buddy allocator of one on
-abbrev pub left_from : List Buddy → List FreeListState → List FitState → ℕ → List Part
-left_from buddies lists fits i = map buddy_part (drop i buddies) ++ lists_from lists fits 0
+  -- where the first holds none, the next ones are left
+  pub left_rest : (p : Part) (ps : List Part) → IsLeft (p ∷ ps) → None ≡ finite.get p.held q → IsLeft ps
+  left_rest p ps left none = left ∙ rest_holds p ps q (sym none)
 
-module _ {A : Type 0} (l : Limits A) (heaps : List Heap) (buddies : List Buddy) (lists : List FreeListState) (fits : List FitState) (own : OwnTable) (remaining : ℕ) (kept : IsKept l.sharing l.config (properties_in l heaps) heaps buddies lists fits own remaining)
+  -- and where no part is left, none holds it
+  pub left_none : IsLeft [] → None ≡ finite.get all q
+  left_none left = sym (left ∙ finite.get-empty nat_cmp q)
+
+-- Each memory type's stores.
+
+-- all that is left from a memory type on
+abbrev pub left_from : {M X : Type 0} → List (TypeStores M X) → ℕ → List Part
+left_from ss i = parts_in (drop i ss)
+
+-- a memory type's are the next ones of them
+pub record AreNext {A M X : Type 0} (l : Limits A) (heaps : List Heap) (ss : List (TypeStores M X)) (i : ℕ) (e : TypeStores M X) : Type 0 where
+  pub for_type : AreStoresFor l.config (properties_in l heaps) l.sharing i e
+  pub left : left_from ss i ≡ chosen_part e.chosen ∷ list_part e.free_list ∷ left_from ss (i + 1)
+
+module _ {A M X : Type 0} (l : Limits A) (heaps : List Heap) (ss : List (TypeStores M X)) (own : OwnTable) (remaining : ℕ) (kept : IsKept l.sharing l.config (properties_in l heaps) heaps ss own remaining)
     (count : ℕ) (counted : count ≡ length (properties_in l heaps).memory_types) (i : ℕ) where
-  module _ (b : Buddy) (inside : i < count) (at : b ≡ get_or buddies i b) where
-    buddy_there : slice_get buddies i ≡ Some b
-    buddy_there = slice_get_read buddies (length buddies) i b refl (omega (arith, inside, counted, kept.shared.count)) at
+  module _ (e : TypeStores M X) (inside : i < count) (at : e ≡ get_or ss i e) where
+    pub are_next : AreNext l heaps ss i e
+    are_next = record {
+      for_type = subst (λ (o : Option (TypeStores M X)). IfSome o (AreStoresFor l.config (properties_in l heaps) l.sharing i)) (slice_get_read ss (length ss) i e refl (omega (arith, inside, counted, kept.shared.count)) at) (kept.shared.each i);
+      left = at_drop_more parts_in ss i e (omega (arith, kept.shared.count, counted, inside)) ∙ (λ k. chosen_part (sym at k).chosen ∷ list_part (sym at k).free_list ∷ left_from ss (i + 1));
+    }
 
-    -- the next one is what a memory type's is
-    pub next_buddy : IsBuddyFor l.config (properties_in l heaps) i b
-    next_buddy = subst (λ (o : Option Buddy). IfSome o (IsBuddyFor l.config (properties_in l heaps) i)) buddy_there (kept.shared.each i)
-
-    -- and the first of those that are left
-    pub next_buddy_left : left_from buddies lists fits i ≡ buddy_part b ∷ left_from buddies lists fits (i + 1)
-    next_buddy_left =
-        ap (λ (ps : List Part). ps ++ lists_from lists fits 0) (at_drop_more (map buddy_part) buddies i b (omega (arith, kept.shared.count, counted, inside)))
-        ∙ (λ k. buddy_part (sym at k) ∷ left_from buddies lists fits (i + 1))
-
-  -- after the last of them there are the free lists
-  pub lists_left : count ≤ i → left_from buddies lists fits i ≡ lists_from lists fits 0
-  lists_left past = ap (λ (ps : List Part). ps ++ lists_from lists fits 0) (at_drop_all (map buddy_part) buddies i (omega (arith, kept.shared.count, counted, past)))
-
-  module _ (fl : FreeListState) (inside : i < count) (at : fl ≡ get_or lists i fl) where
-    list_there : slice_get lists i ≡ Some fl
-    list_there = slice_get_read lists (length lists) i fl refl (omega (arith, inside, counted, kept.listed.count)) at
-
-    pub next_list : IsListFor l.config (properties_in l heaps) i fl
-    next_list = subst (λ (o : Option FreeListState). IfSome o (IsListFor l.config (properties_in l heaps) i)) list_there (kept.listed.each i)
-
-    pub next_left : lists_from lists fits i ≡ list_part fl ∷ lists_from lists fits (i + 1)
-    next_left =
-        ap (λ (ps : List Part). ps ++ map fit_part fits) (at_drop_more (map list_part) lists i fl (omega (arith, kept.listed.count, counted, inside)))
-        ∙ (λ k. list_part (sym at k) ∷ lists_from lists fits (i + 1))
-
-  -- and after the last of these the allocators of fit chunks
-  pub fits_left : count ≤ i → lists_from lists fits i ≡ map fit_part (drop 0 fits)
-  fits_left past = ap (λ (ps : List Part). ps ++ map fit_part fits) (at_drop_all (map list_part) lists i (omega (arith, kept.listed.count, counted, past)))
-
-  module _ (f : FitState) (inside : i < count) (at : f ≡ get_or fits i f) where
-    fit_there : slice_get fits i ≡ Some f
-    fit_there = slice_get_read fits (length fits) i f refl (omega (arith, inside, counted, kept.fitted.count)) at
-
-    pub next_fit : IsFitFor l.config (properties_in l heaps) i f
-    next_fit = subst (λ (o : Option FitState). IfSome o (IsFitFor l.config (properties_in l heaps) i)) fit_there (kept.fitted.each i)
-
-    pub next_fit_left : map fit_part (drop i fits) ≡ fit_part f ∷ map fit_part (drop (i + 1) fits)
-    next_fit_left = at_drop_more (map fit_part) fits i f (omega (arith, kept.fitted.count, counted, inside)) ∙ (λ k. fit_part (sym at k) ∷ map fit_part (drop (i + 1) fits))
-
-  pub none_left : count ≤ i → map fit_part (drop i fits) ≡ []
-  none_left past = at_drop_all (map fit_part) fits i (omega (arith, kept.fitted.count, counted, past))
+  pub none_left : count ≤ i → left_from ss i ≡ []
+  none_left past = at_drop_all parts_in ss i (omega (arith, kept.shared.count, counted, past))
 
 -- No object is held by two of them, and no span is live in two.
 
@@ -195,11 +176,11 @@ pub record AreCounted (all count : ℕ) (ps : List Part) : Type 0 where
   pub separate : AreSeparate ps
 
 -- the objects of one block are the first
-pub own_counted : (own : OwnTable) (buddies : List Buddy) (lists : List FreeListState) (fits : List FitState) → AreOneWhole own buddies lists fits
-    → AreCounted (finite.len (whole own buddies lists fits).held) (finite.len own.held) (left_from buddies lists fits 0)
-own_counted own buddies lists fits apart =
-    let parts = separate (IsPartFor (length buddies) (length lists)) (parts_of own buddies lists fits) apart in
-    record { exact = sym (join_len own.held (held_in_parts (left_from buddies lists fits 0)) parts.0); separate = parts.2 }
+pub own_counted : {M X : Type 0} (own : OwnTable) (ss : List (TypeStores M X)) → AreOneWhole own ss
+    → AreCounted (finite.len (whole own ss).held) (finite.len own.held) (left_from ss 0)
+own_counted own ss apart =
+    let parts = separate IsPartFor (parts_of own ss) apart in
+    record { exact = sym (join_len own.held (held_in_parts (left_from ss 0)) parts.0); separate = parts.2 }
 
 pub counted_next : (all count more : ℕ) (p : Part) (ps : List Part) → AreCounted all count (p ∷ ps) → more ≡ finite.len p.held → AreCounted all (count + more) ps
 counted_next all count more p ps counted is = record {
@@ -337,6 +318,14 @@ live_met_next all spans more now p ps met now_is more_are once = subst (λ rs. A
   ];
   separate = met.separate.2;
 })
+
+-- to a list of spans those of a part were added
+abbrev pub AreAdded : Part → List LiveSpan → List LiveSpan → Type 0
+AreAdded p rows now = (more : List LiveSpan) × (now ≡ rows ++ more) × ((set.from_list {R = span_cmp} (map span_in more) ≡ p.live) × AreOnce (map span_in more))
+
+pub live_met_added : (all : Live) (rows now : List LiveSpan) (p : Part) (ps : List Part) → AreLiveMet all (map span_in rows) (p ∷ ps) → AreAdded p rows now → AreLiveMet all (map span_in now) ps
+live_met_added all rows now p ps met added =
+    live_met_next all (map span_in rows) (map span_in added.0) (map span_in now) p ps met (ap (map span_in) added.1 ∙ map-append span_in rows added.0) added.2.0 added.2.1
 
 pub live_met_all : (all : Live) (spans : List Span) → AreLiveMet all spans [] → set.from_list {R = span_cmp} spans ≡ all
 live_met_all all spans met = set.same_set span_total span_exact _ _ (λ q. sym (met.exact q ∙ last (set.contains (set.from_list {R = span_cmp} spans) q) (set.contains-empty span_cmp q)))

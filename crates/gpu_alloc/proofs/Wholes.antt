@@ -1,23 +1,18 @@
--- What all parts hold, as one of them changes: the objects of one block, or a memory type's buddy allocator, free list or
--- allocator of fit chunks.
-use Rattle.std.proofs.Common.{◌≡◌, ◌⊎◌, inl, inr, false, true, ℕ, zero, suc, ◌+◌, ◌<◌, List, [], ◌∷◌, ◌++◌, length, map, get_or, slice_get, Some, None, IsTrue, refl, sym, ◌∙◌, ap, subst, arith}
+-- What all parts hold, as one of them changes: the objects of one block, or one of a memory type's stores.
+use Rattle.std.proofs.Common.{◌≡◌, ◌⊎◌, inl, inr, false, true, ℕ, zero, suc, ◌<◌, List, [], ◌∷◌, ◌++◌, length, get_or, slice_get, Some, None, IsTrue, refl, sym, ◌∙◌, ap, subst, arith}
 use Rattle.std.proofs.Math.ListN.{set}
-use Rattle.std.specs.Cmp.{nat_cmp_total}
+use Rattle.std.specs.Cmp.{IsTotalOrder, nat_cmp_total}
 use Rattle.std.specs.FinMap as finite
-use Rattle.std.specs.FinMap.{nat_cmp-IsAntisymmetric}
+use Rattle.std.specs.FinMap.{IsAntisymmetric, nat_cmp-IsAntisymmetric}
 use Rattle.std.specs.FinSet as set_of
 use Rattle.std.specs.Ordering.{nat_cmp}
 use Rattle.gpu_alloc_base.specs.Chunks.{Chunk}
-use Rattle.gpu_alloc_base.specs.Leaves.{leaf_cmp}
-use Rattle.gpu_alloc_base.specs.Slots.{slot_cmp}
 use Rattle.gpu_alloc_base.specs.declared.buddy_block.Leaf.{Leaf}
 use Rattle.gpu_alloc_base.specs.declared.free_list_block.Slot.{Slot}
-use Rattle.gpu_alloc_base.proofs.Leaves.{leaf_total, leaf_exact}
 use Rattle.gpu_alloc_base.proofs.ListViews.{named_absent}
-use Rattle.gpu_alloc_base.proofs.Slots.{slot_total, slot_exact}
-use Rattle.gpu_alloc_block.specs.Parts.{Held, Live, Part, Chunks, HasLive, IsAt, Makes, by_name}
+use Rattle.gpu_alloc_block.specs.Parts.{HaveOwnObjects, Held, Live, Part, Chunks, HasLive, IsAt, Makes}
 use Rattle.gpu_alloc_block.specs.State.{HeldObject, Span, is_shared, span_cmp}
-use Rattle.gpu_alloc_block.specs.declared.block.Kind.TheVariants.{BuddyChunk, FreeListChunk, FitChunk}
+use Rattle.gpu_alloc_block.specs.declared.block.Kind.{Kind}
 use Rattle.gpu_alloc_block.proofs.LiveSpans.{not_live, span_exact, span_total}
 use Rattle.gpu_alloc_block.proofs.Parts.ByName.{span_row_there}
 use Rattle.gpu_alloc_block.proofs.Parts.Entries.{there_entry}
@@ -30,30 +25,21 @@ use Rattle.gpu_alloc_freelist.specs.FreeListSound.{IsSoundFreeList}
 use Rattle.gpu_alloc_freelist.specs.FreeListState.{FreeListState, IsLiveSlot}
 use Rattle.gpu_alloc_fit.specs.FitSound.{IsSoundFit}
 use Rattle.gpu_alloc_runs.specs.Space.{IsLiveSlot as IsLiveFit}
-use Rattle.gpu_alloc.specs.Inside.{chunk_object, fit_object, list_object, span_of_leaf, span_of_slot}
+use Rattle.gpu_alloc_shared.specs.Rule.{Rule}
+use Rattle.gpu_alloc.specs.StoresFor.{span_of_leaf, span_of_slot}
 use Rattle.gpu_alloc.specs.Own.{OwnTable, own_held, own_span, IsRowOf}
 use Rattle.gpu_alloc.specs.declared.own.OwnRow.{OwnRow}
-use Rattle.gpu_alloc.specs.Whole.{own_part as part_of_own, buddy_part, fit_part, list_part, parts_of, whole, AreOneWhole, IsPartFor}
+use Rattle.gpu_alloc.specs.Stores.{block_span, chosen_part, chunk_row, list_part, part, parts_in}
+use Rattle.gpu_alloc.specs.Whole.{own_part as part_of_own, parts_of, whole, AreOneWhole, IsPartFor, part_at}
 use Rattle.gpu_alloc_fit.specs.Fit.{FitState}
+use Rattle.gpu_alloc.specs.declared.allocator.stores.TypeStores.{TypeStores}
 
 -- an object has one place
-pub single : (buddies lists i j : ℕ) (h : HeldObject) → IsPartFor buddies lists i h → IsPartFor buddies lists j h → i ≡ j
-single buddies lists zero zero h a b = refl
-single buddies lists zero (suc j) h a (inl b) = let both = ap is_shared (sym b.0) ∙ a in absurd (cc)
-single buddies lists zero (suc j) h a (inr (inl b)) = let both = ap is_shared (sym b.1) ∙ a in absurd (cc)
-single buddies lists zero (suc j) h a (inr (inr b)) = let both = ap is_shared (sym b.0) ∙ a in absurd (cc)
-single buddies lists (suc i) zero h (inl a) b = let both = ap is_shared (sym a.0) ∙ b in absurd (cc)
-single buddies lists (suc i) zero h (inr (inl a)) b = let both = ap is_shared (sym a.1) ∙ b in absurd (cc)
-single buddies lists (suc i) zero h (inr (inr a)) b = let both = ap is_shared (sym a.0) ∙ b in absurd (cc)
-single buddies lists (suc i) (suc j) h (inl a) (inl b) = ap suc (sym a.1 ∙ b.1)
-single buddies lists (suc i) (suc j) h (inl a) (inr (inl b)) = let both : BuddyChunk ≡ FreeListChunk b.0 = sym a.0 ∙ b.1 in absurd (cc)
-single buddies lists (suc i) (suc j) h (inl a) (inr (inr b)) = let both : BuddyChunk ≡ FitChunk = sym a.0 ∙ b.0 in absurd (cc)
-single buddies lists (suc i) (suc j) h (inr (inl a)) (inl b) = let both : BuddyChunk ≡ FreeListChunk a.0 = sym b.0 ∙ a.1 in absurd (cc)
-single buddies lists (suc i) (suc j) h (inr (inl a)) (inr (inl b)) = ap suc (sym a.2 ∙ b.2)
-single buddies lists (suc i) (suc j) h (inr (inl a)) (inr (inr b)) = let both : FitChunk ≡ FreeListChunk a.0 = sym b.0 ∙ a.1 in absurd (cc)
-single buddies lists (suc i) (suc j) h (inr (inr a)) (inl b) = let both : BuddyChunk ≡ FitChunk = sym b.0 ∙ a.0 in absurd (cc)
-single buddies lists (suc i) (suc j) h (inr (inr a)) (inr (inl b)) = let both : FitChunk ≡ FreeListChunk b.0 = sym a.0 ∙ b.1 in absurd (cc)
-single buddies lists (suc i) (suc j) h (inr (inr a)) (inr (inr b)) = ap suc (sym a.1 ∙ b.1)
+pub single : (i j : ℕ) (h : HeldObject) → IsPartFor i h → IsPartFor j h → i ≡ j
+single zero zero h a b = refl
+single zero (suc j) h a b = let both : true ≡ false = sym b.0 ∙ a in absurd (cc)
+single (suc i) zero h a b = let both : true ≡ false = sym a.0 ∙ b in absurd (cc)
+single (suc i) (suc j) h a b = ap suc (sym a.1 ∙ b.1)
 
 -- Where parts stand.
 
@@ -78,107 +64,81 @@ within [] i x at = absurd (cc)
 within (y ∷ ys) zero x at = omega arith
 within (y ∷ ys) (suc i) x at = let later = within ys i x at in omega (arith, later)
 
+pub there_at : {X : Type 0} (xs : List X) (i : ℕ) (x : X) → IsAt xs i x → slice_get xs i ≡ Some x
+there_at [] i x here = absurd here
+there_at (y ∷ ys) zero x here = ap Some here
+there_at (y ∷ ys) (suc i) x here = there_at ys i x here
+
 -- what is read of a place twice is one
 pub one_read : {A : Type 0} (xs : List A) (i : ℕ) (x y : A) → i < length xs → x ≡ get_or xs i x → y ≡ get_or xs i y → x ≡ y
 one_read [] i x y inside a b = absurd (omega (arith, inside))
 one_read (z ∷ zs) zero x y inside a b = a ∙ sym b
 one_read (z ∷ zs) (suc i) x y inside a b = one_read zs i x y (omega (arith, inside)) a b
 
-at_map : {A B : Type 0} (f : A → B) (xs : List A) (i : ℕ) (x : A) → IsAt xs i x → IsAt (map f xs) i (f x)
-at_map f [] i x at = absurd at
-at_map f (y ∷ ys) zero x at = ap f at
-at_map f (y ∷ ys) (suc i) x at = at_map f ys i x at
+-- Parts of one memory type.
 
-set_map : {A B : Type 0} (f : A → B) (xs : List A) (i : ℕ) (x : A) → set (map f xs) i (f x) ≡ map f (set xs i x)
-set_map f [] i x = refl
-set_map f (y ∷ ys) zero x = refl
-set_map f (y ∷ ys) (suc i) x = ap (λ zs. f y ∷ zs) (set_map f ys i x)
+abbrev pub two : {M X : Type 0} → TypeStores M X → List Part
+two e = chosen_part e.chosen ∷ list_part e.free_list ∷ []
 
--- among the first ones, and among those after them
+-- they stand among those of all
+pub type_part_at : {M X : Type 0} (ss : List (TypeStores M X)) (i : ℕ) (e : TypeStores M X) (side : ℕ) (p : Part) → IsAt ss i e → IsAt (two e) side p → IsAt (parts_in ss) (part_at i side) p
+type_part_at [] i e side p at of = absurd at
+type_part_at (f ∷ ss) zero e zero p at of = ap (λ (x : TypeStores _ _). chosen_part x.chosen) at ∙ of
+type_part_at (f ∷ ss) zero e (suc zero) p at of = ap (λ (x : TypeStores _ _). list_part x.free_list) at ∙ of
+type_part_at (f ∷ ss) zero e (suc (suc side)) p at of = absurd of
+type_part_at (f ∷ ss) (suc i) e side p at of = type_part_at ss i e side p at of
 
-at_first : {A B : Type 0} (f : A → B) (xs : List A) (ys : List B) (i : ℕ) (x : A) → IsAt xs i x → IsAt (map f xs ++ ys) i (f x)
-at_first f [] ys i x at = absurd at
-at_first f (z ∷ zs) ys zero x at = ap f at
-at_first f (z ∷ zs) ys (suc i) x at = at_first f zs ys i x at
+-- another one in its place is that of other stores
+pub type_part_set : {M X : Type 0} (ss : List (TypeStores M X)) (i : ℕ) (e new : TypeStores M X) (side : ℕ) (q : Part) → side < 2 → IsAt ss i e → set (two e) side q ≡ two new → set (parts_in ss) (part_at i side) q ≡ parts_in (set ss i new)
+type_part_set [] i e new side q small at is = absurd at
+type_part_set (f ∷ ss) zero e new zero q small at is = ap (λ (x : TypeStores _ _). set (two x) 0 q ++ parts_in ss) at ∙ ap (λ ps. ps ++ parts_in ss) is
+type_part_set (f ∷ ss) zero e new (suc zero) q small at is = ap (λ (x : TypeStores _ _). set (two x) 1 q ++ parts_in ss) at ∙ ap (λ ps. ps ++ parts_in ss) is
+type_part_set (f ∷ ss) zero e new (suc (suc side)) q small at is = absurd (omega (arith, small))
+type_part_set (f ∷ ss) (suc i) e new side q small at is = ap (λ ps. chosen_part f.chosen ∷ list_part f.free_list ∷ ps) (type_part_set ss i e new side q small at is)
 
-set_first : {A B : Type 0} (f : A → B) (xs : List A) (ys : List B) (i : ℕ) (x new : A) → IsAt xs i x → set (map f xs ++ ys) i (f new) ≡ map f (set xs i new) ++ ys
-set_first f [] ys i x new at = absurd at
-set_first f (z ∷ zs) ys zero x new at = refl
-set_first f (z ∷ zs) ys (suc i) x new at = ap (λ rest. f z ∷ rest) (set_first f zs ys i x new at)
-
--- the place after that many
-abbrev behind : {A : Type 0} → List A → ℕ → ℕ
-behind [] i = i
-behind (x ∷ xs) i = suc (behind xs i)
-
-behind_is : {A : Type 0} (xs : List A) (i : ℕ) → behind xs i ≡ length xs + i
-behind_is [] i = omega arith
-behind_is (x ∷ xs) i = omega (arith, behind_is xs i)
-
-stands_behind : {A B : Type 0} (f : A → B) (xs : List A) (ys : List B) (i : ℕ) (y : B) → IsAt ys i y → IsAt (map f xs ++ ys) (behind xs i) y
-stands_behind f [] ys i y at = at
-stands_behind f (z ∷ zs) ys i y at = stands_behind f zs ys i y at
-
-at_later : {A B : Type 0} (f : A → B) (xs : List A) (ys : List B) (i : ℕ) (y : B) → IsAt ys i y → IsAt (map f xs ++ ys) (length xs + i) y
-at_later f xs ys i y at = subst (λ n. IsAt (map f xs ++ ys) n y) (behind_is xs i) (stands_behind f xs ys i y at)
-
-set_behind : {A B : Type 0} (f : A → B) (xs : List A) (ys : List B) (i : ℕ) (new : B) → set (map f xs ++ ys) (behind xs i) new ≡ map f xs ++ set ys i new
-set_behind f [] ys i new = refl
-set_behind f (z ∷ zs) ys i new = ap (λ rest. f z ∷ rest) (set_behind f zs ys i new)
-
-set_later : {A B : Type 0} (f : A → B) (xs : List A) (ys : List B) (i : ℕ) (new : B) → set (map f xs ++ ys) (length xs + i) new ≡ map f xs ++ set ys i new
-set_later f xs ys i new = ap (λ n. set (map f xs ++ ys) n new) (sym (behind_is xs i)) ∙ set_behind f xs ys i new
-
--- which of both it is
-at_cases : {A B : Type 0} (f : A → B) (xs : List A) (ys : List B) (i : ℕ) (y : B) → IsAt (map f xs ++ ys) i y → ((x : A) × IsAt xs i x × (f x ≡ y)) ⊎ ((j : ℕ) × IsAt ys j y)
-at_cases f [] ys i y at = inr (i, at)
-at_cases f (z ∷ zs) ys zero y at = inl (z, refl, at)
-at_cases f (z ∷ zs) ys (suc i) y at = at_cases f zs ys i y at
-
-at_of_map : {A B : Type 0} (f : A → B) (xs : List A) (i : ℕ) (y : B) → IsAt (map f xs) i y → (x : A) × IsAt xs i x × (f x ≡ y)
-at_of_map f [] i y at = absurd at
-at_of_map f (x ∷ xs) zero y at = (x, refl, at)
-at_of_map f (x ∷ xs) (suc i) y at = at_of_map f xs i y at
+-- whose it is
+type_part_of : {M X : Type 0} (ss : List (TypeStores M X)) (spot : ℕ) (p : Part) → IsAt (parts_in ss) spot p → (i : ℕ) × (e : TypeStores M X) × IsAt ss i e × ((chosen_part e.chosen ≡ p) ⊎ (list_part e.free_list ≡ p))
+type_part_of [] spot p at = absurd at
+type_part_of (e ∷ ss) zero p at = (zero, e, refl, inl at)
+type_part_of (e ∷ ss) (suc zero) p at = (zero, e, refl, inr at)
+type_part_of (e ∷ ss) (suc (suc spot)) p at = let later = type_part_of ss spot p at in (suc later.0, later.1, later.2, later.3)
 
 -- Objects of one block.
 
-module _ (own : OwnTable) (buddies : List Buddy) (lists : List FreeListState) (fits : List FitState) (apart : AreOneWhole own buddies lists fits) where
+module _ {M X : Type 0} (own : OwnTable) (ss : List (TypeStores M X)) (apart : AreOneWhole own ss) where
   abbrev ps : List Part
-  ps = parts_of own buddies lists fits
+  ps = parts_of own ss
 
-  abbrev Place : ℕ → HeldObject → Type 0
-  Place = IsPartFor (length buddies) (length lists)
+  pub held_whole : (object : ℕ) (h : HeldObject) → finite.get own.held object ≡ Some h → finite.get (whole own ss).held object ≡ Some h
+  held_whole object h has = holds_of IsPartFor ps apart zero (part_of_own own) object h refl has
 
-  pub held_whole : (object : ℕ) (h : HeldObject) → finite.get own.held object ≡ Some h → finite.get (whole own buddies lists fits).held object ≡ Some h
-  held_whole object h has = holds_of Place ps apart zero (part_of_own own) object h refl has
+  pub held_here : (object : ℕ) (h : HeldObject) → finite.get (whole own ss).held object ≡ Some h → is_shared h.kind ≡ false → finite.get own.held object ≡ Some h
+  held_here object h is kind = own_part IsPartFor ps apart (single) zero (part_of_own own) object h is kind refl
 
-  pub held_here : (object : ℕ) (h : HeldObject) → finite.get (whole own buddies lists fits).held object ≡ Some h → is_shared h.kind ≡ false → finite.get own.held object ≡ Some h
-  held_here object h is kind = own_part Place ps apart (single (length buddies) (length lists)) zero (part_of_own own) object h is kind refl
-
-  pub unheld_here : (object : ℕ) → finite.get (whole own buddies lists fits).held object ≡ None → finite.get own.held object ≡ None
+  pub unheld_here : (object : ℕ) → finite.get (whole own ss).held object ≡ None → finite.get own.held object ≡ None
   unheld_here object none = none_at ps object none zero (part_of_own own) refl
 
-  pub live_here : (span : Span) (h : HeldObject) → IsTrue (set_of.contains (whole own buddies lists fits).live span) → finite.get own.held span.object ≡ Some h → IsTrue (set_of.contains own.live span)
-  live_here span h live has = part_span Place ps apart zero (part_of_own own) span h live has refl
+  pub live_here : (span : Span) (h : HeldObject) → IsTrue (set_of.contains (whole own ss).live span) → finite.get own.held span.object ≡ Some h → IsTrue (set_of.contains own.live span)
+  live_here span h live has = part_span IsPartFor ps apart zero (part_of_own own) span h live has refl
 
   module _ (now : OwnTable) where
-    pub own_comes : (span : Span) (h : HeldObject) → finite.get (whole own buddies lists fits).held span.object ≡ None → is_shared h.kind ≡ false
+    pub own_comes : (span : Span) (h : HeldObject) → finite.get (whole own ss).held span.object ≡ None → is_shared h.kind ≡ false
         → now.held ≡ finite.insert own.held span.object h → now.live ≡ set_of.insert own.live span
-        → Makes Place (parts_of now buddies lists fits) (finite.insert (whole own buddies lists fits).held span.object h) (set_of.insert (whole own buddies lists fits).live span)
-    own_comes span h none kind held live = object_comes Place ps apart zero (part_of_own own) (part_of_own now) refl span h none kind held live
+        → Makes IsPartFor (parts_of now ss) (finite.insert (whole own ss).held span.object h) (set_of.insert (whole own ss).live span)
+    own_comes span h none kind held live = object_comes IsPartFor ps apart zero (part_of_own own) (part_of_own now) refl span h none kind held live
 
     pub own_goes : (row : OwnRow) (object : ℕ) → IsRowOf own.held own.live object row → now.held ≡ finite.remove own.held object → now.live ≡ set_of.remove own.live (own_span row)
-        → Makes Place (parts_of now buddies lists fits) (finite.remove (whole own buddies lists fits).held object) (set_of.remove (whole own buddies lists fits).live (own_span row))
+        → Makes IsPartFor (parts_of now ss) (finite.remove (whole own ss).held object) (set_of.remove (whole own ss).live (own_span row))
     own_goes row object of held live =
-        subst (λ n. Makes Place (parts_of now buddies lists fits) (finite.remove (whole own buddies lists fits).held n) (set_of.remove (whole own buddies lists fits).live (own_span row))) of.named
-        (last_goes Place ps apart zero (part_of_own own) (part_of_own now) refl (own_span row) (own_held row) (ap (finite.get own.held) of.named ∙ of.is_held) (λ other stood same. of.alone other stood (same ∙ of.named))
+        subst (λ n. Makes IsPartFor (parts_of now ss) (finite.remove (whole own ss).held n) (set_of.remove (whole own ss).live (own_span row))) of.named
+        (last_goes IsPartFor ps apart zero (part_of_own own) (part_of_own now) refl (own_span row) (own_held row) (ap (finite.get own.held) of.named ∙ of.is_held) (λ other stood same. of.alone other stood (same ∙ of.named))
         (held ∙ ap (finite.remove own.held) (sym of.named)) live)
 
 -- Room is made for one more, and nothing else changes.
 
-module _ (own now : OwnTable) (buddies : List Buddy) (lists : List FreeListState) (fits : List FitState) (apart : AreOneWhole own buddies lists fits) (kept : now ≡ record own { room = now.room }) (object : ℕ) (none : finite.get (whole own buddies lists fits).held object ≡ None) where
+module _ {M X : Type 0} (own now : OwnTable) (ss : List (TypeStores M X)) (apart : AreOneWhole own ss) (kept : now ≡ record own { room = now.room }) (object : ℕ) (none : finite.get (whole own ss).held object ≡ None) where
   pub unheld_then : finite.get now.held object ≡ None
-  unheld_then = ap (λ (x : OwnTable). finite.get x.held object) kept ∙ unheld_here own buddies lists fits apart object none
+  unheld_then = ap (λ (x : OwnTable). finite.get x.held object) kept ∙ unheld_here own ss apart object none
 
 -- A memory type's buddy allocator.
 
@@ -186,110 +146,66 @@ module _ (own now : OwnTable) (buddies : List Buddy) (lists : List FreeListState
 pub one_buddy : (b : Buddy) → IsSoundBuddy b → (x y : Leaf) → IsLiveBuddyLeaf b x → IsLiveBuddyLeaf b y → ◌≡◌ {A = Span} (span_of_leaf x) (span_of_leaf y) → x ≡ y
 one_buddy b sound x y live also same = one_leaf (space_of b) sound.space x y live also (ap (λ (s : Span). s.object) same) (ap (λ (s : Span). s.offset) same)
 
--- where its part stands, and another one in its place
-module _ (own : OwnTable) (buddies : List Buddy) (lists : List FreeListState) (fits : List FitState) (index : ℕ) (b : Buddy) (at : IsAt buddies index b) where
-  pub at_buddy : IsAt (parts_of own buddies lists fits) (suc index) (buddy_part b)
-  at_buddy = at_first buddy_part buddies (map list_part lists ++ map fit_part fits) index b at
+-- A memory type's free list, and its allocator of fit chunks.
 
-  pub set_buddy : (new : Buddy) → set (parts_of own buddies lists fits) (suc index) (buddy_part new) ≡ parts_of own (set buddies index new) lists fits
-  set_buddy new = ap (λ ps. part_of_own own ∷ ps) (set_first buddy_part buddies (map list_part lists ++ map fit_part fits) index b new at)
-
--- A memory type's free list.
-
--- no two live slots have one span
-pub one_slot : (l : FreeListState) → IsSoundFreeList l → (a b : Slot) → IsLiveSlot l.space a → IsLiveSlot l.space b → ◌≡◌ {A = Span} (span_of_slot a) (span_of_slot b) → a ≡ b
-one_slot l sound a b live_a live_b same =
-    let in_a = sound.space.inside a live_a in
-    let in_b = sound.space.inside b live_b in
-    let objects = sym in_a.object ∙ ap (λ (s : Span). s.object) same ∙ in_b.object in
-    let number = sound.one_object a.chunk b.chunk in_a.chunk in_b.chunk in_a.held in_b.held objects in
-    λ k. record { object = (same k).object; chunk = number k; offset = (same k).offset; size = (same k).size }
-
--- where its part stands, and another one in its place
-module _ (own : OwnTable) (buddies : List Buddy) (lists : List FreeListState) (fits : List FitState) (index : ℕ) (l : FreeListState) (at : IsAt lists index l) where
-  pub at_list : IsAt (parts_of own buddies lists fits) (suc (length buddies + index)) (list_part l)
-  at_list = at_later buddy_part buddies (map list_part lists ++ map fit_part fits) index (list_part l) (at_first list_part lists (map fit_part fits) index l at)
-
-  pub set_list : (new : FreeListState) → set (parts_of own buddies lists fits) (suc (length buddies + index)) (list_part new) ≡ parts_of own buddies (set lists index new) fits
-  set_list new = ap (λ ps. part_of_own own ∷ ps) (set_later buddy_part buddies (map list_part lists ++ map fit_part fits) index (list_part new)
-      ∙ ap (λ ys. map buddy_part buddies ++ ys) (set_first list_part lists (map fit_part fits) index l new at))
-
--- A memory type's allocator of fit chunks.
-
--- no two live slots have one span
-pub one_fit : (f : FitState) → IsSoundFit f → (a b : Slot) → IsLiveFit f.space a → IsLiveFit f.space b → ◌≡◌ {A = Span} (span_of_slot a) (span_of_slot b) → a ≡ b
-one_fit f sound a b live_a live_b same =
-    let in_a = sound.space.inside a live_a in
-    let in_b = sound.space.inside b live_b in
-    let objects = sym in_a.object ∙ ap (λ (s : Span). s.object) same ∙ in_b.object in
-    let key = sound.space.one_object a.chunk b.chunk in_a.chunk in_b.chunk in_a.held in_b.held objects in
+-- slots of chunks with objects of their own are one where their spans are
+same_slot : (chunks : Chunks) → HaveOwnObjects chunks → {a b : Slot} {c d : Chunk} → finite.get chunks a.chunk ≡ Some c → a.object ≡ c.object → finite.get chunks b.chunk ≡ Some d → b.object ≡ d.object → ◌≡◌ {A = Span} (span_of_slot a) (span_of_slot b) → a ≡ b
+same_slot chunks one {a} {b} {c} {d} held_a of_a held_b of_b same =
+    let key = one a.chunk b.chunk c d held_a held_b (sym of_a ∙ ap (λ (s : Span). s.object) same ∙ of_b) in
     λ k. record { object = (same k).object; chunk = key k; offset = (same k).offset; size = (same k).size }
 
--- where its part stands, and another one in its place
-module _ (own : OwnTable) (buddies : List Buddy) (lists : List FreeListState) (fits : List FitState) (index : ℕ) where
-  pub at_fit : (f : FitState) → IsAt fits index f → IsAt (parts_of own buddies lists fits) (suc (length buddies + (length lists + index))) (fit_part f)
-  at_fit f at = at_later buddy_part buddies (map list_part lists ++ map fit_part fits) (length lists + index) (fit_part f) (at_later list_part lists (map fit_part fits) index (fit_part f) (at_map fit_part fits index f at))
+-- so no two live slots have one span
+pub one_slot : (l : FreeListState) → IsSoundFreeList l → (a b : Slot) → IsLiveSlot l.space a → IsLiveSlot l.space b → ◌≡◌ {A = Span} (span_of_slot a) (span_of_slot b) → a ≡ b
+one_slot l sound a b live also = let lies = sound.space.inside in same_slot _ sound.one_object (lies a live).held (lies a live).object (lies b also).held (lies b also).object
 
-  pub set_fit : (new : FitState) → set (parts_of own buddies lists fits) (suc (length buddies + (length lists + index))) (fit_part new) ≡ parts_of own buddies lists (set fits index new)
-  set_fit new = ap (λ ps. part_of_own own ∷ ps) (set_later buddy_part buddies (map list_part lists ++ map fit_part fits) (length lists + index) (fit_part new)
-      ∙ ap (λ ys. map buddy_part buddies ++ ys) (set_later list_part lists (map fit_part fits) index (fit_part new) ∙ ap (λ ys. map list_part lists ++ ys) (set_map fit_part fits index new)))
+pub one_fit : (f : FitState) → IsSoundFit f → (a b : Slot) → IsLiveFit f.space a → IsLiveFit f.space b → ◌≡◌ {A = Span} (span_of_slot a) (span_of_slot b) → a ≡ b
+one_fit f sound a b live also = let lies = sound.space.inside in same_slot _ sound.space.one_object (lies a live).held (lies a live).object (lies b also).held (lies b also).object
 
 -- Where nothing is held.
 
-module _ (own : OwnTable) (buddies : List Buddy) (lists : List FreeListState) (fits : List FitState) (held : own.held ≡ finite.empty) (live : own.live ≡ set_of.empty) (no_buddy : (i : ℕ) (b : Buddy) → IsAt buddies i b → (b.chunks ≡ finite.empty) × (b.live ≡ set_of.empty))
-    (no_list : (i : ℕ) (l : FreeListState) → IsAt lists i l → (l.space.chunks ≡ finite.empty) × (l.space.live ≡ set_of.empty))
-    (no_fit : (i : ℕ) (f : FitState) → IsAt fits i f → (f.space.chunks ≡ finite.empty) × (f.space.live ≡ set_of.empty)) where
-  no_name : (g : ℕ → Chunk → HeldObject) (chunks : Chunks) → chunks ≡ finite.empty → (object : ℕ) → finite.get (by_name g chunks) object ≡ None
-  no_name g chunks is object =
-      named_absent nat_cmp_total nat_cmp-IsAntisymmetric (λ (e : ℕ × Chunk). e.1.object) (λ e. g e.0 e.1) (finite.entries chunks) object (λ e has same.
-      let at = there_entry chunks e.0 e.1 has in
-      let none = ap (λ (m : Chunks). finite.get m e.0) is ∙ finite.get-empty nat_cmp e.0 in
-      absurd (cc))
+pub record HoldsNone (p : Part) : Type 0 where
+  pub held : (object : ℕ) → finite.get p.held object ≡ None
+  pub live : (span : Span) → HasLive p span → ⊥
 
-  none_held : (i : ℕ) (p : Part) (object : ℕ) → IsAt (parts_of own buddies lists fits) i p → finite.get p.held object ≡ None
-  none_held zero p object at = ap (λ (x : Part). finite.get x.held object) (sym at) ∙ ap (λ (m : Held). finite.get m object) held ∙ finite.get-empty nat_cmp object
-  none_held (suc i) p object at = elim (at_cases buddy_part buddies (map list_part lists ++ map fit_part fits) i p at) [
-    | inl b ↦ ap (λ (x : Part). finite.get x.held object) (sym b.2) ∙ no_name (λ _ c. chunk_object b.0 c) b.0.chunks (no_buddy i b.0 b.1).0 object
-    | inr later ↦ elim (at_cases list_part lists (map fit_part fits) later.0 p later.1) [
-      | inl l ↦ ap (λ (x : Part). finite.get x.held object) (sym l.2) ∙ no_name (list_object l.0) l.0.space.chunks (no_list later.0 l.0 l.1).0 object
-      | inr last ↦
-          let f = at_of_map fit_part fits last.0 p last.1 in
-          ap (λ (x : Part). finite.get x.held object) (sym f.2) ∙ no_name (λ _ c. fit_object f.0 c) f.0.space.chunks (no_fit last.0 f.0 f.1).0 object
-    ]
-  ]
+-- a store with no chunk and no block
+pub no_part : {T A B : Type 0} (r : Rule T A B) → IsTotalOrder r.order → IsAntisymmetric r.order → (kind : ℕ → Kind) (x : T) → r.chunks x ≡ finite.empty → r.live x ≡ set_of.empty → HoldsNone (part r kind x)
+no_part r total exact kind x chunks live = record {
+  held = λ object.
+      named_absent nat_cmp_total nat_cmp-IsAntisymmetric (λ (e : ℕ × Chunk). e.1.object) (λ e. chunk_row r kind x e.0 e.1) (finite.entries (r.chunks x)) object (λ e has same.
+      let at = there_entry (r.chunks x) e.0 e.1 has in
+      let none = ap (λ (m : Chunks). finite.get m e.0) chunks ∙ finite.get-empty nat_cmp e.0 in
+      absurd (cc));
+  live = λ span has.
+      let row = span_row_there total exact (block_span r) (r.live x) span has in
+      let none = ap (λ (s : set_of.FinSet r.order). set_of.contains s row.0) live ∙ set_of.contains-empty r.order row.0 in
+      let bad : false ≡ true = sym none ∙ row.1 in
+      absurd (cc);
+}
 
-  none_live : (i : ℕ) (p : Part) (span : Span) → IsAt (parts_of own buddies lists fits) i p → HasLive p span → ⊥
-  none_live zero p span at has =
-      let none = ap (λ (x : Part). set_of.contains x.live span) (sym at) ∙ ap (λ (l : Live). set_of.contains l span) live ∙ set_of.contains-empty span_cmp span in
-      let bad : false ≡ true = sym none ∙ has in cc
-  none_live (suc i) p span at has = elim (at_cases buddy_part buddies (map list_part lists ++ map fit_part fits) i p at) [
-    | inl b ↦
-        let row = span_row_there leaf_total leaf_exact span_of_leaf b.0.live span (subst (λ (x : Part). HasLive x span) (sym b.2) has) in
-        let none = ap (λ (s : set_of.FinSet leaf_cmp). set_of.contains s row.0) (no_buddy i b.0 b.1).1 ∙ set_of.contains-empty leaf_cmp row.0 in
-        let bad : false ≡ true = sym none ∙ row.1 in cc
-    | inr later ↦ elim (at_cases list_part lists (map fit_part fits) later.0 p later.1) [
-      | inl l ↦
-          let row = span_row_there slot_total slot_exact span_of_slot l.0.space.live span (subst (λ (x : Part). HasLive x span) (sym l.2) has) in
-          let none = ap (λ (s : set_of.FinSet slot_cmp). set_of.contains s row.0) (no_list later.0 l.0 l.1).1 ∙ set_of.contains-empty slot_cmp row.0 in
-          let bad : false ≡ true = sym none ∙ row.1 in cc
-      | inr last ↦
-          let f = at_of_map fit_part fits last.0 p last.1 in
-          let row = span_row_there slot_total slot_exact span_of_slot f.0.space.live span (subst (λ (x : Part). HasLive x span) (sym f.2) has) in
-          let none = ap (λ (s : set_of.FinSet slot_cmp). set_of.contains s row.0) (no_fit last.0 f.0 f.1).1 ∙ set_of.contains-empty slot_cmp row.0 in
-          let bad : false ≡ true = sym none ∙ row.1 in cc
-    ]
-  ]
+module _ {M X : Type 0} (own : OwnTable) (ss : List (TypeStores M X)) (held : own.held ≡ finite.empty) (live : own.live ≡ set_of.empty) (none : (i : ℕ) (e : TypeStores M X) → IsAt ss i e → HoldsNone (chosen_part e.chosen) × HoldsNone (list_part e.free_list)) where
+  none_in : (i : ℕ) (p : Part) → IsAt (parts_of own ss) i p → HoldsNone p
+  none_in zero p at = subst HoldsNone at (record {
+    held = λ object. ap (λ (m : Held). finite.get m object) held ∙ finite.get-empty nat_cmp object;
+    live = λ span has. (let bad : false ≡ true = sym (ap (λ (l : Live). set_of.contains l span) live ∙ set_of.contains-empty span_cmp span) ∙ has in absurd (cc));
+  })
+  none_in (suc i) p at =
+      let of = type_part_of ss i p at in
+      let both = none of.0 of.1 of.2 in
+      elim of.3 [
+        | inl is ↦ subst HoldsNone is both.0
+        | inr is ↦ subst HoldsNone is both.1
+      ]
 
-  pub nothing_held : (whole own buddies lists fits).held ≡ finite.empty
-  nothing_held = finite.same_map nat_cmp_total nat_cmp-IsAntisymmetric _ _ (λ q. none_of (parts_of own buddies lists fits) q (λ i p at. none_held i p q at) ∙ sym (finite.get-empty nat_cmp q))
+  pub nothing_held : (whole own ss).held ≡ finite.empty
+  nothing_held = finite.same_map nat_cmp_total nat_cmp-IsAntisymmetric _ _ (λ q. none_of (parts_of own ss) q (λ i p at. (none_in i p at).held q) ∙ sym (finite.get-empty nat_cmp q))
 
-  pub nothing_live : (whole own buddies lists fits).live ≡ set_of.empty
+  pub nothing_live : (whole own ss).live ≡ set_of.empty
   nothing_live = set_of.same_set span_total span_exact _ _ (λ q.
-      not_live (whole own buddies lists fits).live q (λ stands. let there = live_at (parts_of own buddies lists fits) q stands in none_live there.0 there.1 q there.2 there.3) ∙ sym (set_of.contains-empty span_cmp q))
+      not_live (whole own ss).live q (λ stands. let there = live_at (parts_of own ss) q stands in (none_in there.0 there.1 there.2).live q there.3) ∙ sym (set_of.contains-empty span_cmp q))
 
-  pub apart_unused : AreOneWhole own buddies lists fits
+  pub apart_unused : AreOneWhole own ss
   apart_unused = record {
-    placed = λ i p object h at has. absurd (let none = none_held i p object at in cc);
-    once = λ i j p q object h k at also has had. absurd (let none = none_held i p object at in cc);
-    inside = λ i p span at has. absurd (none_live i p span at has);
+    placed = λ i p object h at has. absurd (let no = (none_in i p at).held object in cc);
+    once = λ i j p q object h k at also has had. absurd (let no = (none_in i p at).held object in cc);
+    inside = λ i p span at has. absurd ((none_in i p at).live span has);
   }

@@ -26,6 +26,7 @@ pub mod Serving
 pub mod Sound
 pub mod Spans
 pub mod Stores
+pub mod StoresFor
 pub mod Types
 pub mod UnderKeys
 pub mod Whole
@@ -71,6 +72,7 @@ pub use Rattle.gpu_alloc_freelist.specs.FreeListSound
 pub use Rattle.gpu_alloc_freelist.specs.FreeListState
 pub use Rattle.gpu_alloc_pairs.specs.Space
 pub use Rattle.gpu_alloc_pairs.specs.Store
+pub use Rattle.gpu_alloc_shared.specs.Sized
 pub use Rattle.gpu_alloc_usage.specs.KeyByKey
 pub use Rattle.gpu_alloc_usage.specs.Masks
 pub use Rattle.gpu_alloc_usage.specs.Ranked

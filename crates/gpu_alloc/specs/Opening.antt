@@ -15,11 +15,14 @@ use Rattle.gpu_alloc_freelist.specs.FreeListSound as list_sound
 use Rattle.gpu_alloc_freelist.specs.FreeListState.{FreeListState}
 use Rattle.gpu_alloc_block.specs.State.{State}
 use Rattle.gpu_alloc_block.specs.declared.sharing.Sharing.{Sharing}
-use Rattle.gpu_alloc_block.specs.declared.sharing.Sharing.TheVariants.{Buddy as SharingBuddy}
+use Rattle.gpu_alloc_block.specs.declared.sharing.Sharing.TheVariants.{Buddy as SharingBuddy, Fit as SharingFit}
 use Rattle.gpu_alloc_base.specs.Sizes.{minimal_size, initial_size, starting_size, final_size}
 use Rattle.gpu_alloc.specs.FirstTypes.{first_types}
 use Rattle.gpu_alloc.specs.FitSharing.{grain, largest_fit}
 use Rattle.gpu_alloc_base.specs.declared.config.Config.{Config}
+use Rattle.gpu_alloc.specs.declared.allocator.stores.Chosen.{Chosen}
+use Rattle.gpu_alloc.specs.declared.allocator.stores.Chosen.TheVariants.{Buddy as InBuddies, Fit as InFits}
+use Rattle.gpu_alloc.specs.declared.allocator.stores.TypeStores.{TypeStores}
 
 -- the size of an offered heap
 abbrev pub size_of_heap : MemoryHeap → ℕ
@@ -49,9 +52,6 @@ first_buddy c p t =
     let heap = heap_size p t in
     buddy.opened (minimal_size c heap) (initial_size c heap) t (props_at p t) (atom_of p t)
 
-abbrev pub AreFirstBuddies : Config → Properties → List Buddy → Type 0
-AreFirstBuddies c p buddies = (t : ℕ) → IfSome (slice_get buddies t) (λ b. (b ≡ first_buddy c p t) × IsSoundBuddy b)
-
 -- a memory type's free list, with no chunk
 abbrev pub first_listing : Config → Properties → ℕ → FreeListState
 first_listing c p t =
@@ -66,10 +66,12 @@ first_fitting c p t =
     let g = grain (atom_of p t) in
     fit.opened (starting_size c heap g) (largest_fit c heap g) t (props_at p t) g
 
-abbrev pub AreFirstFits : Config → Properties → List FitState → Type 0
-AreFirstFits c p fits =
-    (t : ℕ) → IfSome (slice_get fits t) (λ f. (f ≡ first_fitting c p t) × fit_sound.IsSoundFit f)
+module _ {M X : Type 0} where
+  -- a memory type's store of the kind that is chosen, with no chunk
+  abbrev pub IsFirstStore : Sharing → Config → Properties → ℕ → Chosen M X → Type 0
+  IsFirstStore sharing c p t (InBuddies b) = (sharing ≡ SharingBuddy) × ((b ≡ first_buddy c p t) × IsSoundBuddy b)
+  IsFirstStore sharing c p t (InFits f) = (sharing ≡ SharingFit) × ((f ≡ first_fitting c p t) × fit_sound.IsSoundFit f)
 
-abbrev pub AreFirstFreeLists : Config → Properties → List FreeListState → Type 0
-AreFirstFreeLists c p lists =
-    (t : ℕ) → IfSome (slice_get lists t) (λ l. (l ≡ first_listing c p t) × list_sound.IsSoundFreeList l)
+  abbrev pub AreFirst : Sharing → Config → Properties → List (TypeStores M X) → Type 0
+  AreFirst sharing c p stores = (t : ℕ) → IfSome (slice_get stores t) (λ e. IsFirstStore sharing c p t e.chosen
+      × ((e.free_list ≡ first_listing c p t) × list_sound.IsSoundFreeList e.free_list))

@@ -24,7 +24,6 @@ ghost use Rattle.gpu_alloc.specs.Request.{IsAskable};
 ghost use Rattle.gpu_alloc.specs.Sound as Sound;
 ghost use Rattle.gpu_alloc_block.specs.State.{HeldObject, Span, IsLive, IsOwned, ledger, total};
 
-mod by_type;
 mod candidates;
 mod choosing;
 mod heaps;
@@ -37,24 +36,22 @@ mod owning;
 mod ranges;
 mod returning;
 mod serving;
+mod stores;
 mod uncounted;
 
 use crate::limits::Limits;
 use crate::own::{OwnObjects, OwnRow};
 use crate::request::is_required;
 use crate::{Dedicated, MemoryBlock, Request};
-use by_type::{close_buddies, close_fits, close_free_lists};
 use gpu_alloc_base::heap::Heap;
 use gpu_alloc_base::{AllocationError, booking, buddy_block, free_list_block};
 use gpu_alloc_block::{Kind, Sharing};
-use gpu_alloc_buddy::BuddyAllocator;
-use gpu_alloc_fit::FitAllocator;
-use gpu_alloc_freelist::FreeListAllocator;
 use gpu_alloc_types::{MemoryObject, ObjectDevice, OutOfMemory, UsageFlags};
 use gpu_alloc_usage::meaning;
 use std::alloc::{Allocator, Global};
 use std::marker::{Brand, Model};
 use std::sync::ledger::Blank;
+use stores::{Chosen, TypeStores, close_stores};
 
 /// How a memory type serves a request.
 #[derive(Clone, Copy)]
@@ -83,9 +80,7 @@ struct Ask {
 pub struct GpuAllocator<M: MemoryObject, A: Allocator = Global> {
     limits: Limits<A>,
     heaps: Vec<Heap, A>,
-    buddies: Vec<BuddyAllocator<M, A>, A>,
-    free_lists: Vec<FreeListAllocator<M, A>, A>,
-    fits: Vec<FitAllocator<M, A>, A>,
+    types: Vec<TypeStores<M, A>, A>,
     own: OwnObjects<A>,
     allocations_remains: u32,
 }
@@ -101,11 +96,11 @@ impl<M: MemoryObject, A: Allocator> Model for GpuAllocator<M, A> {
     ghost use Rattle.gpu_alloc.specs.Inside.{state_in, properties_in};
     ghost use Rattle.gpu_alloc.specs.Whole.{whole, IsKept};
 
-    ghost view = { λ a. state_in a.limits a.heaps.items a.buddies.items a.free_lists.items a.fits.items
-        (whole a.own a.buddies.items a.free_lists.items a.fits.items) a.allocations_remains };
+    ghost view = { λ a. state_in a.limits a.heaps.items a.types.items (whole a.own a.types.items)
+        a.allocations_remains };
 
     ghost invariant = { λ a. IsKept a.limits.sharing a.limits.config (properties_in a.limits a.heaps.items)
-        a.heaps.items a.buddies.items a.free_lists.items a.fits.items a.own a.allocations_remains };
+        a.heaps.items a.types.items a.own a.allocations_remains };
 }
 
 impl<M: MemoryObject, A: Allocator> GpuAllocator<M, A> {
@@ -118,8 +113,8 @@ impl<M: MemoryObject, A: Allocator> GpuAllocator<M, A> {
     /// is too large for the largest free-list chunk, in whole atoms, gets an object of its own too. (The thresholds are
     /// the original crate's rule.)
     ///
-    /// Any other request gets a block of a shared chunk. Each memory type has a buddy allocator, a free list and an
-    /// allocator of fit chunks:
+    /// Any other request gets a block of a shared chunk. Each memory type has a free list, and a buddy allocator or an
+    /// allocator of fit chunks, as was chosen:
     ///
     /// - Without `TRANSIENT`, where buddy chunks were chosen, the block comes from a buddy chunk. Its size is the least
     ///   power of two, in bytes, that is not below the request's size and alignment, the type's atom and the smallest
@@ -461,8 +456,11 @@ impl<M: MemoryObject, A: Allocator> GpuAllocator<M, A> {
     {
         let heap = self.limits.heap_index(memory_type);
         let flags = self.limits.flags();
+        let Chosen::Buddy(buddy) = &mut self.types[memory_type as usize].chosen else {
+            unreachable!()
+        };
         let answer = uncounted::alloc::<M, A, D, Brand, Brand>(
-            &mut self.buddies[memory_type as usize],
+            buddy,
             device,
             request.size,
             request.align_mask,
@@ -508,7 +506,7 @@ impl<M: MemoryObject, A: Allocator> GpuAllocator<M, A> {
     {
         let heap = self.limits.heap_index(memory_type);
         let flags = self.limits.flags();
-        let answer = self.free_lists[memory_type as usize].alloc(
+        let answer = self.types[memory_type as usize].free_list.alloc(
             device,
             request.size,
             request.align_mask,
@@ -553,8 +551,11 @@ impl<M: MemoryObject, A: Allocator> GpuAllocator<M, A> {
     {
         let heap = self.limits.heap_index(memory_type);
         let flags = self.limits.flags();
+        let Chosen::Fit(fit) = &mut self.types[memory_type as usize].chosen else {
+            unreachable!()
+        };
         let answer = uncounted::alloc_fit::<M, A, D, Brand>(
-            &mut self.fits[memory_type as usize],
+            fit,
             device,
             request.size,
             request.align_mask,
@@ -715,14 +716,12 @@ impl<M: MemoryObject, A: Allocator> GpuAllocator<M, A> {
         ensures { result ≡ map.len self.now.held }
     {
         let mut count = self.own.len();
-        for buddy in self.buddies.iter() {
-            count += buddy.chunks().len();
-        }
-        for list in self.free_lists.iter() {
-            count += list.chunks().len();
-        }
-        for fit in self.fits.iter() {
-            count += fit.chunks().len();
+        for stores in self.types.iter() {
+            count += match &stores.chosen {
+                Chosen::Buddy(buddy) => buddy.chunks().len(),
+                Chosen::Fit(fit) => fit.chunks().len(),
+            };
+            count += stores.free_list.chunks().len();
         }
         count as u32
     }
@@ -743,15 +742,11 @@ impl<M: MemoryObject, A: Allocator> GpuAllocator<M, A> {
         let GpuAllocator {
             limits: _,
             heaps: _,
-            buddies,
-            free_lists,
-            fits,
+            types,
             own: _,
             allocations_remains: _,
         } = self;
-        close_buddies(buddies);
-        close_free_lists(free_lists);
-        close_fits(fits);
+        close_stores(types);
     }
 }
 

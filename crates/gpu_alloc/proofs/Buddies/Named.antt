@@ -1,6 +1,5 @@
 -- Buddy chunks in the whole allocator: where their allocators stand among the fields, and their requests by names.
-use Rattle.std.proofs.Common.{◌≡◌, inl, inr, ℕ, zero, suc, ◌+◌, ◌*◌, ◌^◌, List, [], ◌∷◌, Some, cond, nat_le, true, false, refl, sym, ◌∙◌, ap, subst, arith}
-use Rattle.std.proofs.lemmas.List.{length-set}
+use Rattle.std.proofs.Common.{◌≡◌, inl, inr, ℕ, zero, suc, ◌+◌, ◌*◌, ◌^◌, List, [], ◌∷◌, Some, cond, nat_le, true, false, refl, sym, ◌∙◌, ap, subst, arith, Option, None}
 use Rattle.std.proofs.lemmas.Nat.{pow_pos}
 use Rattle.std.specs.Prelude.{max}
 use Rattle.std.specs.FinMap as map
@@ -29,21 +28,33 @@ use Rattle.gpu_alloc_shared.specs.Shared.{without_block}
 use Rattle.gpu_alloc.specs.BuddySharing.{HasBuddyPlace, buddy_block, buddy_question, next_chunk_of, object_front, with_buddy_chunk, with_next_chunk}
 use Rattle.gpu_alloc.specs.Candidates.{IsFrontBlock, buddy_candidate, candidate}
 use Rattle.gpu_alloc.specs.FreeBytes.{IsFreeByte}
-use Rattle.gpu_alloc.specs.Inside.{IsBuddyFor, IsForType, fits_in, lists_in, types_in}
+use Rattle.gpu_alloc.specs.StoresFor.{IsBuddyFor, IsForType}
+use Rattle.gpu_alloc.specs.Stores.{IsChosenFor, chosen_part, chosen_sizes}
+use Rattle.gpu_alloc.specs.Whole.{part_side}
+use Rattle.gpu_alloc.specs.declared.allocator.stores.Chosen.{Chosen}
+use Rattle.gpu_alloc.specs.declared.allocator.stores.Chosen.TheVariants.{Buddy as InBuddies, Fit as InFits}
 use Rattle.gpu_alloc.specs.declared.allocator.Strategy.TheVariants.{InBuddyChunk}
 use Rattle.gpu_alloc.specs.declared.request.Request.{Request}
 use Rattle.gpu_alloc.proofs.Shared.Calls.{IsBlockOf, ReleasesAtOnce}
 use Rattle.gpu_alloc.proofs.Shared.Free.{IsCopy, piece_from, piece_to, some_place_from, some_place_to}
 use Rattle.gpu_alloc.proofs.Shared.Stores.{AreAsked, IsLinked, IsNamed, IsPlain, IsRequest, Named, Serves, block_at, table_of, bytes_are, unused_is, unused_was}
-use Rattle.gpu_alloc.proofs.Shared.Types.{changed, types_changed, types_set}
-use Rattle.gpu_alloc.proofs.Wholes.{at_buddy, one_buddy, set_buddy}
+use Rattle.gpu_alloc.proofs.Shared.Types.{changed}
+use Rattle.gpu_alloc.proofs.Wholes.{one_buddy}
+
+abbrev pub buddy_in : {M X : Type 0} → Chosen M X → Option Buddy
+buddy_in (InBuddies b) = Some b
+buddy_in (InFits f) = None
+
+chosen_is : {M X : Type 0} (c : Chosen M X) (x : Buddy) → buddy_in c ≡ Some x → c ≡ InBuddies x
+chosen_is (InBuddies b) x is = (let it : b ≡ x = cc in ap InBuddies it)
+chosen_is (InFits f) x is = absurd (cc)
 
 abbrev pub buddy_named : Named buddy_rule
 buddy_named = record {
   kind = λ key. BuddyChunk;
-  all = λ ss. ss.buddies;
-  with_all = λ ss buddies. record ss { buddies = buddies };
-  spot = λ ss i. suc i;
+  get = λ e. buddy_in e.chosen;
+  put = λ e b. record e { chosen = InBuddies b };
+  side = 0;
   IsFor = IsBuddyFor;
   IsOf = IsForType;
   sizes = λ b type. record type { next_chunk = b.next_chunk };
@@ -73,24 +84,21 @@ buddy_is_named = record {
   shared = λ key. refl;
   total = leaf_total;
   exact = leaf_exact;
-  all_are = λ ss buddies. refl;
-  same = λ ss. refl;
-  twice = λ ss buddies also. refl;
-  spots = λ ss i b. (length-set ss.buddies i b, refl);
-  part_at = λ own ss i b at. at_buddy own ss.buddies ss.lists ss.fits i b at;
-  part_set = λ own ss i b new at. set_buddy own ss.buddies ss.lists ss.fits i b at new;
-  placed = λ ss i key h inside kind type. inl (kind, type, inside);
-  each = λ c p ss are. (are.buddies.count, are.buddies.each);
-  are = λ c p ss buddies are each. record { buddies = record { count = each.0; each = each.1 }; lists = are.lists; fits = are.fits };
+  got = λ e b. refl;
+  same = λ e b is k. record e { chosen = sym (chosen_is e.chosen b is) k };
+  twice = λ e b new. refl;
+  part_there = λ e b is. ap chosen_part (chosen_is e.chosen b is);
+  part_set = λ e b new is. refl;
+  side_small = omega arith;
+  placed = λ key kind is. ap part_side is;
+  each = λ c p sharing i e b are is. (subst (IsChosenFor c p sharing i) (chosen_is e.chosen b is) are.chosen).1;
+  each_put = λ c p sharing i e b new are is of. record { chosen = ((subst (IsChosenFor c p sharing i) (chosen_is e.chosen b is) are.chosen).0, of); free_list = are.free_list };
   for_is = λ c p i b is. (is.for_type, is.sound);
   for_of = λ c p i b of sound. record { for_type = of; sound = sound };
   of_type = λ c p i b of. (of.memory_type, of.props);
   of_less = λ c p i b chunks live of fewer. record { memory_type = of.memory_type; props = of.props; atom = of.atom; minimal = of.minimal };
   of_more = λ c p i b heap order leaf of sound begins now. record { memory_type = of.memory_type; props = of.props; atom = of.atom; minimal = of.minimal };
-  types_set = λ types ss i b.
-      ap (λ ts. fits_in (lists_in ts ss.lists) ss.fits) (types_set _ b (λ y type. refl) types ss.buddies i)
-      ∙ ap (λ ts. fits_in ts ss.fits) (types_changed _ _ (λ l type. refl) (types_in types ss.buddies) ss.lists i)
-      ∙ types_changed _ _ (λ f type. refl) (lists_in (types_in types ss.buddies) ss.lists) ss.fits i;
+  types_put = λ e b new type is k. record (chosen_sizes (sym (chosen_is e.chosen b is) k) (record type { list_chunk = e.free_list.next_chunk; number = e.free_list.space.latest })) { next_chunk = new.next_chunk };
   sizes_kept = λ b chunks live. refl;
   grown = λ s i b heap order leaf serves begins.
       let types_now = next_changed s.types i _ ∙ (λ k. changed (λ type. record type { next_chunk = sym (size_is s i b order serves) k }) s.types i) in

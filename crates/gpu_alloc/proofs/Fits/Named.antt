@@ -1,5 +1,5 @@
 -- Fit chunks in the whole allocator: where their allocators stand among the fields, and their requests by names.
-use Rattle.std.proofs.Common.{◌≡◌, inl, inr, ℕ, zero, suc, ◌+◌, ◌-◌, ◌<◌, ◌≤◌, true, false, List, [], ◌∷◌, length, Contains, Some, IsSome, refl, sym, ◌∙◌, ap, subst, arith}
+use Rattle.std.proofs.Common.{◌≡◌, inl, inr, ℕ, zero, suc, ◌+◌, ◌-◌, ◌<◌, ◌≤◌, true, false, List, [], ◌∷◌, Contains, Some, IsSome, refl, sym, ◌∙◌, ap, subst, arith, Option, None}
 use Rattle.std.specs.Prelude.{max}
 use Rattle.std.proofs.lemmas.Bool.Decides.{nat_tests}
 use Rattle.std.specs.FinMap as map
@@ -29,23 +29,35 @@ use Rattle.gpu_alloc.specs.BuddySharing.{object_front}
 use Rattle.gpu_alloc.specs.Candidates.{IsFitBlock, candidate, fit_candidate}
 use Rattle.gpu_alloc.specs.FitSharing.{HasFitPlace, IsFitChunk, counted_of, first_fit, fit_block, fit_chunk_of, fit_question, fits_first, grain_of, object_bytes, with_fit_chunk, with_next_fit}
 use Rattle.gpu_alloc.specs.FreeBytes.{IsFreeByte}
-use Rattle.gpu_alloc.specs.Inside.{HasFitSizes, IsFitFor, IsFitForType, lists_in, types_in}
+use Rattle.gpu_alloc.specs.StoresFor.{HasFitSizes, IsFitFor, IsFitForType}
 use Rattle.gpu_alloc.specs.Release.{AreFitChunksReleased, IsSpareFit, IsUnusedFit}
+use Rattle.gpu_alloc.specs.Stores.{IsChosenFor, chosen_part, chosen_sizes}
+use Rattle.gpu_alloc.specs.Whole.{part_side}
+use Rattle.gpu_alloc.specs.declared.allocator.stores.Chosen.{Chosen}
+use Rattle.gpu_alloc.specs.declared.allocator.stores.Chosen.TheVariants.{Buddy as InBuddies, Fit as InFits}
 use Rattle.gpu_alloc.specs.declared.allocator.Strategy.TheVariants.{InFitChunk}
 use Rattle.gpu_alloc.specs.declared.request.Request.{Request}
 use Rattle.gpu_alloc.proofs.Fits.Small.{first_in_largest, sized_more}
 use Rattle.gpu_alloc.proofs.Shared.Free.{IsCopy, range_to, room_from, room_to, run_from, run_to}
 use Rattle.gpu_alloc.proofs.Shared.Stores.{AreAsked, IsLinked, IsNamed, IsPlain, IsRequest, Named, Serves, block_at, row, table_of, bytes_are, unused_is, unused_was}
 use Rattle.gpu_alloc.proofs.Shared.Calls.{IsBlockOf, IsNextGone, ReleasesAtOnce}
-use Rattle.gpu_alloc.proofs.Shared.Types.{changed, types_set}
-use Rattle.gpu_alloc.proofs.Wholes.{at_fit, one_fit, set_fit}
+use Rattle.gpu_alloc.proofs.Shared.Types.{changed}
+use Rattle.gpu_alloc.proofs.Wholes.{one_fit}
+
+abbrev pub fit_in : {M X : Type 0} → Chosen M X → Option FitState
+fit_in (InBuddies b) = None
+fit_in (InFits f) = Some f
+
+chosen_is : {M X : Type 0} (c : Chosen M X) (x : FitState) → fit_in c ≡ Some x → c ≡ InFits x
+chosen_is (InBuddies b) x is = absurd (cc)
+chosen_is (InFits f) x is = (let it : f ≡ x = cc in ap InFits it)
 
 abbrev pub fit_named : Named fit_rule
 fit_named = record {
   kind = λ key. FitChunk;
-  all = λ ss. ss.fits;
-  with_all = λ ss fits. record ss { fits = fits };
-  spot = λ ss i. suc (length ss.buddies + (length ss.lists + i));
+  get = λ e. fit_in e.chosen;
+  put = λ e f. record e { chosen = InFits f };
+  side = 0;
   IsFor = IsFitFor;
   IsOf = λ c p i f. IsFitForType c p i (record f { space = no_fit_space; next_chunk = 0 }) × HasFitSizes c p i f;
   sizes = λ f type. record type { fit_chunk = f.next_chunk };
@@ -75,15 +87,15 @@ fit_is_named = record {
   shared = λ key. refl;
   total = slot_total;
   exact = slot_exact;
-  all_are = λ ss fits. refl;
-  same = λ ss. refl;
-  twice = λ ss fits also. refl;
-  spots = λ ss i f. (refl, refl);
-  part_at = λ own ss i f at. at_fit own ss.buddies ss.lists ss.fits i f at;
-  part_set = λ own ss i f new at. set_fit own ss.buddies ss.lists ss.fits i new;
-  placed = λ ss i key h inside kind type. inr (inr (kind, ap (λ m. length ss.buddies + (length ss.lists + m)) type));
-  each = λ c p ss are. (are.fits.count, are.fits.each);
-  are = λ c p ss fits are each. record { buddies = are.buddies; lists = are.lists; fits = record { count = each.0; each = each.1 } };
+  got = λ e f. refl;
+  same = λ e f is k. record e { chosen = sym (chosen_is e.chosen f is) k };
+  twice = λ e f new. refl;
+  part_there = λ e f is. ap chosen_part (chosen_is e.chosen f is);
+  part_set = λ e f new is. refl;
+  side_small = omega arith;
+  placed = λ key kind is. ap part_side is;
+  each = λ c p sharing i e f are is. (subst (IsChosenFor c p sharing i) (chosen_is e.chosen f is) are.chosen).1;
+  each_put = λ c p sharing i e f new are is of. record { chosen = ((subst (IsChosenFor c p sharing i) (chosen_is e.chosen f is) are.chosen).0, of); free_list = are.free_list };
   for_is = λ c p i f is. let t = is.for_type in ((record { memory_type = t.memory_type; props = t.props; atom = t.atom; final_chunk = t.final_chunk }, is.sized), is.sound);
   for_of = λ c p i f of sound. let t = of.0 in record { for_type = record { memory_type = t.memory_type; props = t.props; atom = t.atom; final_chunk = t.final_chunk }; sized = of.1; sound = sound };
   of_type = λ c p i f of. (of.0.memory_type, of.0.props);
@@ -91,7 +103,7 @@ fit_is_named = record {
   of_more = λ c p i f heap ask slot of sound begins now.
       let lies = now.space.inside slot ((slot_inserted f.space.live slot slot).1 (inl refl)) in
       (of.0, sized_more of.0.final_chunk of.1 sound slot ask.size (omega (arith, begins.exact, lies.inside, (now.chunks slot.chunk lies.chunk lies.held).1)));
-  types_set = λ types ss i f. types_set _ f (λ g type. refl) (lists_in (types_in types ss.buddies) ss.lists) ss.fits i;
+  types_put = λ e f new type is k. record (chosen_sizes (sym (chosen_is e.chosen f is) k) (record type { list_chunk = e.free_list.next_chunk; number = e.free_list.space.latest })) { fit_chunk = new.next_chunk };
   sizes_kept = λ f chunks live. refl;
   grown = λ s i f heap ask slot serves begins.
       let size = size_is s i f ask serves in

@@ -1,14 +1,14 @@
 -- Sizes of fit chunks, of every configuration.
 use Rattle.std.proofs.Common.{◌≡◌, inl, inr, ℕ, ◌*◌, ◌+◌, ◌/◌, ◌^◌, ◌<◌, ◌≤◌, sym, ◌∙◌, ap, subst, arith}
-use Rattle.std.proofs.Math.Nat.{le-mul_of_pos_right, mul_assoc, mul_comm}
+use Rattle.std.proofs.Math.Nat.{mod-lt, le-mul_of_pos_right, mul_assoc, mul_comm}
 use Rattle.std.proofs.lemmas.Bool.{cases_lt}
-use Rattle.std.proofs.lemmas.Nat.{pow-add, pow_pos}
+use Rattle.std.proofs.lemmas.Nat.{div-add-mod', pow-add, pow_pos}
 use Rattle.std.proofs.lemmas.Bool.Decides.{nat_tests}
 use Rattle.std.specs.Prelude.{min, max}
 use Rattle.gpu_alloc_types.specs.Properties.{Properties, atom_of, heap_size}
 use Rattle.gpu_alloc_base.specs.Chunks.{Chunk}
 use Rattle.gpu_alloc_base.specs.FreeSpace.{IsMultipleOf}
-use Rattle.gpu_alloc_base.specs.Sizes.{at_least_an_atom, cut, doubled_chunk, down, grown_chunk, starting_size, transient_threshold}
+use Rattle.gpu_alloc_base.specs.Sizes.{at_least_an_atom, cut, doubled_chunk, down, final_size, grown_chunk, starting_size, transient_threshold}
 use Rattle.gpu_alloc_base.specs.declared.config.Config.{Config}
 use Rattle.gpu_alloc_base.proofs.ChunkSizes.{cut_whole, grown_is_least}
 use Rattle.gpu_alloc_base.proofs.Multiples.{down_below, multiple_min, multiple_times}
@@ -17,11 +17,18 @@ use Rattle.gpu_alloc_base.specs.declared.free_list_block.Slot.{Slot}
 use Rattle.gpu_alloc_fit.specs.Fit.{FitState, chunk_size, fitting_in_new_chunk}
 use Rattle.gpu_alloc_fit.specs.FitSound.{IsSoundFit}
 use Rattle.gpu_alloc.specs.FitSharing.{AreSmall, FitChunksAreSmall, IsFitChunkSize, IsSmallChunk, first_fit, grain, largest_fit}
-use Rattle.gpu_alloc.specs.Inside.{HasFitSizes}
+use Rattle.gpu_alloc.specs.StoresFor.{HasFitSizes}
 use Rattle.gpu_alloc.proofs.Opened.{largest_whole, starting_within}
 
 at_least : (g x : ℕ) → (x ≤ at_least_an_atom g x) × (at_least_an_atom g x ≤ max g x)
 at_least g x = (grind (arith, nat_tests), grind (arith, nat_tests))
+
+at_least_some : (g x : ℕ) → 0 < g → 0 < at_least_an_atom g x
+at_least_some g x some = grind (arith, nat_tests)
+
+-- a size that is cut is some bytes
+pub cut_some : (heap g size : ℕ) → 0 < g → 0 < cut heap g size
+cut_some heap g size some = at_least_some g (down (min size (heap / 32)) g) some
 
 -- what is cut is no larger than the part of the heap, or than one grain
 cut_part : (heap g size : ℕ) → cut heap g size ≤ max g (heap / 32)
@@ -44,6 +51,21 @@ fit_chunks_small = record { each = small }
 -- a first chunk is no larger than a largest one
 pub first_in_largest : (c : Config) (heap g : ℕ) → 0 < g → first_fit c heap g ≤ largest_fit c heap g
 first_in_largest c heap g some = let is = small c heap g some in omega (arith, is.room, is.grows)
+
+-- a largest one is bounded where a largest free-list chunk is
+pub largest_bound : (c : Config) (heap atom : ℕ) → 0 < atom → final_size c heap atom ≤ 2 ^ 62 → largest_fit c heap (grain atom) ≤ 2 ^ 62
+largest_bound c heap atom some bound = elim (cases_lt atom 256) [
+  | inl less ↦
+      let whole : grain atom ≡ 256 = omega (arith, less) in
+      let x = min (max (max c.final_free_list_chunk c.starting_free_list_chunk) (transient_threshold c)) (heap / 32) in
+      let below = (at_least atom (down x atom)).0 in
+      let rest = div-add-mod' x atom in
+      let few = mod-lt x some in
+      let most = (at_least 256 (down x 256)).1 in
+      let cut_bound : final_size c heap 256 ≤ 2 ^ 62 = omega (arith, below, rest, few, most, bound, less) in
+      subst (λ g. largest_fit c heap g ≤ 2 ^ 62) (sym whole) (omega (arith, cut_bound))
+  | inr more ↦ let same : grain atom ≡ atom = omega (arith, more) in subst (λ g. largest_fit c heap g ≤ 2 ^ 62) (sym same) (omega (arith, bound))
+]
 
 -- What a size that a fit chunk can have is.
 

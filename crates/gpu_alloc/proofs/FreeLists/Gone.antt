@@ -26,13 +26,15 @@ use Rattle.gpu_alloc_freelist.proofs.ForCallers.{account_without_chunk, all_go, 
 use Rattle.gpu_alloc.specs.FreeListSharing.{IsListChunk}
 use Rattle.gpu_alloc.specs.Own.{OwnTable}
 use Rattle.gpu_alloc.specs.Release.{AreChunksReleased, ListChunkMayGo, ReleasedWith, without_objects, without_span}
+use Rattle.gpu_alloc.specs.Stores.{AreStores}
+use Rattle.gpu_alloc.specs.declared.allocator.stores.TypeStores.{TypeStores}
 use Rattle.gpu_alloc.specs.declared.limits.Limits.{Limits}
 use Rattle.gpu_alloc.proofs.Agreeing.{agrees_returned, agrees_without_span}
 use Rattle.gpu_alloc.proofs.FreeLists.Named.{chunk_is, chunk_was, list_bytes, list_is_named, list_named}
 use Rattle.gpu_alloc.proofs.GoneObjects.{without_these}
 use Rattle.gpu_alloc.proofs.HeapLists.{properties_kept}
-use Rattle.gpu_alloc.proofs.Shared.Calls.{Handed, IsBlockOf, IsLeft, IsReturned, Stood, are_all, are_set, as_returned, before, handed_then, heap_inside, its, keep, left_then, own_chunk, released, same_set, serves, state_of, stood, went}
-use Rattle.gpu_alloc.proofs.Shared.Stores.{AreFor, IsPlain, Serves, Stores, linked, plain_of, put, unused_is, unused_was}
+use Rattle.gpu_alloc.proofs.Shared.Calls.{Handed, IsBlockOf, IsLeft, IsReturned, Stood, are_set, as_returned, before, handed_then, heap_inside, is_at, its, keep, left_then, own_chunk, put_same, released, same_set, serves, state_of, stood, went}
+use Rattle.gpu_alloc.proofs.Shared.Stores.{IsPlain, Serves, linked, plain_of, put, unused_is, unused_was}
 
 -- Which may go.
 
@@ -102,13 +104,13 @@ objects_named : (s : ListSpace) (objects : ℕ → Option Object) (gone : List �
 objects_named s objects [] = refl
 objects_named s objects (n ∷ gone) = objects_named s (put_object objects (object_of s n) None) gone
 
-module _ {X : Type 0} {l : Limits X} {heaps : List Heap} {ss : Stores} {own : OwnTable} {remaining i j : ℕ} {x : FreeListState} {heap : Heap} (h : Handed list_named l heaps ss own remaining i j x heap) where
-  -- the fields with this free list, heap and count, in these lists, stand for this state
-  abbrev StoodIn : List Heap → Stores → Account FreeListState → State → Type 0
-  StoodIn hs ts a s = Stood list_named l hs ts own a.remaining i a.allocator × (state_of l hs ts own a.remaining ≡ s)
+module _ {M X : Type 0} {l : Limits X} {heaps : List Heap} {ss : List (TypeStores M X)} {own : OwnTable} {remaining i j : ℕ} {e : TypeStores M X} {x : FreeListState} {heap : Heap} (h : Handed list_named l heaps ss own remaining i j e x heap) where
+  -- the fields with this free list, heap and count, in these stores, stand for this state
+  abbrev StoodIn : List Heap → List (TypeStores M X) → Account FreeListState → State → Type 0
+  StoodIn hs ts a s = Stood list_named l hs ts own a.remaining i (list_named.put e a.allocator) a.allocator × (state_of l hs ts own a.remaining ≡ s)
 
   abbrev StoodFor : Account FreeListState → State → Type 0
-  StoodFor a s = StoodIn (set heaps j a.heap) (put list_named ss i a.allocator) a s
+  StoodFor a s = StoodIn (set heaps j a.heap) (put list_named ss i e a.allocator) a s
 
   abbrev ReleasesChunk : Account FreeListState → List ℕ → Account FreeListState → Type 0
   ReleasesChunk a names new = (s : State) (p : Properties) (objects : ℕ → Option Object) → StoodFor a s → Agrees s p objects → StoodFor new (without_these s names) × Agrees (without_these s names) p (without_objects objects names)
@@ -126,8 +128,8 @@ module _ {X : Type 0} {l : Limits X} {heaps : List Heap} {ss : Stores} {own : Ow
       let goes = released list_is_named fields.0 j a.heap h.here at_heap n chunk found free.unused (plain_of list_is_named then.allocator (sound_without_chunk a.allocator n sound free)) in
       let now : State = record s { held = finite.remove s.held chunk.object; remaining = s.remaining + 1 } in
       let fields_now : StoodFor then now =
-      subst (λ hs. StoodIn hs (put list_named ss i then.allocator) then now) (set-set heaps j a.heap then.heap)
-      (subst (λ ls. StoodIn (set (set heaps j a.heap) j then.heap) (record ss { lists = ls }) then now) (set-set ss.lists i a.allocator then.allocator)
+      subst (λ hs. StoodIn hs (put list_named ss i e then.allocator) then now) (set-set heaps j a.heap then.heap)
+      (subst (λ ts. StoodIn (set (set heaps j a.heap) j then.heap) ts then now) (set-set ss i (list_named.put e a.allocator) (list_named.put e then.allocator))
       (goes.0, goes.1 ∙ ap (λ (z : State). record z { held = finite.remove z.held chunk.object; remaining = z.remaining + 1 }) fields.1))
       in
       let as_block = granted_block s 0 (FreeListChunk n) (record { object = chunk.object; offset = 0; size = 0 }) in
@@ -144,14 +146,15 @@ module _ {X : Type 0} {l : Limits X} {heaps : List Heap} {ss : Stores} {own : Ow
       → LetsWholeChunksGo keep_last (account x heap remaining) gone es after old new → IsLeft h (before h) (map (object_of x.space) gone) after es q old new
   chunks_go {keep_last} {after} {gone} {es} {p} {q} {old} {new} sound agrees properties gives =
       let first : StoodFor (account x heap remaining) (before h) =
-      subst (λ hs. StoodIn hs (put list_named ss i x) (account x heap remaining) (before h)) (sym (same_set heaps j heap h.at_heap))
-      (subst (λ ls. StoodIn heaps (record ss { lists = ls }) (account x heap remaining) (before h)) (sym (same_set ss.lists i x h.has.at)) (stood list_is_named h.has, refl))
+      subst (λ hs. StoodIn hs (put list_named ss i e x) (account x heap remaining) (before h)) (sym (same_set heaps j heap h.at_heap))
+      (subst (λ ts. StoodIn heaps ts (account x heap remaining) (before h)) (sym (put_same list_is_named ss i e x (is_at list_is_named h.has) h.has.is))
+      (subst (λ f. Stood list_named l heaps ss own remaining i f x) (sym (list_is_named.same e x h.has.is)) (stood list_is_named h.has), refl))
       in
       let left = all_go ReleasesChunk none_goes one_goes (account x heap remaining) after keep_last gone es (its list_is_named h.has).1 gives.0 gives.1.0 (before h) p old first agrees in
       let names = map (object_of x.space) gone in
       let objects = gives.1.1 ∙ objects_named x.space old gone in
       let offers = properties_kept l heaps j after.heap heap h.at_heap (ap (λ (a : Account FreeListState). a.heap.size) gives.1.0.1) in
-      let are = are_set list_is_named l.config _ ss i after.allocator (subst (λ a. AreFor l.config a ss) (sym offers) (are_all list_is_named h.has)) left.0.0.of sound in
+      let are = are_set list_is_named ss i e x (is_at list_is_named h.has) h.has.is l.config _ l.sharing (subst (λ a. AreStores l.config a l.sharing ss) (sym offers) h.has.kept.shared) after.allocator left.0.0.of sound in
       record {
         kept = keep l left.0.0 are;
         lets = (gives.1.0.0 ∙ sym (map-map Deallocated (object_of x.space) gone), left.0.1);
@@ -160,7 +163,7 @@ module _ {X : Type 0} {l : Limits X} {heaps : List Heap} {ss : Stores} {own : Ow
       }
 
 -- A block comes back, and then all chunks go that may.
-module _ {X : Type 0} {l : Limits X} {heaps : List Heap} {ss : Stores} {own : OwnTable} {remaining i j : ℕ} {x : FreeListState} {heap : Heap} (h : Handed list_named l heaps ss own remaining i j x heap) where
+module _ {M X : Type 0} {l : Limits X} {heaps : List Heap} {ss : List (TypeStores M X)} {own : OwnTable} {remaining i j : ℕ} {e : TypeStores M X} {x : FreeListState} {heap : Heap} (h : Handed list_named l heaps ss own remaining i j e x heap) where
   pub came_back : {b : Slot} {block : Block} (its_block : IsBlockOf list_named x b block) {after : Account FreeListState} {gone : List ℕ} {es : List Event} {p q : Properties} {old new : ℕ → Option Object} → IsSoundFreeList after.allocator → Agrees (before h) p old → q ≡ p
       → LetsWholeChunksGo true (account_without (account x heap remaining) b) gone es after old new → IsReturned h block after es q old new
   came_back {b} {block} its_block {gone = gone} {p = p} {old = old} sound agrees properties gives =

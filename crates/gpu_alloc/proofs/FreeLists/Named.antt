@@ -1,8 +1,7 @@
 -- Free lists in the whole allocator: where they stand among the fields, and their requests by names.
-use Rattle.std.proofs.Common.{◌≡◌, inl, inr, ℕ, zero, suc, ◌+◌, ◌-◌, ◌≤◌, true, List, [], ◌∷◌, length, slice_get, Some, refl, sym, ◌∙◌, ap, subst, arith}
+use Rattle.std.proofs.Common.{◌≡◌, ℕ, zero, suc, ◌+◌, ◌-◌, ◌≤◌, true, List, [], ◌∷◌, slice_get, Some, refl, sym, ◌∙◌, ap, subst, arith}
 use Rattle.std.specs.Prelude.{max}
 use Rattle.std.proofs.lemmas.Bool.Decides.{nat_tests}
-use Rattle.std.proofs.lemmas.List.{length-set}
 use Rattle.std.proofs.lemmas.Nat.{pow_pos}
 use Rattle.std.specs.FinMap as map
 use Rattle.gpu_alloc_base.specs.Accounts.{account}
@@ -25,22 +24,27 @@ use Rattle.gpu_alloc_shared.specs.declared.store.Ask.{Ask}
 use Rattle.gpu_alloc.specs.Allocation.{fits_a_chunk}
 use Rattle.gpu_alloc.specs.Candidates.{IsTailBlock, candidate, list_candidate}
 use Rattle.gpu_alloc.specs.FreeListSharing.{HasListNumber, HasListPlace, IsFreeInChunk, IsListChunk, largest_list_chunk, latest_number, list_block, list_chunk_of, list_question, number_of, tail_of, with_list_chunk, with_next_list}
-use Rattle.gpu_alloc.specs.Inside.{IsListFor, IsListForType, IsLiveIn, fits_in, lists_in, types_in}
+use Rattle.gpu_alloc.specs.Inside.{IsLiveIn}
+use Rattle.gpu_alloc.specs.StoresFor.{IsListFor, IsListForType}
 use Rattle.gpu_alloc.specs.Spans.{Table}
+use Rattle.gpu_alloc.specs.Stores.{chosen_sizes, list_part}
+use Rattle.gpu_alloc.specs.Whole.{part_side}
+use Rattle.gpu_alloc.specs.declared.allocator.stores.Chosen.{Chosen}
+use Rattle.gpu_alloc.specs.declared.allocator.stores.Chosen.TheVariants.{Buddy as InBuddies, Fit as InFits}
 use Rattle.gpu_alloc.specs.declared.allocator.Strategy.TheVariants.{InFreeList}
 use Rattle.gpu_alloc.specs.declared.request.Request.{Request}
 use Rattle.gpu_alloc.proofs.Links.{slot_at}
 use Rattle.gpu_alloc.proofs.Shared.Calls.{IsBlockOf}
 use Rattle.gpu_alloc.proofs.Shared.Stores.{AreAsked, IsLinked, IsNamed, IsRequest, Named, Serves, block_at, block_there, byte_is, byte_was, plain_of, row}
-use Rattle.gpu_alloc.proofs.Shared.Types.{changed, types_changed, types_set}
-use Rattle.gpu_alloc.proofs.Wholes.{at_list, one_slot, set_list}
+use Rattle.gpu_alloc.proofs.Shared.Types.{changed}
+use Rattle.gpu_alloc.proofs.Wholes.{one_slot}
 
 abbrev pub list_named : Named list_rule
 list_named = record {
   kind = λ key. FreeListChunk key;
-  all = λ ss. ss.lists;
-  with_all = λ ss lists. record ss { lists = lists };
-  spot = λ ss i. suc (length ss.buddies + i);
+  get = λ e. Some e.free_list;
+  put = λ e l. record e { free_list = l };
+  side = 1;
   IsFor = IsListFor;
   IsOf = λ c p i l. IsListForType c p i (record l { space = no_list_space; next_chunk = 0 });
   sizes = λ l type. record type { list_chunk = l.next_chunk; number = l.space.latest };
@@ -67,27 +71,33 @@ latest_is s i l serves = serves.next number_of l.space.latest (λ type. refl)
 size_is : (s : State) (i : ℕ) (l : FreeListState) (ask : Ask) → Serves list_named s i l → chunk_size l ask.size ≡ (list_question s i ask.size).size
 size_is s i l ask serves = λ k. chunk_size (record l { next_chunk = sym (serves.next list_chunk_of l.next_chunk (λ type. refl)) k; final_chunk = serves.of.final_chunk k }) ask.size
 
+-- the chosen store leaves its sizes alone
+list_sizes : {M X : Type 0} (c : Chosen M X) (l new : FreeListState) (type : TypeState) → chosen_sizes c (record type { list_chunk = new.next_chunk; number = new.space.latest })
+    ≡ record (chosen_sizes c (record type { list_chunk = l.next_chunk; number = l.space.latest })) { list_chunk = new.next_chunk; number = new.space.latest }
+list_sizes (InBuddies b) l new type = refl
+list_sizes (InFits f) l new type = refl
+
 pub list_is_named : IsNamed list_named
 list_is_named = record {
   lawful = list_lawful;
-  shared = λ key. refl;
   total = slot_total;
   exact = slot_exact;
-  all_are = λ ss lists. refl;
-  same = λ ss. refl;
-  twice = λ ss lists also. refl;
-  spots = λ ss i l. (refl, length-set ss.lists i l);
-  part_at = λ own ss i l at. at_list own ss.buddies ss.lists ss.fits i l at;
-  part_set = λ own ss i l new at. set_list own ss.buddies ss.lists ss.fits i l at new;
-  placed = λ ss i key h inside kind type. inr (inl (key, kind, ap (λ m. length ss.buddies + m) type));
-  each = λ c p ss are. (are.lists.count, are.lists.each);
-  are = λ c p ss lists are each. record { buddies = are.buddies; lists = record { count = each.0; each = each.1 }; fits = are.fits };
+  got = λ e l. refl;
+  same = λ e l is. let it : e.free_list ≡ l = cc in λ k. record e { free_list = sym it k };
+  twice = λ e l new. refl;
+  part_there = λ e l is. let it : e.free_list ≡ l = cc in ap list_part it;
+  part_set = λ e l new is. refl;
+  side_small = omega arith;
+  shared = λ key. refl;
+  placed = λ key kind is. ap part_side is;
+  each = λ c p sharing i e l are is. let it : e.free_list ≡ l = cc in subst (IsListFor c p i) it are.free_list;
+  each_put = λ c p sharing i e l new are is of. record { chosen = are.chosen; free_list = of };
   for_is = λ c p i l is. let t = is.for_type in (record { memory_type = t.memory_type; props = t.props; atom = t.atom; final_chunk = t.final_chunk }, is.sound);
   for_of = λ c p i l of sound. record { for_type = record { memory_type = of.memory_type; props = of.props; atom = of.atom; final_chunk = of.final_chunk }; sound = sound };
   of_type = λ c p i l of. (of.memory_type, of.props);
   of_less = λ c p i l chunks live of fewer. of;
   of_more = λ c p i l heap ask slot of sound begins now. of;
-  types_set = λ types ss i l. ap (λ ts. fits_in ts ss.fits) (types_set _ l (λ y type. refl) (types_in types ss.buddies) ss.lists i) ∙ types_changed _ _ (λ f type. refl) (lists_in (types_in types ss.buddies) ss.lists) ss.fits i;
+  types_put = λ e l new type is. list_sizes e.chosen e.free_list new type;
   sizes_kept = λ l chunks live. refl;
   grown = λ s i l heap ask slot serves begins.
       let size = size_is s i l ask serves in

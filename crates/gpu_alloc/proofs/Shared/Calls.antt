@@ -4,7 +4,6 @@ use Rattle.std.proofs.Common.{◌≡◌, ◌≢◌, ◌⊎◌, inl, inr, ℕ, Bo
 use Rattle.std.specs.Prelude.{◌&&◌}
 use Rattle.std.proofs.Math.ListN.{set}
 use Rattle.std.proofs.lemmas.List.{length-map, length-set, set-get_or}
-use Rattle.std.proofs.lemmas.Option.{slice_get_read}
 use Rattle.std.specs.FinMap as map
 use Rattle.std.specs.FinSet as set_of
 use Rattle.gpu_alloc_types.specs.Device.{Event, Object, put as put_object}
@@ -23,7 +22,8 @@ use Rattle.gpu_alloc_base.proofs.Maps.{one_value, own_inserted}
 use Rattle.gpu_alloc_base.proofs.Names.{removed-cases}
 use Rattle.gpu_alloc_base.proofs.ToldTwice.{IsToldAs, asks_is, refused_is}
 use Rattle.gpu_alloc_block.specs.Agreement as agreement
-use Rattle.gpu_alloc_block.specs.Parts.{Held, Live, Makes}
+use Rattle.gpu_alloc_block.specs.Parts.{Held, IsAt, Live, Makes}
+use Rattle.gpu_alloc_block.specs.declared.sharing.Sharing.{Sharing}
 use Rattle.gpu_alloc_block.specs.State.{Block, HeldObject, IsOwned, Span, State, TypeState, granted_block, span_of}
 use Rattle.gpu_alloc_shared.specs.Rule.{IsLive, Rule}
 use Rattle.gpu_alloc_shared.specs.Shared as shared
@@ -31,92 +31,111 @@ use Rattle.gpu_alloc_shared.specs.Shared.{Agrees, ObjectsAfter, ReleasesChunk, R
 use Rattle.gpu_alloc.specs.Allocation.{ObjectsWith}
 use Rattle.gpu_alloc.specs.BuddySharing.{with_span}
 use Rattle.gpu_alloc.specs.FirstTypes.{first_type_state, first_types}
-use Rattle.gpu_alloc.specs.Inside.{IsBooked, IsChosen, limit_of, lists_in, properties_in, state_in, types_in}
+use Rattle.gpu_alloc.specs.Inside.{IsBooked, IsChosen, limit_of, properties_in, state_in, types_with}
 use Rattle.gpu_alloc.specs.Own.{OwnTable}
 use Rattle.gpu_alloc.specs.Release.{Frees, ObjectsFreed, ReleasedWith, Releases, without_all, without_objects, without_span}
 use Rattle.gpu_alloc.specs.Sound.{is_chosen}
-use Rattle.gpu_alloc.specs.Stores.{block_span}
-use Rattle.gpu_alloc.specs.Whole.{IsKept}
+use Rattle.gpu_alloc.specs.Stores.{AreStores, AreStoresFor, block_span, type_sizes}
+use Rattle.gpu_alloc.specs.Whole.{IsKept, IsPartFor, parts_of, whole}
+use Rattle.gpu_alloc.specs.declared.allocator.stores.TypeStores.{TypeStores}
 use Rattle.gpu_alloc.specs.declared.limits.Limits.{Limits}
 use Rattle.gpu_alloc.proofs.Agreeing.{agrees_returned, agrees_without_span, not_held}
 use Rattle.gpu_alloc.proofs.Consistency.{booked-held, booked-release, booked-span, booked-span_gone, chosen_less, chosen_more, chosen_same, heap_there, known_object}
 use Rattle.gpu_alloc.proofs.HeapLists.{each_set, limits_kept, properties_kept, type_heap_is}
 use Rattle.gpu_alloc.proofs.NewObjects.{counted_new}
-use Rattle.gpu_alloc.proofs.Shared.Stores.{AreAsked, AreFor, IsLinked, IsNamed, IsPlain, IsRequest, IsSpotIn, Named, Serves, Stores, block_at, case_at, parts_in, put, row, table_of, types_from, whole_in, Stands, block_comes, block_goes, chunk_comes, chunk_goes, linked, plain_of, plain_without, stands_now, told, unused_is}
+use Rattle.gpu_alloc.proofs.Shared.Stores.{AreAsked, IsLinked, IsNamed, IsPlain, IsRequest, Named, Serves, block_at, case_at, in_all, put, row, table_of, Stands, block_comes, block_goes, chunk_comes, chunk_goes, linked, plain_of, plain_without, stands_now, told, unused_is}
 use Rattle.gpu_alloc.proofs.Shared.Stores as serving
-use Rattle.gpu_alloc.proofs.Shared.Types.{changed, read_changed, types_within}
+use Rattle.gpu_alloc.proofs.Shared.Types.{changed, read_changed, types_set, types_within}
+use Rattle.gpu_alloc.proofs.Wholes.{at_read, read_is, there_at}
 
-abbrev pub state_of : {X : Type 0} → Limits X → List Heap → Stores → OwnTable → ℕ → State
-state_of l heaps ss own remaining = state_in l heaps ss.buddies ss.lists ss.fits (whole_in own ss) remaining
+abbrev pub state_of : {M X : Type 0} → Limits X → List Heap → List (TypeStores M X) → OwnTable → ℕ → State
+state_of l heaps ss own remaining = state_in l heaps ss (whole own ss) remaining
 
-abbrev pub Keep : {X : Type 0} → Limits X → List Heap → Stores → OwnTable → ℕ → Type 0
-Keep l heaps ss own remaining = IsKept l.sharing l.config (properties_in l heaps) heaps ss.buddies ss.lists ss.fits own remaining
+abbrev pub Keep : {M X : Type 0} → Limits X → List Heap → List (TypeStores M X) → OwnTable → ℕ → Type 0
+Keep l heaps ss own remaining = IsKept l.sharing l.config (properties_in l heaps) heaps ss own remaining
 
 -- fields that keep what they have to, and stand for this state
-abbrev pub StandFor : {X : Type 0} → Limits X → List Heap → Stores → OwnTable → ℕ → State → Type 0
+abbrev pub StandFor : {M X : Type 0} → Limits X → List Heap → List (TypeStores M X) → OwnTable → ℕ → State → Type 0
 StandFor l heaps ss own remaining s = Keep l heaps ss own remaining × (state_of l heaps ss own remaining ≡ s)
 
 -- a list with its own element put in its place
 pub same_set : {X : Type 0} (xs : List X) (i : ℕ) (x : X) → x ≡ get_or xs i x → set xs i x ≡ xs
 same_set xs i x at = ap (set xs i) at ∙ set-get_or xs i x
 
-module _ {T A B : Type 0} {r : Rule T A B} (n : Named r) {X : Type 0} (l : Limits X) (heaps : List Heap) (ss : Stores) (own : OwnTable) (remaining i : ℕ) where
-  pub record Has (x : T) : Type 0 where
+module _ {T A B : Type 0} {r : Rule T A B} (n : Named r) {M X : Type 0} (l : Limits X) (heaps : List Heap) (ss : List (TypeStores M X)) (own : OwnTable) (remaining i : ℕ) where
+  pub record Has (e : TypeStores M X) (x : T) : Type 0 where
     pub kept : Keep l heaps ss own remaining
     pub known : i < length (properties_in l heaps).memory_types
-    pub at : x ≡ get_or (n.all ss) i x
+    pub at : e ≡ get_or ss i e
+    pub is : n.get e ≡ Some x
 
   -- and its heap
-  pub record Handed (j : ℕ) (x : T) (heap : Heap) : Type 0 where
-    pub has : Has x
+  pub record Handed (j : ℕ) (e : TypeStores M X) (x : T) (heap : Heap) : Type 0 where
+    pub has : Has e x
     pub here : j ≡ heap_at (properties_in l heaps) i
     pub at_heap : heap ≡ get_or heaps j heap
 
   -- all that is kept but what holds of a store only between calls
-  pub record Stood (x : T) : Type 0 where
-    pub stands : Stands n own ss i x
+  pub record Stood (e : TypeStores M X) (x : T) : Type 0 where
+    pub stands : Stands n own ss i e x
     pub of : n.IsOf l.config (properties_in l heaps) i x
-    pub books : IsBooked (properties_in l heaps) heaps (whole_in own ss) remaining
-    pub chosen : IsChosen l.sharing (whole_in own ss)
+    pub books : IsBooked (properties_in l heaps) heaps (whole own ss) remaining
+    pub chosen : IsChosen l.sharing (whole own ss)
 
-pub handed : {T A B : Type 0} {r : Rule T A B} (n : Named r) {X : Type 0} (l : Limits X) {heaps : List Heap} {ss : Stores} {own : OwnTable} {remaining i j : ℕ} {x : T} {heap : Heap} → Keep l heaps ss own remaining → i < length (properties_in l heaps).memory_types
-    → x ≡ get_or (n.all ss) i x → j ≡ heap_at (properties_in l heaps) i → heap ≡ get_or heaps j heap → Handed n l heaps ss own remaining i j x heap
-handed n l kept known at here at_heap = record { has = record { kept = kept; known = known; at = at }; here = here; at_heap = at_heap }
+pub handed : {T A B : Type 0} {r : Rule T A B} (n : Named r) {M X : Type 0} (l : Limits X) {heaps : List Heap} {ss : List (TypeStores M X)} {own : OwnTable} {remaining i j : ℕ} {e : TypeStores M X} {x : T} {heap : Heap} → Keep l heaps ss own remaining → i < length (properties_in l heaps).memory_types
+    → e ≡ get_or ss i e → n.get e ≡ Some x → j ≡ heap_at (properties_in l heaps) i → heap ≡ get_or heaps j heap → Handed n l heaps ss own remaining i j e x heap
+handed n l kept known at is here at_heap = record { has = record { kept = kept; known = known; at = at; is = is }; here = here; at_heap = at_heap }
 
 -- a live block's memory type is known
-pub known_type : {X : Type 0} (l : Limits X) {heaps : List Heap} {ss : Stores} {own : OwnTable} {remaining i : ℕ} {block : Block} → Keep l heaps ss own remaining → IsOwned (state_of l heaps ss own remaining) block → i ≡ block.memory_type → i < length (properties_in l heaps).memory_types
+pub known_type : {M X : Type 0} (l : Limits X) {heaps : List Heap} {ss : List (TypeStores M X)} {own : OwnTable} {remaining i : ℕ} {block : Block} → Keep l heaps ss own remaining → IsOwned (state_of l heaps ss own remaining) block → i ≡ block.memory_type → i < length (properties_in l heaps).memory_types
 known_type l {heaps} {ss} {own} {remaining} {block = block} kept owned typed =
-    omega (arith, typed, owned.held.2, (known_object (properties_in l heaps) heaps (whole_in own ss) remaining kept.books refl block.object owned.held.0 owned.held.1).of_type)
+    omega (arith, typed, owned.held.2, (known_object (properties_in l heaps) heaps (whole own ss) remaining kept.books refl block.object owned.held.0 owned.held.1).of_type)
 
-module _ {T A B : Type 0} {r : Rule T A B} {n : Named r} (named : IsNamed n) where
-  -- its memory type's sizes are its own
-  types_own : (types : List TypeState) (ss : Stores) (i : ℕ) (x : T) → x ≡ get_or (n.all ss) i x → types_from types ss ≡ changed (n.sizes x) (types_from types ss) i
-  types_own types ss i x at = ap (types_from types) (sym (ap (n.with_all ss) (same_set (n.all ss) i x at) ∙ named.same ss)) ∙ named.types_set types ss i x
+-- so its store is handed
+pub handed_owned : {T A B : Type 0} {r : Rule T A B} (n : Named r) {M X : Type 0} (l : Limits X) {heaps : List Heap} {ss : List (TypeStores M X)} {own : OwnTable} {remaining i j : ℕ} {e : TypeStores M X} {x : T} {heap : Heap} {block : Block} → Keep l heaps ss own remaining → IsOwned (state_of l heaps ss own remaining) block → i ≡ block.memory_type
+    → e ≡ get_or ss i e → n.get e ≡ Some x → j ≡ heap_at (properties_in l heaps) i → heap ≡ get_or heaps j heap → Handed n l heaps ss own remaining i j e x heap
+handed_owned n l kept owned typed at is here at_heap = handed n l kept (known_type l kept owned typed) at is here at_heap
+
+module _ {T A B : Type 0} {r : Rule T A B} {n : Named r} (named : IsNamed n) {M X : Type 0} (ss : List (TypeStores M X)) (i : ℕ) (e : TypeStores M X) (x : T) (at : IsAt ss i e) (is : n.get e ≡ Some x) where
+  -- put in its own place it changes nothing
+  pub put_same : put n ss i e x ≡ ss
+  put_same = ap (set ss i) (named.same e x is) ∙ same_set ss i e (read_is ss i e (there_at ss i e at))
+
+  -- its memory type's sizes, with another one in its place
+  pub types_put : (types : List TypeState) (y : T) → types_with type_sizes types (put n ss i e y) ≡ changed (n.sizes y) (types_with type_sizes types ss) i
+  types_put types y = types_set type_sizes (n.sizes y) types ss i e (n.put e y) at (λ type. named.types_put e x y type is)
+
+  -- they are its own
+  types_own : (types : List TypeState) → types_with type_sizes types ss ≡ changed (n.sizes x) (types_with type_sizes types ss) i
+  types_own types = ap (types_with type_sizes types) (sym put_same) ∙ types_put types x
 
   -- and stay so
-  types_kept : (types : List TypeState) (ss : Stores) (i : ℕ) (x : T) → x ≡ get_or (n.all ss) i x → (chunks : HeldChunks) (live : set_of.FinSet r.order) → types_from types (put n ss i (r.with_space x chunks live)) ≡ types_from types ss
-  types_kept types ss i x at chunks live = named.types_set types ss i (r.with_space x chunks live) ∙ ap (λ h. changed h (types_from types ss) i) (named.sizes_kept x chunks live) ∙ sym (types_own types ss i x at)
+  pub types_kept : (types : List TypeState) (chunks : HeldChunks) (live : set_of.FinSet r.order) → types_with type_sizes types (put n ss i e (r.with_space x chunks live)) ≡ types_with type_sizes types ss
+  types_kept types chunks live = types_put types (r.with_space x chunks live) ∙ ap (λ h. changed h (types_with type_sizes types ss) i) (named.sizes_kept x chunks live) ∙ sym (types_own types)
 
   -- what is read of them is its own
-  pub sizes_read : (types : List TypeState) (ss : Stores) (i : ℕ) (x : T) → x ≡ get_or (n.all ss) i x → i < length (types_from types ss) → (read : Option TypeState → ℕ) (m : ℕ) → ((type : TypeState) → read (Some (n.sizes x type)) ≡ m) → read (slice_get (types_from types ss) i) ≡ m
-  sizes_read types ss i x at inside read m is = ap (λ ts. read (slice_get ts i)) (types_own types ss i x at) ∙ read_changed read (n.sizes x) _ i m inside is
+  pub sizes_read : (types : List TypeState) → i < length (types_with type_sizes types ss) → (read : Option TypeState → ℕ) (m : ℕ) → ((type : TypeState) → read (Some (n.sizes x type)) ≡ m) → read (slice_get (types_with type_sizes types ss) i) ≡ m
+  sizes_read types inside read m is = ap (λ ts. read (slice_get ts i)) (types_own types) ∙ read_changed read (n.sizes x) _ i m inside is
 
-  pub are_set : (c : Config) (p : Properties) (ss : Stores) (i : ℕ) (x : T) → AreFor c p ss → n.IsOf c p i x → r.IsSound x → AreFor c p (put n ss i x)
-  are_set c p ss i x are of sound =
-      let each = named.each c p ss are in
-      named.are c p ss (set (n.all ss) i x) are (length-set (n.all ss) i x ∙ each.0, each_set (n.IsFor c p) (n.all ss) i x (named.for_of c p i x of sound) (λ q other. each.1 q))
+  module _ (c : Config) (p : Properties) (sharing : Sharing) (are : AreStores c p sharing ss) where
+    each_is : AreStoresFor c p sharing i e
+    each_is = subst (λ (o : Option (TypeStores M X)). IfSome o (AreStoresFor c p sharing i)) (there_at ss i e at) (are.each i)
 
--- a memory type with each store has sizes
-pub types_there : (types : List TypeState) (ss : Stores) (i : ℕ) → i < length types → i < length ss.buddies → i < length ss.lists → i < length ss.fits → i < length (types_from types ss)
-types_there types ss i within in_buddies in_lists in_fits =
-    types_within _ (lists_in (types_in types ss.buddies) ss.lists) ss.fits i (types_within _ (types_in types ss.buddies) ss.lists i (types_within _ types ss.buddies i within in_buddies) in_lists) in_fits
+    pub for_type : n.IsFor c p i x
+    for_type = named.each c p sharing i e x each_is is
+
+    pub are_set : (y : T) → n.IsOf c p i y → r.IsSound y → AreStores c p sharing (put n ss i e y)
+    are_set y of sound = record {
+      count = length-set ss i (n.put e y) ∙ are.count;
+      each = each_set (AreStoresFor c p sharing) ss i (n.put e y) (named.each_put c p sharing i e x y each_is is (named.for_of c p i y of sound)) (λ q other. are.each q);
+    }
 
 -- With stores that are as they have to be, all is kept.
-pub keep : {T A B : Type 0} {r : Rule T A B} {n : Named r} {X : Type 0} (l : Limits X) {heaps : List Heap} {ss : Stores} {own : OwnTable} {remaining i : ℕ} {x : T} → Stood n l heaps ss own remaining i x → AreFor l.config (properties_in l heaps) ss → Keep l heaps ss own remaining
-keep l st are = record { books = st.books; shared = are.buddies; listed = are.lists; fitted = are.fits; chosen = st.chosen; apart = st.stands.apart }
+pub keep : {T A B : Type 0} {r : Rule T A B} {n : Named r} {M X : Type 0} (l : Limits X) {heaps : List Heap} {ss : List (TypeStores M X)} {own : OwnTable} {remaining i : ℕ} {e : TypeStores M X} {x : T} → Stood n l heaps ss own remaining i e x → AreStores l.config (properties_in l heaps) l.sharing ss → Keep l heaps ss own remaining
+keep l st are = record { books = st.books; shared = are; chosen = st.chosen; apart = st.stands.apart }
 
-module _ {T A B : Type 0} {r : Rule T A B} {n : Named r} (named : IsNamed n) {X : Type 0} {l : Limits X} {heaps : List Heap} {ss : Stores} {own : OwnTable} {remaining i : ℕ} {x : T} where
-  module _ (st : Stood n l heaps ss own remaining i x) where
+module _ {T A B : Type 0} {r : Rule T A B} {n : Named r} (named : IsNamed n) {M X : Type 0} {l : Limits X} {heaps : List Heap} {ss : List (TypeStores M X)} {own : OwnTable} {remaining i : ℕ} {e : TypeStores M X} {x : T} where
+  module _ (st : Stood n l heaps ss own remaining i e x) where
     abbrev p : Properties
     p = properties_in l heaps
 
@@ -124,22 +143,22 @@ module _ {T A B : Type 0} {r : Rule T A B} {n : Named r} (named : IsNamed n) {X 
     s = state_of l heaps ss own remaining
 
     -- Another one is put in its place, and the parts make this.
-    step : (y : T) → r.served y ≡ r.served x → {now : List Heap} → properties_in l now ≡ p → list_map limit_of now ≡ list_map limit_of heaps → {count : ℕ} {held : Held} {live : Live} → Makes (IsSpotIn (put n ss i y)) (parts_in own (put n ss i y)) held live → IsPlain n y → n.IsOf l.config p i y → IsBooked p now (whole_in own (put n ss i y)) count
-        → IsChosen l.sharing (whole_in own (put n ss i y)) → Stood n l now (put n ss i y) own count i y
-        × (state_of l now (put n ss i y) own count ≡ record s { held = held; live = live; remaining = count; types = types_from (first_types l.config p) (put n ss i y) })
+    step : (y : T) → r.served y ≡ r.served x → {now : List Heap} → properties_in l now ≡ p → list_map limit_of now ≡ list_map limit_of heaps → {count : ℕ} {held : Held} {live : Live} → Makes IsPartFor (parts_of own (put n ss i e y)) held live → IsPlain n y → n.IsOf l.config p i y → IsBooked p now (whole own (put n ss i e y)) count
+        → IsChosen l.sharing (whole own (put n ss i e y)) → Stood n l now (put n ss i e y) own count i (n.put e y) y
+        × (state_of l now (put n ss i e y) own count ≡ record s { held = held; live = live; remaining = count; types = types_with type_sizes (first_types l.config p) (put n ss i e y) })
     step y same {now} offers limits {count} came plain of books chosen = (
       record {
         stands = stands_now named st.stands y same came.apart plain;
         of = subst (λ q. n.IsOf l.config q i y) (sym offers) of;
-        books = subst (λ q. IsBooked q now (whole_in own (put n ss i y)) count) (sym offers) books;
+        books = subst (λ q. IsBooked q now (whole own (put n ss i e y)) count) (sym offers) books;
         chosen = chosen;
       },
-      λ k. record s { held = came.held_is k; live = came.live_is k; remaining = count; heap_limits = limits k; types = types_from (first_types l.config (offers k)) (put n ss i y); properties = offers k },
+      λ k. record s { held = came.held_is k; live = came.live_is k; remaining = count; heap_limits = limits k; types = types_with type_sizes (first_types l.config (offers k)) (put n ss i e y); properties = offers k },
     )
 
     -- A block goes.
-    pub without : (b : B) → IsLive r x b → Stood n l heaps (put n ss i (without_block r x b)) own remaining i (without_block r x b)
-        × (state_of l heaps (put n ss i (without_block r x b)) own remaining ≡ record s { live = set_of.remove s.live (block_span r b) })
+    pub without : (b : B) → IsLive r x b → Stood n l heaps (put n ss i e (without_block r x b)) own remaining i (n.put e (without_block r x b)) (without_block r x b)
+        × (state_of l heaps (put n ss i e (without_block r x b)) own remaining ≡ record s { live = set_of.remove s.live (block_span r b) })
     without b was =
         let y = without_block r x b in
         let same = named.lawful.its_type x (r.chunks x) (set_of.remove (r.live x) b) in
@@ -147,14 +166,14 @@ module _ {T A B : Type 0} {r : Rule T A B} {n : Named r} (named : IsNamed n) {X 
         let lies = st.stands.plain.of_chunk b was in
         let found = ap (map.get s.held) lies.1.1 ∙ (linked named st.stands).chunks (r.key b) lies.0 lies.1.0 in
         let then = step y same {now = heaps} refl refl made (plain_without named x b st.stands.plain) (named.of_less l.config p i x (r.chunks x) _ st.of (λ key c held. held))
-        (booked-span_gone p heaps (whole_in own ss) remaining st.books refl (whole_in own (put n ss i y)) (row n x (r.key b) lies.0) (block_span r b) found (named.shared (r.key b)) made.held_is made.live_is)
-        (chosen_same l.sharing (whole_in own ss) (whole_in own (put n ss i y)) st.chosen made.held_is) in
-        (then.0, then.1 ∙ (λ k. record s { live = set_of.remove s.live (block_span r b); types = types_kept named (first_types l.config p) ss i x st.stands.at (r.chunks x) (set_of.remove (r.live x) b) k }))
+        (booked-span_gone p heaps (whole own ss) remaining st.books refl (whole own (put n ss i e y)) (row n x (r.key b) lies.0) (block_span r b) found (named.shared (r.key b)) made.held_is made.live_is)
+        (chosen_same l.sharing (whole own ss) (whole own (put n ss i e y)) st.chosen made.held_is) in
+        (then.0, then.1 ∙ (λ k. record s { live = set_of.remove s.live (block_span r b); types = types_kept named ss i e x (in_all named st.stands) st.stands.is (first_types l.config p) (r.chunks x) (set_of.remove (r.live x) b) k }))
 
     -- A chunk goes in which no block is live.
     pub released : (j : ℕ) (heap : Heap) → j ≡ heap_at p i → heap ≡ get_or heaps j heap → (key : ℕ) (c : Chunk) → map.get (r.chunks x) key ≡ Some c → ((b : B) → IsLive r x b → r.key b ≢ key) → IsPlain n (without_chunk r x key)
-        → Stood n l (set heaps j (record heap { used = heap.used - c.size })) (put n ss i (without_chunk r x key)) own (remaining + 1) i (without_chunk r x key)
-        × (state_of l (set heaps j (record heap { used = heap.used - c.size })) (put n ss i (without_chunk r x key)) own (remaining + 1) ≡ record s { held = map.remove s.held c.object; remaining = remaining + 1 })
+        → Stood n l (set heaps j (record heap { used = heap.used - c.size })) (put n ss i e (without_chunk r x key)) own (remaining + 1) i (n.put e (without_chunk r x key)) (without_chunk r x key)
+        × (state_of l (set heaps j (record heap { used = heap.used - c.size })) (put n ss i e (without_chunk r x key)) own (remaining + 1) ≡ record s { held = map.remove s.held c.object; remaining = remaining + 1 })
     released j heap here at_heap key c found unused plain =
         let y = without_chunk r x key in
         let same = named.lawful.its_type x (map.remove (r.chunks x) key) (r.live x) in
@@ -162,71 +181,68 @@ module _ {T A B : Type 0} {r : Rule T A B} {n : Named r} (named : IsNamed n) {X 
         let made = chunk_goes named st.stands y same key c found unused (named.lawful.its_chunks x _ _) (named.lawful.its_live x _ _) in
         let both = linked named st.stands in
         let then = step y same (properties_kept l heaps j changed_heap heap at_heap refl) (limits_kept heaps j changed_heap heap at_heap refl) made plain (named.of_less l.config p i x _ (r.live x) st.of (λ k d held. (removed-cases (r.chunks x) key k d held).1))
-        (booked-release p heaps (whole_in own ss) remaining st.books refl (whole_in own (put n ss i y)) (row n x key c) c.object (record { found = both.chunks key c found; unused = unused_is s x both st.stands.plain key c found unused; held = made.held_is; live = made.live_is })
+        (booked-release p heaps (whole own ss) remaining st.books refl (whole own (put n ss i e y)) (row n x key c) c.object (record { found = both.chunks key c found; unused = unused_is s x both st.stands.plain key c found unused; held = made.held_is; live = made.live_is })
         heap changed_heap j (here ∙ ap (heap_at p) (sym st.stands.of_type)) at_heap refl)
-        (chosen_less l.sharing (whole_in own ss) (whole_in own (put n ss i y)) c.object st.chosen made.held_is) in
-        (then.0, then.1 ∙ (λ k. record s { held = map.remove s.held c.object; remaining = remaining + 1; types = types_kept named (first_types l.config p) ss i x st.stands.at (map.remove (r.chunks x) key) (r.live x) k }))
+        (chosen_less l.sharing (whole own ss) (whole own (put n ss i e y)) c.object st.chosen made.held_is) in
+        (then.0, then.1 ∙ (λ k. record s { held = map.remove s.held c.object; remaining = remaining + 1; types = types_kept named ss i e x (in_all named st.stands) st.stands.is (first_types l.config p) (map.remove (r.chunks x) key) (r.live x) k }))
 
-  module _ (has : Has n l heaps ss own remaining i x) where
-    pub are_all : AreFor l.config (properties_in l heaps) ss
-    are_all = record { buddies = has.kept.shared; lists = has.kept.listed; fits = has.kept.fitted }
+  module _ (has : Has n l heaps ss own remaining i e x) where
+    in_range : i < length ss
+    in_range = omega (arith, has.known, has.kept.shared.count)
 
-    in_range : i < length (n.all ss)
-    in_range = omega (arith, has.known, (named.each l.config (properties_in l heaps) ss are_all).0)
+    pub is_at : IsAt ss i e
+    is_at = at_read ss i e in_range has.at
 
     pub its : n.IsOf l.config (properties_in l heaps) i x × r.IsSound x
-    its =
-        named.for_is l.config (properties_in l heaps) i x
-        (subst (λ (o : Option T). IfSome o (n.IsFor l.config (properties_in l heaps) i)) (slice_get_read (n.all ss) (length (n.all ss)) i x refl in_range has.at) ((named.each l.config (properties_in l heaps) ss are_all).1 i))
+    its = named.for_is l.config (properties_in l heaps) i x (for_type named ss i e x is_at has.is l.config (properties_in l heaps) l.sharing has.kept.shared)
 
-    pub stood : Stood n l heaps ss own remaining i x
+    pub stood : Stood n l heaps ss own remaining i e x
     stood = record {
-      stands = record { apart = has.kept.apart; at = has.at; inside = in_range; of_type = (named.of_type l.config (properties_in l heaps) i x its.0).0; plain = plain_of named x its.1 };
+      stands = record { apart = has.kept.apart; at = has.at; inside = in_range; is = has.is; of_type = (named.of_type l.config (properties_in l heaps) i x its.0).0; plain = plain_of named x its.1 };
       of = its.0;
       books = has.kept.books;
       chosen = has.kept.chosen;
     }
 
-    in_types : i < length (types_from (first_types l.config (properties_in l heaps)) ss)
-    in_types = types_there (first_types l.config (properties_in l heaps)) ss i (omega (arith, has.known, length-map (properties_in l heaps).memory_types (first_type_state l.config (properties_in l heaps))))
-        (omega (arith, has.known, has.kept.shared.count)) (omega (arith, has.known, has.kept.listed.count)) (omega (arith, has.known, has.kept.fitted.count))
+    in_types : i < length (types_with type_sizes (first_types l.config (properties_in l heaps)) ss)
+    in_types = types_within type_sizes (first_types l.config (properties_in l heaps)) ss i (omega (arith, has.known, length-map (properties_in l heaps).memory_types (first_type_state l.config (properties_in l heaps)))) in_range
 
     pub serves : Serves n (state_of l heaps ss own remaining) i x
     serves = record {
       linked = linked named stood.stands;
       of = its.0;
       sound = its.1;
-      next = sizes_read named (first_types l.config (properties_in l heaps)) ss i x has.at in_types;
+      next = sizes_read named ss i e x is_at has.is (first_types l.config (properties_in l heaps)) in_types;
     }
 
-module _ {T A B : Type 0} {r : Rule T A B} {n : Named r} {X : Type 0} {l : Limits X} {heaps : List Heap} {ss : Stores} {own : OwnTable} {remaining i j : ℕ} {x : T} {heap : Heap} (h : Handed n l heaps ss own remaining i j x heap) where
+module _ {T A B : Type 0} {r : Rule T A B} {n : Named r} {M X : Type 0} {l : Limits X} {heaps : List Heap} {ss : List (TypeStores M X)} {own : OwnTable} {remaining i j : ℕ} {e : TypeStores M X} {x : T} {heap : Heap} (h : Handed n l heaps ss own remaining i j e x heap) where
   abbrev pub before : State
   before = state_of l heaps ss own remaining
 
   -- The fields with this store, heap and count.
 
   abbrev pub With : Account T → State → Type 0
-  With a s = StandFor l (set heaps j a.heap) (put n ss i a.allocator) own a.remaining s
+  With a s = StandFor l (set heaps j a.heap) (put n ss i e a.allocator) own a.remaining s
 
   abbrev pub state_with : Account T → State
-  state_with a = state_of l (set heaps j a.heap) (put n ss i a.allocator) own a.remaining
+  state_with a = state_of l (set heaps j a.heap) (put n ss i e a.allocator) own a.remaining
 
   -- what is left of a block that was granted
   pub record IsServed (d : Case Block State) (es : List Event) (b : B) (old new : ℕ → Option Object) (a : Account T) : Type 0 where
-    pub kept : Keep l (set heaps j a.heap) (put n ss i a.allocator) own a.remaining
+    pub kept : Keep l (set heaps j a.heap) (put n ss i e a.allocator) own a.remaining
     pub gives : Decides d es (Ok (block_at n before i b)) (state_with a)
     pub objects_are : ObjectsWith before (block_at n before i b) (state_with a) old new
 
   -- from this state these objects went
   pub record IsLeft (s : State) (names : List ℕ) (after : Account T) (es : List Event) (q : Properties) (old new : ℕ → Option Object) : Type 0 where
-    pub kept : Keep l (set heaps j after.heap) (put n ss i after.allocator) own after.remaining
+    pub kept : Keep l (set heaps j after.heap) (put n ss i e after.allocator) own after.remaining
     pub lets : Releases s names es (state_with after)
     pub objects : new ≡ without_objects old names
     pub agreed : agreement.Agrees (state_with after) q new
 
   -- what the return of a block leaves
   pub record IsReturned (block : Block) (after : Account T) (es : List Event) (q : Properties) (old new : ℕ → Option Object) : Type 0 where
-    pub kept : Keep l (set heaps j after.heap) (put n ss i after.allocator) own after.remaining
+    pub kept : Keep l (set heaps j after.heap) (put n ss i e after.allocator) own after.remaining
     pub frees : Frees before block es (state_with after)
     pub freed : ObjectsFreed before block old new
     pub agreed : agreement.Agrees (state_with after) q new
@@ -249,7 +265,7 @@ module _ {T A B : Type 0} {r : Rule T A B} (n : Named r) where
     pub goes : r.ReleasedWith x b → ((q : B) → IsLive r (without_block r x b) q → r.key q ≢ r.key b) × ReleasedWith (n.kind (r.key b)) s c.object (c.object ∷ [])
     pub stays : (r.ReleasedWith x b → ⊥) → ReleasedWith (n.kind (r.key b)) s c.object []
 
-module _ {T A B : Type 0} {r : Rule T A B} {n : Named r} (named : IsNamed n) {X : Type 0} {l : Limits X} {heaps : List Heap} {ss : Stores} {own : OwnTable} {remaining i j : ℕ} {x : T} {heap : Heap} (h : Handed n l heaps ss own remaining i j x heap) where
+module _ {T A B : Type 0} {r : Rule T A B} {n : Named r} (named : IsNamed n) {M X : Type 0} {l : Limits X} {heaps : List Heap} {ss : List (TypeStores M X)} {own : OwnTable} {remaining i j : ℕ} {e : TypeStores M X} {x : T} {heap : Heap} (h : Handed n l heaps ss own remaining i j e x heap) where
   abbrev offered : Properties
   offered = properties_in l heaps
 
@@ -257,7 +273,7 @@ module _ {T A B : Type 0} {r : Rule T A B} {n : Named r} (named : IsNamed n) {X 
   t = before h
 
   pub heap_inside : j < length heaps
-  heap_inside = omega (arith, h.here, heap_there offered heaps (whole_in own ss) remaining h.has.kept.books refl i h.has.known)
+  heap_inside = omega (arith, h.here, heap_there offered heaps (whole own ss) remaining h.has.kept.books refl i h.has.known)
 
   -- What the store asks.
 
@@ -268,11 +284,11 @@ module _ {T A B : Type 0} {r : Rule T A B} {n : Named r} (named : IsNamed n) {X 
   counted_before = serving.counted named t i x (serves named h.has) heaps j heap h.has.kept.books h.here heap_inside h.at_heap
 
   -- with a store that keeps its chunks
-  with_kept : (y : T) (s : State) → StandFor l heaps (put n ss i y) own remaining s → With h (account y heap remaining) s
-  with_kept y s fields = subst (λ hs. StandFor l hs (put n ss i y) own remaining s) (sym (same_set heaps j heap h.at_heap)) fields
+  with_kept : (y : T) (s : State) → StandFor l heaps (put n ss i e y) own remaining s → With h (account y heap remaining) s
+  with_kept y s fields = subst (λ hs. StandFor l hs (put n ss i e y) own remaining s) (sym (same_set heaps j heap h.at_heap)) fields
 
   pub unchanged : With h (account x heap remaining) t
-  unchanged = with_kept x t (subst (λ rest. StandFor l heaps rest own remaining t) (sym (ap (n.with_all ss) (same_set (n.all ss) i x h.has.at) ∙ named.same ss)) (h.has.kept, refl))
+  unchanged = with_kept x t (subst (λ rest. StandFor l heaps rest own remaining t) (sym (put_same named ss i e x (is_at named h.has) h.has.is)) (h.has.kept, refl))
 
   -- A request.
 
@@ -281,7 +297,7 @@ module _ {T A B : Type 0} {r : Rule T A B} {n : Named r} (named : IsNamed n) {X 
     own_case = ask_case r (account x heap remaining) q.ask q.flags
 
     both_tell : IsToldAs own_case (case_at n t i q.ask)
-    both_tell = told named t i x (serves named h.has) asked heap q.ask q.flags q.some (type_heap_is l heaps ss.buddies ss.lists ss.fits (whole_in own ss) remaining h.has.kept.books i j heap h.has.known h.here h.at_heap) q.flags_are
+    both_tell = told named t i x (serves named h.has) asked heap q.ask q.flags q.some (type_heap_is l heaps ss (whole own ss) remaining h.has.kept.books i j heap h.has.known h.here h.at_heap) q.flags_are
 
     -- a refusal
     pub refused : (e : AllocationError) → Answers c es (Err e) after → With h after t × Answers d es (Err e) t
@@ -313,10 +329,10 @@ module _ {T A B : Type 0} {r : Rule T A B} {n : Named r} (named : IsNamed n) {X 
           let there : map.get t.held (r.bytes b).object ≡ Some (row n x (r.key b) chunk) = ap (map.get t.held) lies.1.1 ∙ (linked named st.stands).chunks (r.key b) chunk found in
           let kept : new ≡ old = rw found at objects in
           let then = step named st y same {now = heaps} refl refl made_is (plain_of named y sound_now) (named.of_less l.config offered i x (r.chunks x) _ st.of (λ key d held. held))
-          (booked-span offered heaps (whole_in own ss) remaining h.has.kept.books refl (whole_in own (put n ss i y)) (row n x (r.key b) chunk) (block_span r b) there (named.shared (r.key b)) made_is.held_is (named.some y sound_now b (new_live y live)) made_is.live_is)
-          (chosen_same l.sharing (whole_in own ss) (whole_in own (put n ss i y)) st.chosen made_is.held_is) in
-          let state_is = then.1 ∙ (λ k. record t { live = set_of.insert t.live (block_span r b); types = types_kept named (first_types l.config offered) ss i x h.has.at (r.chunks x) (set_of.insert (r.live x) b) k }) in
-          let fields = with_kept y (with_span t (block_span r b)) (keep l then.0 (are_set named l.config offered ss i y (are_all named h.has) then.0.of sound_now), state_is) in
+          (booked-span offered heaps (whole own ss) remaining h.has.kept.books refl (whole own (put n ss i e y)) (row n x (r.key b) chunk) (block_span r b) there (named.shared (r.key b)) made_is.held_is (named.some y sound_now b (new_live y live)) made_is.live_is)
+          (chosen_same l.sharing (whole own ss) (whole own (put n ss i e y)) st.chosen made_is.held_is) in
+          let state_is = then.1 ∙ (λ k. record t { live = set_of.insert t.live (block_span r b); types = types_kept named ss i e x (is_at named h.has) h.has.is (first_types l.config offered) (r.chunks x) (set_of.insert (r.live x) b) k }) in
+          let fields = with_kept y (with_span t (block_span r b)) (keep l then.0 (are_set named ss i e x (is_at named h.has) h.has.is l.config offered l.sharing h.has.kept.shared y then.0.of sound_now), state_is) in
           subst (IsServed h (case_at n t i q.ask) es b old new) (sym after_is) (record {
             kept = fields.0;
             gives = inl (record { fits = gives.fits; place = asked.taken t i x q.ask b (serves named h.has) gives.place; asked = gives.asked; state = fields.1 });
@@ -344,24 +360,24 @@ module _ {T A B : Type 0} {r : Rule T A B} {n : Named r} (named : IsNamed n) {X 
           let size_is : size ≡ n.size t i q.ask = asked.size t i x heap q.ask (serves named h.has) in
           let held_row : HeldObject = record { memory_type = i; counted = size; kind = n.kind (r.key b) } in
           let made_is = chunk_comes named st.stands y (named.lawful.same_type x q.ask size b) b (r.key b) chunk free refl own_key chunks live in
-          let held_is : (whole_in own (put n ss i y)).held ≡ map.insert t.held (r.bytes b).object held_row = made_is.held_is ∙ (λ k. map.insert t.held (r.bytes b).object (record held_row { memory_type = typed.0 k })) in
+          let held_is : (whole own (put n ss i e y)).held ≡ map.insert t.held (r.bytes b).object held_row = made_is.held_is ∙ (λ k. map.insert t.held (r.bytes b).object (record held_row { memory_type = typed.0 k })) in
           let then = step named st y (named.lawful.same_type x q.ask size b) (properties_kept l heaps j changed_heap heap h.at_heap refl) (limits_kept heaps j changed_heap heap h.at_heap refl) made_is (plain_of named y sound_now) (named.of_more l.config offered i x heap q.ask b st.of (its named h.has).1 gives.place sound_now)
-          (booked-held offered heaps (whole_in own ss) remaining h.has.kept.books refl (whole_in own (put n ss i y)) held_row (block_span r b)
+          (booked-held offered heaps (whole own ss) remaining h.has.kept.books refl (whole own (put n ss i e y)) held_row (block_span r b)
           (record {
             with = record { nonempty = named.some y sound_now b (new_live y live); small = named.small y sound_now (r.key b) chunk found; known = h.has.known; lies = λ alone. absurd (let both = sym alone ∙ named.shared (r.key b) in cc) };
             free = free;
             held = held_is;
             live = made_is.live_is;
           }) heap changed_heap j gives.asks.has.remains.objects h.here h.at_heap refl (λ _. gives.asks.within))
-          (chosen_more l.sharing (whole_in own ss) (whole_in own (put n ss i y)) (r.bytes b).object held_row h.has.kept.chosen choice held_is) in
+          (chosen_more l.sharing (whole own ss) (whole own (put n ss i e y)) (r.bytes b).object held_row h.has.kept.chosen choice held_is) in
           let grown = named.grown t i x heap q.ask b (serves named h.has) gives.place in
           let state_is = then.1 ∙ (λ k. record t {
             held = map.insert t.held (r.bytes b).object (record { memory_type = typed.0 k; counted = size_is k; kind = n.kind (r.key b) });
             live = set_of.insert t.live (block_span r b);
             remaining = remaining - 1;
-            types = named.types_set (first_types l.config offered) ss i y k;
+            types = types_put named ss i e x (is_at named h.has) h.has.is (first_types l.config offered) y k;
           }) ∙ ap (λ z. with_span z (block_span r b)) (sym grown) in
-          let are = subst (λ z. AreFor l.config z (put n ss i y)) (sym (properties_kept l heaps j changed_heap heap h.at_heap refl)) (are_set named l.config offered ss i y (are_all named h.has) (named.of_more l.config offered i x heap q.ask b st.of (its named h.has).1 gives.place sound_now) sound_now) in
+          let are = subst (λ z. AreStores l.config z l.sharing (put n ss i e y)) (sym (properties_kept l heaps j changed_heap heap h.at_heap refl)) (are_set named ss i e x (is_at named h.has) h.has.is l.config offered l.sharing h.has.kept.shared y (named.of_more l.config offered i x heap q.ask b st.of (its named h.has).1 gives.place sound_now) sound_now) in
           let found_now = ap (λ (z : State). map.get z.held (r.bytes b).object) (state_is ∙ ap (λ z. with_span z (block_span r b)) grown) ∙ own_inserted t.held (r.bytes b).object _ in
           subst (IsServed h (case_at n t i q.ask) es b old new) (sym after_is) (record {
             kept = keep l then.0 are;
@@ -393,17 +409,17 @@ module _ {T A B : Type 0} {r : Rule T A B} {n : Named r} (named : IsNamed n) {X 
     }
 
     -- one chunk went in which no block was live
-    one_left : {rest : Stores} {y : T} → Stood n l heaps rest own remaining i y → state_of l heaps rest own remaining ≡ s → ((z : T) → put n rest i z ≡ put n ss i z) → (key : ℕ) → ((b : B) → IsLive r y b → r.key b ≢ key)
+    one_left : {rest : List (TypeStores M X)} {f : TypeStores M X} {y : T} → Stood n l heaps rest own remaining i f y → state_of l heaps rest own remaining ≡ s → ((z : T) → put n rest i f z ≡ put n ss i e z) → (key : ℕ) → ((b : B) → IsLive r y b → r.key b ≢ key)
         → (goes : ReleasesChunk r (account y heap remaining) key es after) → r.IsSound after.allocator → new ≡ put_object old goes.0.object None → IsLeft h s (goes.0.object ∷ []) after es q old new
-    one_left {rest} {y} st state_is same key unused goes sound objects =
+    one_left {rest} {f} {y} st state_is same key unused goes sound objects =
         let z = without_chunk r y key in
         let changed_heap : Heap = record heap { used = heap.used - goes.0.size } in
         let sound_now : r.IsSound z = subst r.IsSound (ap (λ (a : Account T). a.allocator) goes.2.1) sound in
         let went = released named st j heap h.here h.at_heap key goes.0 goes.1 unused (plain_of named z sound_now) in
         let now : State = record s { held = map.remove s.held goes.0.object; remaining = remaining + 1 } in
-        let are = are_set named l.config _ ss i z (subst (λ a. AreFor l.config a ss) (sym (properties_kept l heaps j changed_heap heap h.at_heap refl)) (are_all named h.has)) went.0.of sound_now in
+        let are = are_set named ss i e x (is_at named h.has) h.has.is l.config _ l.sharing (subst (λ a. AreStores l.config a l.sharing ss) (sym (properties_kept l heaps j changed_heap heap h.at_heap refl)) h.has.kept.shared) z went.0.of sound_now in
         let fields : With h (account z changed_heap (remaining + 1)) now = subst (λ ts. StandFor l (set heaps j changed_heap) ts own (remaining + 1) now) (same z) (
-          keep l went.0 (subst (AreFor l.config (properties_in l (set heaps j changed_heap))) (sym (same z)) are),
+          keep l went.0 (subst (AreStores l.config (properties_in l (set heaps j changed_heap)) l.sharing) (sym (same z)) are),
           went.1 ∙ (λ k. record (state_is k) { held = map.remove (state_is k).held goes.0.object; remaining = remaining + 1 }),
         ) in
         let left = subst (λ a. With h a now) (sym goes.2.1) fields in
@@ -434,11 +450,11 @@ module _ {T A B : Type 0} {r : Rule T A B} {n : Named r} (named : IsNamed n) {X 
     abbrev rest : State
     rest = without_span t block
 
-    pub went : Stood n l heaps (put n ss i y) own remaining i y × (state_of l heaps (put n ss i y) own remaining ≡ rest)
+    pub went : Stood n l heaps (put n ss i e y) own remaining i (n.put e y) y × (state_of l heaps (put n ss i e y) own remaining ≡ rest)
     went = let it = without named (stood named h.has) b its_block.live in (it.0, it.1 ∙ (λ k. record t { live = set_of.remove t.live (sym its_block.span k) }))
 
-    put_again : (z : T) → put n (put n ss i y) i z ≡ put n ss i z
-    put_again z = named.twice ss (set (n.all ss) i y) _ ∙ ap (n.with_all ss) (ap (λ xs. set xs i z) (named.all_are ss (set (n.all ss) i y)) ∙ set-set (n.all ss) i y z)
+    put_again : (z : T) → put n (put n ss i e y) i (n.put e y) z ≡ put n ss i e z
+    put_again z = set-set ss i (n.put e y) (n.put (n.put e y) z) ∙ ap (set ss i) (named.twice e y z)
 
     -- its chunk
     pub own_chunk : (c : Chunk) × ((map.get (r.chunks y) (r.key b) ≡ Some c) × ((r.bytes b).object ≡ c.object))
@@ -451,14 +467,14 @@ module _ {T A B : Type 0} {r : Rule T A B} {n : Named r} (named : IsNamed n) {X 
 
     -- Where the store is sound then, it is handed on.
     module _ (sound : r.IsSound y) where
-      pub handed_then : Handed n l heaps (put n ss i y) own remaining i j y heap
-      handed_then = handed n l (keep l went.0 (are_set named l.config offered ss i y (are_all named h.has) went.0.of sound)) h.has.known went.0.stands.at h.here h.at_heap
+      pub handed_then : Handed n l heaps (put n ss i e y) own remaining i j (n.put e y) y heap
+      handed_then = handed n l (keep l went.0 (are_set named ss i e x (is_at named h.has) h.has.is l.config offered l.sharing h.has.kept.shared y went.0.of sound)) h.has.known went.0.stands.at went.0.stands.is h.here h.at_heap
 
       -- what is left in the end is left of what was handed first
       pub left_then : {names : List ℕ} {after : Account T} {es : List Event} {q : Properties} {old new : ℕ → Option Object} → IsLeft handed_then (before handed_then) names after es q old new → IsLeft h rest names after es q old new
       left_then {names} {after} {q = q} {new = new} left =
           let again = put_again after.allocator in
-          let at_last = λ (ts : Stores). state_of l (set heaps j after.heap) ts own after.remaining in
+          let at_last = λ (ts : List (TypeStores M X)). state_of l (set heaps j after.heap) ts own after.remaining in
           record {
             kept = subst (λ ts. Keep l (set heaps j after.heap) ts own after.remaining) again left.kept;
             lets = (left.lets.0, ap at_last (sym again) ∙ left.lets.1 ∙ (λ k. record (went.1 k) { held = without_all (went.1 k).held names; remaining = (went.1 k).remaining + length names }));
@@ -475,7 +491,7 @@ module _ {T A B : Type 0} {r : Rule T A B} {n : Named r} (named : IsNamed n) {X 
         pub back : shared.Frees r (account x heap remaining) b es after → shared.ObjectsFreed r x b old new → IsReturned h block after es q old new
         back (inl kept) (inl same) =
             let sound_now : r.IsSound y = subst r.IsSound (ap (λ (a : Account T). a.allocator) kept.1.1) sound in
-            let fields = with_kept y rest (keep l went.0 (are_set named l.config offered ss i y (are_all named h.has) went.0.of sound_now), went.1) in
+            let fields = with_kept y rest (keep l went.0 (are_set named ss i e x (is_at named h.has) h.has.is l.config offered l.sharing h.has.kept.shared y went.0.of sound_now), went.1) in
             as_returned own_chunk.0 own_chunk.1.1 [] (none_left (agrees_without_span t p p old block agrees refl) properties (subst (λ a. With h a rest) (sym kept.1.1) fields) kept.1.0 same.1) ((goes_with own_chunk.0 own_chunk.1.0).stays kept.0)
         back (inl kept) (inr lost) = absurd (kept.0 lost.0)
         back (inr gone) (inl same) = absurd (same.0 gone.0)

@@ -1,5 +1,5 @@
 -- Whether a block is live in the whole allocator: where it is one of its memory type's store.
-use Rattle.std.proofs.Common.{◌≡◌, ◌↔◌, ℕ, List, MatchOption, Option, Some, None, is_some, IsTrue, refl, sym, ◌∙◌, ap, subst}
+use Rattle.std.proofs.Common.{◌≡◌, ◌↔◌, ◌<◌, ℕ, false, List, length, get_or, MatchOption, Option, Some, None, is_some, IsTrue, refl, sym, ◌∙◌, ap, subst, arith}
 use Rattle.std.specs.FinMap as map
 use Rattle.std.specs.FinSet as set
 use Rattle.gpu_alloc_base.specs.declared.heap.Heap.{Heap}
@@ -7,11 +7,20 @@ use Rattle.gpu_alloc_base.proofs.Maps.{one_value}
 use Rattle.gpu_alloc_block.specs.State.{Block, HeldObject, IsOwned, Span, State, span_of}
 use Rattle.gpu_alloc_shared.specs.Rule.{Rule}
 use Rattle.gpu_alloc.specs.Own.{OwnTable}
+use Rattle.gpu_alloc.specs.declared.allocator.stores.TypeStores.{TypeStores}
 use Rattle.gpu_alloc.specs.declared.limits.Limits.{Limits}
-use Rattle.gpu_alloc.proofs.Shared.Calls.{Has, IsBlockOf, serves, state_of, stood}
-use Rattle.gpu_alloc.proofs.Shared.Stores.{IsNamed, Named, Stores, row}
+use Rattle.gpu_alloc.proofs.Shared.Calls.{Has, IsBlockOf, Keep, known_type, serves, state_of, stood}
+use Rattle.gpu_alloc.proofs.Shared.Stores.{IsNamed, Named, row}
 
-module _ {T A B : Type 0} {r : Rule T A B} {n : Named r} (named : IsNamed n) {X : Type 0} {l : Limits X} {heaps : List Heap} {ss : Stores} {own : OwnTable} {remaining i : ℕ} {x : T} (has : Has n l heaps ss own remaining i x) where
+-- a memory type's store, as a look-up finds it
+pub has_found : {T A B : Type 0} {r : Rule T A B} (n : Named r) {M X : Type 0} (l : Limits X) {heaps : List Heap} {ss : List (TypeStores M X)} {own : OwnTable} {remaining i : ℕ} {e : TypeStores M X} {x : T} → Keep l heaps ss own remaining → i < length ss → e ≡ get_or ss i e → n.get e ≡ Some x → Has n l heaps ss own remaining i e x
+has_found n l kept inside at is = record { kept = kept; known = omega (arith, inside, kept.shared.count); at = at; is = is }
+
+-- what cannot be owned is not
+pub never_owned : {P : Type 0} → (P → ⊥) → IsTrue false ↔ P
+never_owned none = (λ no. absurd (cc), λ is. absurd (none is))
+
+module _ {T A B : Type 0} {r : Rule T A B} {n : Named r} (named : IsNamed n) {M X : Type 0} {l : Limits X} {heaps : List Heap} {ss : List (TypeStores M X)} {own : OwnTable} {remaining i : ℕ} {e : TypeStores M X} {x : T} (has : Has n l heaps ss own remaining i e x) where
   abbrev t : State
   t = state_of l heaps ss own remaining
 
@@ -40,3 +49,8 @@ module _ {T A B : Type 0} {r : Rule T A B} {n : Named r} (named : IsNamed n) {X 
       → IsTrue (is_some o) ↔ IsOwned t block
   found_owned typed b_of None key kind none other found = (λ no. absurd (cc), λ owned. absurd (let there = block_of typed owned key kind in other there.0 there.1 none))
   found_owned typed b_of (Some f) key kind is other found = (λ yes. owned_of typed (b_of f) (found f is), λ owned. refl)
+
+-- an owned block, by what its memory type's store is read as
+pub block_in : {T A B : Type 0} {r : Rule T A B} {n : Named r} (named : IsNamed n) {M X : Type 0} (l : Limits X) {heaps : List Heap} {ss : List (TypeStores M X)} {own : OwnTable} {remaining i : ℕ} {e : TypeStores M X} {x : T} {block : Block} → Keep l heaps ss own remaining → IsOwned (state_of l heaps ss own remaining) block → i ≡ block.memory_type → e ≡ get_or ss i e → n.get e ≡ Some x
+    → (key : ℕ) → block.kind ≡ n.kind key → (b : B) × IsBlockOf n x b block
+block_in named l kept owned typed at is = block_of named {l = l} (record { kept = kept; known = known_type l kept owned typed; at = at; is = is }) typed owned

@@ -17,28 +17,27 @@ use Rattle.gpu_alloc_base.specs.declared.heap.Heap.{Heap}
 use Rattle.gpu_alloc_block.specs.Parts.{HaveOwnObjects, IsAt, Part, Chunks, Held, Holds, Live, Makes, by_name, by_span}
 use Rattle.gpu_alloc_block.specs.State.{Block, HeldObject, Span, State, TypeState, granted_block, heap_limit, is_shared, ledger, share, span_of}
 use Rattle.gpu_alloc_block.specs.declared.block.Kind.{Kind}
-use Rattle.gpu_alloc_buddy.specs.BuddyState.{Buddy}
-use Rattle.gpu_alloc_fit.specs.Fit.{FitState}
-use Rattle.gpu_alloc_freelist.specs.FreeListState.{FreeListState}
+use Rattle.gpu_alloc_block.specs.declared.sharing.Sharing.{Sharing}
 use Rattle.gpu_alloc_shared.specs.Rule.{IsLawful, IsLive, Rule}
 use Rattle.gpu_alloc_shared.specs.Shared.{ask_case, without_block, Agrees, sees_chunks}
 use Rattle.gpu_alloc.specs.BuddySharing.{with_span}
 use Rattle.gpu_alloc.specs.Candidates.{IsNewBlock}
-use Rattle.gpu_alloc.specs.Inside.{AreBuddies, AreFits, AreLists, IsLiveIn, fits_in, lists_in, types_in, IsBooked}
+use Rattle.gpu_alloc.specs.Inside.{IsLiveIn, IsBooked}
 use Rattle.gpu_alloc.specs.Own.{OwnTable}
 use Rattle.gpu_alloc.specs.Spans.{Table}
-use Rattle.gpu_alloc.specs.Stores.{block_span, chunk_row, part}
-use Rattle.gpu_alloc.specs.Whole.{IsPartFor, parts_of, whole, AreOneWhole}
+use Rattle.gpu_alloc.specs.Stores.{AreStoresFor, block_span, chunk_row, part, type_sizes}
+use Rattle.gpu_alloc.specs.Whole.{AreOneWhole, IsPartFor, own_part, part_at, parts_of, part_side, whole}
+use Rattle.gpu_alloc.specs.declared.allocator.stores.TypeStores.{TypeStores}
 use Rattle.gpu_alloc.proofs.Shared.Types.{changed}
-use Rattle.std.proofs.Common.{◌≡◌, ◌≢◌, ℕ, ◌<◌, List, length, Some, None, IsTrue, refl, sym, ◌∙◌, ap, subst, arith, ◌≤◌, true, get_or, Option, IfSome}
+use Rattle.std.proofs.Common.{◌≡◌, ◌≢◌, ℕ, suc, ◌<◌, List, ◌∷◌, length, Some, None, IsTrue, refl, sym, ◌∙◌, ap, subst, arith, ◌≤◌, true, get_or, Option, IfSome}
 use Rattle.std.proofs.lemmas.List.{get_or-set_same, length-set}
 use Rattle.gpu_alloc_base.proofs.ListSets.{in_removed}
 use Rattle.gpu_alloc_block.proofs.Parts.ByName.{name_there, name_was, span_row_live, span_row_there}
-use Rattle.gpu_alloc_block.proofs.Parts.Steps.{holds_of, own_part, part_span}
+use Rattle.gpu_alloc_block.proofs.Parts.Steps.{holds_of, own_part as part_owns, part_span}
 use Rattle.gpu_alloc_block.proofs.Parts.Stores as store
 use Rattle.gpu_alloc_block.proofs.Parts.Unions.{live_of}
 use Rattle.gpu_alloc.proofs.Shared.Free.{IsCopy}
-use Rattle.gpu_alloc.proofs.Wholes.{at_read, single}
+use Rattle.gpu_alloc.proofs.Wholes.{at_read, single, two, type_part_at, type_part_set}
 use Rattle.gpu_alloc_types.specs.Device.{Object, HeldWith}
 use Rattle.gpu_alloc_types.specs.Flags.{has_bit}
 use Rattle.gpu_alloc_base.proofs.Maps.{eq-true, one_value}
@@ -51,39 +50,17 @@ use Rattle.gpu_alloc.specs.FreeBytes.{IsFreeByte}
 use Rattle.gpu_alloc.specs.Release.{IsUnused}
 use Rattle.gpu_alloc.proofs.HeapLists.{IsHeap, ledger_at}
 
--- the memory types' stores, as the allocator's fields have them
-pub record Stores : Type 0 where
-  pub buddies : List Buddy
-  pub lists : List FreeListState
-  pub fits : List FitState
-
-abbrev pub parts_in : OwnTable → Stores → List Part
-parts_in own ss = parts_of own ss.buddies ss.lists ss.fits
-
-abbrev pub whole_in : OwnTable → Stores → Table
-whole_in own ss = whole own ss.buddies ss.lists ss.fits
-
-abbrev pub IsSpotIn : Stores → ℕ → HeldObject → Type 0
-IsSpotIn ss = IsPartFor (length ss.buddies) (length ss.lists)
-
-abbrev pub types_from : List TypeState → Stores → List TypeState
-types_from types ss = fits_in (lists_in (types_in types ss.buddies) ss.lists) ss.fits
-
-pub record AreFor (c : Config) (p : Properties) (ss : Stores) : Type 0 where
-  pub buddies : AreBuddies c p ss.buddies
-  pub lists : AreLists c p ss.lists
-  pub fits : AreFits c p ss.fits
-
 -- what a state holds
 abbrev pub table_of : State → Table
 table_of s = record { held = s.held; live = s.live }
 
 pub record Named {T A B : Type 0} (r : Rule T A B) : Type 1 where
-  -- Its chunks' kind, by key; the stores of each memory type, which may be others; and the places of their parts.
+  -- its chunks' kind, by key
   pub kind : ℕ → Kind
-  pub all : Stores → List T
-  pub with_all : Stores → List T → Stores
-  pub spot : Stores → ℕ → ℕ
+  -- A memory type's one, where it has one; another one in its place; and which of both parts is its.
+  pub get : {M X : Type 0} → TypeStores M X → Option T
+  pub put : {M X : Type 0} → TypeStores M X → T → TypeStores M X
+  pub side : ℕ
   -- what it is for a memory type between calls, and without being sound, and how it changes its memory type's sizes
   pub IsFor : Config → Properties → ℕ → T → Type 0
   pub IsOf : Config → Properties → ℕ → T → Type 0
@@ -101,9 +78,13 @@ pub record Named {T A B : Type 0} (r : Rule T A B) : Type 1 where
   pub with_chunk : State → ℕ → ℕ → ℕ → State
 
 module _ {T A B : Type 0} {r : Rule T A B} (n : Named r) where
-  -- one store is put in its place
-  abbrev pub put : Stores → ℕ → T → Stores
-  put ss i x = n.with_all ss (set (n.all ss) i x)
+  -- another one is put in its memory type's place
+  abbrev pub put : {M X : Type 0} → List (TypeStores M X) → ℕ → TypeStores M X → T → List (TypeStores M X)
+  put ss i e x = set ss i (n.put e x)
+
+  -- where its part stands
+  abbrev pub spot : ℕ → ℕ
+  spot i = suc (part_at i n.side)
 
   abbrev pub row : T → ℕ → Chunk → HeldObject
   row x key c = chunk_row r n.kind x key c
@@ -179,26 +160,23 @@ module _ {T A B : Type 0} {r : Rule T A B} (n : Named r) where
     -- what is read of its memory type's sizes is its own
     pub next : (read : Option TypeState → ℕ) (m : ℕ) → ((type : TypeState) → read (Some (n.sizes x type)) ≡ m) → read (slice_get s.types i) ≡ m
 
-  abbrev pub Each : Config → Properties → List T → Type 0
-  Each c p xs = (length xs ≡ length p.memory_types) × ((i : ℕ) → IfSome (slice_get xs i) (n.IsFor c p i))
-
   -- What each store owes.
-  pub record IsNamed : Type 0 where
+  pub record IsNamed : Type 1 where
     pub lawful : IsLawful r
     pub shared : (key : ℕ) → is_shared (n.kind key) ≡ true
     pub total : IsTotalOrder r.order
     pub exact : IsAntisymmetric r.order
-    -- Among the fields.
-    pub all_are : (ss : Stores) (xs : List T) → n.all (n.with_all ss xs) ≡ xs
-    pub same : (ss : Stores) → n.with_all ss (n.all ss) ≡ ss
-    pub twice : (ss : Stores) (xs ys : List T) → n.with_all (n.with_all ss xs) ys ≡ n.with_all ss ys
-    pub spots : (ss : Stores) (i : ℕ) (x : T) → (length (put ss i x).buddies ≡ length ss.buddies) × (length (put ss i x).lists ≡ length ss.lists)
-    pub part_at : (own : OwnTable) (ss : Stores) (i : ℕ) (x : T) → IsAt (n.all ss) i x → IsAt (parts_in own ss) (n.spot ss i) (part r n.kind x)
-    pub part_set : (own : OwnTable) (ss : Stores) (i : ℕ) (x new : T) → IsAt (n.all ss) i x → set (parts_in own ss) (n.spot ss i) (part r n.kind new) ≡ parts_in own (put ss i new)
-    pub placed : (ss : Stores) (i key : ℕ) (h : HeldObject) → i < length (n.all ss) → h.kind ≡ n.kind key → h.memory_type ≡ i → IsSpotIn ss (n.spot ss i) h
+    -- Among a memory type's stores.
+    pub got : {M X : Type 0} (e : TypeStores M X) (x : T) → n.get (n.put e x) ≡ Some x
+    pub same : {M X : Type 0} (e : TypeStores M X) (x : T) → n.get e ≡ Some x → n.put e x ≡ e
+    pub twice : {M X : Type 0} (e : TypeStores M X) (x y : T) → n.put (n.put e x) y ≡ n.put e y
+    pub part_there : {M X : Type 0} (e : TypeStores M X) (x : T) → n.get e ≡ Some x → IsAt (two e) n.side (part r n.kind x)
+    pub part_set : {M X : Type 0} (e : TypeStores M X) (x y : T) → n.get e ≡ Some x → set (two e) n.side (part r n.kind y) ≡ two (n.put e y)
+    pub side_small : n.side < 2
+    pub placed : (key : ℕ) (kind : Kind) → kind ≡ n.kind key → part_side kind ≡ n.side
     -- What they are for.
-    pub each : (c : Config) (p : Properties) (ss : Stores) → AreFor c p ss → Each c p (n.all ss)
-    pub are : (c : Config) (p : Properties) (ss : Stores) (xs : List T) → AreFor c p ss → Each c p xs → AreFor c p (n.with_all ss xs)
+    pub each : {M X : Type 0} (c : Config) (p : Properties) (sharing : Sharing) (i : ℕ) (e : TypeStores M X) (x : T) → AreStoresFor c p sharing i e → n.get e ≡ Some x → n.IsFor c p i x
+    pub each_put : {M X : Type 0} (c : Config) (p : Properties) (sharing : Sharing) (i : ℕ) (e : TypeStores M X) (x y : T) → AreStoresFor c p sharing i e → n.get e ≡ Some x → n.IsFor c p i y → AreStoresFor c p sharing i (n.put e y)
     pub for_is : (c : Config) (p : Properties) (i : ℕ) (x : T) → n.IsFor c p i x → n.IsOf c p i x × r.IsSound x
     pub for_of : (c : Config) (p : Properties) (i : ℕ) (x : T) → n.IsOf c p i x → r.IsSound x → n.IsFor c p i x
     pub of_type : (c : Config) (p : Properties) (i : ℕ) (x : T) → n.IsOf c p i x → ((r.served x).memory_type ≡ i) × ((r.served x).props ≡ props_at p i)
@@ -207,7 +185,7 @@ module _ {T A B : Type 0} {r : Rule T A B} (n : Named r) where
     pub of_more : (c : Config) (p : Properties) (i : ℕ) (x : T) (heap : Heap) (ask : A) (b : B) → n.IsOf c p i x → r.IsSound x → r.Begins x ask (r.chunk_size x heap ask) b
         → r.IsSound (r.in_new_chunk x ask (r.chunk_size x heap ask) b) → n.IsOf c p i (r.in_new_chunk x ask (r.chunk_size x heap ask) b)
     -- The sizes of next chunks.
-    pub types_set : (types : List TypeState) (ss : Stores) (i : ℕ) (x : T) → types_from types (put ss i x) ≡ changed (n.sizes x) (types_from types ss) i
+    pub types_put : {M X : Type 0} (e : TypeStores M X) (x y : T) (type : TypeState) → n.get e ≡ Some x → type_sizes (n.put e y) type ≡ n.sizes y (type_sizes e type)
     pub sizes_kept : (x : T) (chunks : HeldChunks) (live : set_of.FinSet r.order) → n.sizes (r.with_space x chunks live) ≡ n.sizes x
     pub grown : (s : State) (i : ℕ) (x : T) (heap : Heap) (ask : A) (b : B) → Serves s i x → r.Begins x ask (r.chunk_size x heap ask) b → n.with_chunk s i (r.bytes b).object (n.size s i ask) ≡ record s {
       held = map.insert s.held (r.bytes b).object (record { memory_type = i; counted = n.size s i ask; kind = n.kind (r.key b) });
@@ -232,10 +210,11 @@ module _ {T A B : Type 0} {r : Rule T A B} (n : Named r) where
     pub begun : (s : State) (i : ℕ) (x : T) (heap : Heap) (ask : A) (b : B) → Serves s i x → r.Begins x ask (r.chunk_size x heap ask) b → block_at s i b ≡ n.new_block s i ask (r.bytes b).object
 
 module _ {T A B : Type 0} {r : Rule T A B} (n : Named r) where
-  pub record Stands (own : OwnTable) (ss : Stores) (i : ℕ) (x : T) : Type 0 where
-    pub apart : AreOneWhole own ss.buddies ss.lists ss.fits
-    pub at : x ≡ get_or (n.all ss) i x
-    pub inside : i < length (n.all ss)
+  pub record Stands {M X : Type 0} (own : OwnTable) (ss : List (TypeStores M X)) (i : ℕ) (e : TypeStores M X) (x : T) : Type 0 where
+    pub apart : AreOneWhole own ss
+    pub at : e ≡ get_or ss i e
+    pub inside : i < length ss
+    pub is : n.get e ≡ Some x
     pub of_type : (r.served x).memory_type ≡ i
     pub plain : IsPlain n x
 
@@ -257,38 +236,46 @@ module _ {T A B : Type 0} {r : Rule T A B} {n : Named r} (named : IsNamed n) whe
       was : (q : B) → IsLive r (without_block r x b) q → IsLive r x q
       was q live = ((in_removed r.order named.total named.exact (r.live x) b q).0 (subst (λ rows. IsTrue (set_of.contains rows q)) (named.lawful.its_live x (r.chunks x) (set_of.remove (r.live x) b)) live)).1
 
-module _ {T A B : Type 0} {r : Rule T A B} {n : Named r} (named : IsNamed n) {own : OwnTable} {ss : Stores} {i : ℕ} {x : T} (st : Stands n own ss i x) where
+module _ {T A B : Type 0} {r : Rule T A B} {n : Named r} (named : IsNamed n) {M X : Type 0} {own : OwnTable} {ss : List (TypeStores M X)} {i : ℕ} {e : TypeStores M X} {x : T} (st : Stands n own ss i e x) where
   abbrev own_place : Part
   own_place = part r n.kind x
 
-  at : IsAt (parts_in own ss) (n.spot ss i) own_place
-  at = named.part_at own ss i x (at_read (n.all ss) i x st.inside st.at)
+  pub in_all : IsAt ss i e
+  in_all = at_read ss i e st.inside st.at
 
-  holds : (object : ℕ) (h : HeldObject) → IsHeldAs n (whole_in own ss) x object h → Holds own_place object h
+  at : IsAt (parts_of own ss) (spot n i) own_place
+  at = type_part_at ss i e n.side own_place in_all (named.part_there e x st.is)
+
+  -- an object of its kind is its to hold
+  its_spot : (key : ℕ) (h : HeldObject) → h.kind ≡ n.kind key → h.memory_type ≡ i → IsPartFor (spot n i) h
+  its_spot key h kind type = (ap is_shared kind ∙ named.shared key, λ k. part_at (type k) (named.placed key h.kind kind k))
+
+  holds : (object : ℕ) (h : HeldObject) → IsHeldAs n (whole own ss) x object h → Holds own_place object h
   holds object h of =
-      own_part (IsSpotIn ss) (parts_in own ss) st.apart (single (length ss.buddies) (length ss.lists)) (n.spot ss i) own_place object h of.held (named.placed ss i of.key h st.inside of.of_kind (of.of_type ∙ st.of_type)) at
+      part_owns IsPartFor (parts_of own ss) st.apart single (spot n i) own_place object h of.held (its_spot of.key h of.of_kind (of.of_type ∙ st.of_type)) at
 
-  pub linked : IsLinked n (whole_in own ss) x
+  pub linked : IsLinked n (whole own ss) x
   linked = record {
-    chunks = λ key c held. holds_of (IsSpotIn ss) (parts_in own ss) st.apart (n.spot ss i) own_place c.object (row n x key c) at (name_there (row n x) (r.chunks x) st.plain.own_object key c held);
+    chunks = λ key c held. holds_of IsPartFor (parts_of own ss) st.apart (spot n i) own_place c.object (row n x key c) at (name_there (row n x) (r.chunks x) st.plain.own_object key c held);
     objects = λ object h of.
         let was = name_was (row n x) (r.chunks x) st.plain.own_object object h (holds object h of) in
         (was.0, was.2 ∙ (λ k. Some (record { object = was.3 k; size = (was.4 k).counted })), ap (λ (o : HeldObject). o.kind) was.4);
-    blocks = λ b live. live_of (parts_in own ss) (n.spot ss i) own_place (block_span r b) at (span_row_live named.total named.exact (block_span r) (r.live x) b live);
-    spans = λ span h live of. span_row_there named.total named.exact (block_span r) (r.live x) span (part_span (IsSpotIn ss) (parts_in own ss) st.apart (n.spot ss i) own_place span h live (holds span.object h of) at);
+    blocks = λ b live. live_of (parts_of own ss) (spot n i) own_place (block_span r b) at (span_row_live named.total named.exact (block_span r) (r.live x) b live);
+    spans = λ span h live of. span_row_there named.total named.exact (block_span r) (r.live x) span (part_span IsPartFor (parts_of own ss) st.apart (spot n i) own_place span h live (holds span.object h of) at);
   }
 
   -- Another one of its memory type is put in its place.
 
   module _ (y : T) (same : r.served y ≡ r.served x) where
-    abbrev then : Stores
-    then = put n ss i y
+    abbrev then : List (TypeStores M X)
+    then = put n ss i e y
 
-    pub stands_now : AreOneWhole own then.buddies then.lists then.fits → IsPlain n y → Stands n own then i y
+    pub stands_now : AreOneWhole own then → IsPlain n y → Stands n own then i (n.put e y) y
     stands_now apart plain = record {
       apart = apart;
-      at = sym (get_or-set_same (n.all ss) i y y st.inside) ∙ ap (λ xs. get_or xs i y) (sym (named.all_are ss (set (n.all ss) i y)));
-      inside = omega (arith, st.inside, ap length (named.all_are ss (set (n.all ss) i y)), length-set (n.all ss) i y);
+      at = sym (get_or-set_same ss i (n.put e y) (n.put e y) st.inside);
+      inside = omega (arith, st.inside, length-set ss i (n.put e y));
+      is = named.got e y;
       of_type = ap (λ m. m.memory_type) same ∙ st.of_type;
       plain = plain;
     }
@@ -297,37 +284,35 @@ module _ {T A B : Type 0} {r : Rule T A B} {n : Named r} (named : IsNamed n) {ow
     held_as chunks is = λ k. by_name (λ key c. record { memory_type = (same k).memory_type; counted = c.size; kind = n.kind key }) (is k)
 
     abbrev MakesThen : Held → Live → Type 0
-    MakesThen held live = Makes (IsSpotIn then) (parts_in own then) held live
+    MakesThen held live = Makes IsPartFor (parts_of own then) held live
 
-    makes : {held : Held} {live : Live} → Makes (IsSpotIn ss) (set (parts_in own ss) (n.spot ss i) (part r n.kind y)) held live → MakesThen held live
+    makes : {held : Held} {live : Live} → Makes IsPartFor (set (parts_of own ss) (spot n i) (part r n.kind y)) held live → MakesThen held live
     makes {held} {live} it =
-        let spots = named.spots ss i y in
-        subst (λ count. Makes (IsPartFor count (length then.lists)) (parts_in own then) held live) (sym spots.0)
-        (subst (λ count. Makes (IsPartFor (length ss.buddies) count) (parts_in own then) held live) (sym spots.1)
-        (subst (λ ps. Makes (IsSpotIn ss) ps held live) (named.part_set own ss i x y (at_read (n.all ss) i x st.inside st.at)) it))
+        let parts_are = type_part_set ss i e (n.put e y) n.side (part r n.kind y) named.side_small in_all (named.part_set e x y st.is) in
+        subst (λ ps. Makes IsPartFor ps held live) (ap (λ ps. own_part own ∷ ps) parts_are) it
 
     pub block_comes : (b : B) (key : ℕ) (c : Chunk) → map.get (r.chunks x) key ≡ Some c → (r.bytes b).object ≡ c.object → r.chunks y ≡ r.chunks x → r.live y ≡ set_of.insert (r.live x) b
-        → MakesThen (whole_in own ss).held (set_of.insert (whole_in own ss).live (block_span r b))
+        → MakesThen (whole own ss).held (set_of.insert (whole own ss).live (block_span r b))
     block_comes b key c is object chunks live =
-        makes (store.row_comes named.total named.exact (block_span r) (IsSpotIn ss) (parts_in own ss) st.apart (n.spot ss i) (row n x) (r.chunks x) (r.live x) st.plain.own_object at (part r n.kind y) b key c is object
+        makes (store.row_comes named.total named.exact (block_span r) IsPartFor (parts_of own ss) st.apart (spot n i) (row n x) (r.chunks x) (r.live x) st.plain.own_object at (part r n.kind y) b key c is object
         (held_as (r.chunks x) chunks) (ap (by_span (block_span r)) live))
 
-    pub chunk_comes : (b : B) (key : ℕ) (c : Chunk) → map.get (whole_in own ss).held (r.bytes b).object ≡ None → (r.bytes b).object ≡ c.object → map.get (r.chunks x) key ≡ None → r.chunks y ≡ map.insert (r.chunks x) key c
-        → r.live y ≡ set_of.insert (r.live x) b → MakesThen (map.insert (whole_in own ss).held (r.bytes b).object (row n x key c)) (set_of.insert (whole_in own ss).live (block_span r b))
+    pub chunk_comes : (b : B) (key : ℕ) (c : Chunk) → map.get (whole own ss).held (r.bytes b).object ≡ None → (r.bytes b).object ≡ c.object → map.get (r.chunks x) key ≡ None → r.chunks y ≡ map.insert (r.chunks x) key c
+        → r.live y ≡ set_of.insert (r.live x) b → MakesThen (map.insert (whole own ss).held (r.bytes b).object (row n x key c)) (set_of.insert (whole own ss).live (block_span r b))
     chunk_comes b key c none object free chunks live =
-        makes (store.chunk_comes named.total named.exact (block_span r) (IsSpotIn ss) (parts_in own ss) st.apart (n.spot ss i) (row n x) (r.chunks x) (r.live x) st.plain.own_object at (part r n.kind y) b key c none object free
-        (named.placed ss i key (row n x key c) st.inside refl st.of_type) (held_as _ chunks) (ap (by_span (block_span r)) live))
+        makes (store.chunk_comes named.total named.exact (block_span r) IsPartFor (parts_of own ss) st.apart (spot n i) (row n x) (r.chunks x) (r.live x) st.plain.own_object at (part r n.kind y) b key c none object free
+        (its_spot key (row n x key c) refl st.of_type) (held_as _ chunks) (ap (by_span (block_span r)) live))
 
-    pub block_goes : (b : B) → IsLive r x b → r.chunks y ≡ r.chunks x → r.live y ≡ set_of.remove (r.live x) b → MakesThen (whole_in own ss).held (set_of.remove (whole_in own ss).live (block_span r b))
+    pub block_goes : (b : B) → IsLive r x b → r.chunks y ≡ r.chunks x → r.live y ≡ set_of.remove (r.live x) b → MakesThen (whole own ss).held (set_of.remove (whole own ss).live (block_span r b))
     block_goes b was chunks live =
         let lies = st.plain.of_chunk b was in
-        makes (store.row_goes named.total named.exact (block_span r) (IsSpotIn ss) (parts_in own ss) st.apart (n.spot ss i) (row n x) (r.chunks x) (r.live x) st.plain.own_object at (part r n.kind y) st.plain.one_span b was (r.key b) lies.0 lies.1.0 lies.1.1
+        makes (store.row_goes named.total named.exact (block_span r) IsPartFor (parts_of own ss) st.apart (spot n i) (row n x) (r.chunks x) (r.live x) st.plain.own_object at (part r n.kind y) st.plain.one_span b was (r.key b) lies.0 lies.1.0 lies.1.1
         (ap (by_span (block_span r)) live) (held_as (r.chunks x) chunks))
 
     pub chunk_goes : (key : ℕ) (c : Chunk) → map.get (r.chunks x) key ≡ Some c → ((b : B) → IsLive r x b → r.key b ≢ key) → r.chunks y ≡ map.remove (r.chunks x) key → r.live y ≡ r.live x
-        → MakesThen (map.remove (whole_in own ss).held c.object) (whole_in own ss).live
+        → MakesThen (map.remove (whole own ss).held c.object) (whole own ss).live
     chunk_goes key c is unused chunks live =
-        makes (store.chunk_goes named.total named.exact (block_span r) (IsSpotIn ss) (parts_in own ss) st.apart (n.spot ss i) (row n x) (r.chunks x) (r.live x) st.plain.own_object at (part r n.kind y) key c is
+        makes (store.chunk_goes named.total named.exact (block_span r) IsPartFor (parts_of own ss) st.apart (spot n i) (row n x) (r.chunks x) (r.live x) st.plain.own_object at (part r n.kind y) key c is
         (λ b stood object. let lies = st.plain.of_chunk b stood in unused b stood (st.plain.own_object (r.key b) key lies.0 c lies.1.0 is (sym lies.1.1 ∙ object)))
         (held_as _ chunks) (ap (by_span (block_span r)) live))
 

@@ -87,6 +87,8 @@ impl<M: MemoryObject, A: Allocator> GpuAllocator<M, A> {
         requires known { memory_type < length (self.now.properties).memory_types }
         ensures { result ≡ fits_a_chunk self.now request memory_type }
     {
-        self.free_lists[memory_type as usize].fits_a_chunk(request.size)
+        self.types[memory_type as usize]
+            .free_list
+            .fits_a_chunk(request.size)
     }
 }

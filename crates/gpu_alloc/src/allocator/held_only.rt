@@ -16,6 +16,7 @@ ghost use Rattle.gpu_alloc.specs.Sound as Sound;
 ghost use Rattle.gpu_alloc.specs.FitSharing.{fits_first};
 ghost use Rattle.gpu_alloc.specs.declared.allocator.Strategy.TheVariants.{InBuddyChunk, InFreeList, InFitChunk};
 
+use super::stores::Chosen;
 use super::{GpuAllocator, Strategy, uncounted};
 use crate::{Dedicated, MemoryBlock, Request};
 use gpu_alloc_base::AllocationError;
@@ -216,21 +217,18 @@ impl<M: MemoryObject, A: Allocator> GpuAllocator<M, A> {
     }
 
     /// Whether a buddy chunk of a memory type has a place: its allocator does not refuse although no more objects may
-    /// be held.
+    /// be held. Where fit chunks are chosen there is no buddy chunk.
     fn has_buddy_place(&self, request: Request, memory_type: u32) -> bool
         requires askable { IsAskable (self.now.properties).buffer_device_address request }
         requires known { memory_type < length (self.now.properties).memory_types }
         ensures { IsTrue result ↔ HasPlaceBy InBuddyChunk self.now request memory_type }
     {
         let heap = &self.heaps[self.limits.heap_index(memory_type)];
-        let refusal = uncounted::refuses::<M, A, Brand>(
-            &self.buddies[memory_type as usize],
-            request.size,
-            request.align_mask,
-            heap,
-            0,
-            Blank::new(1),
-        );
+        let Chosen::Buddy(buddy) = &self.types[memory_type as usize].chosen else {
+            return false;
+        };
+        let (size, mask) = (request.size, request.align_mask);
+        let refusal = uncounted::refuses::<M, A, Brand>(buddy, size, mask, heap, 0, Blank::new(1));
         refusal.is_none()
     }
 
@@ -243,13 +241,13 @@ impl<M: MemoryObject, A: Allocator> GpuAllocator<M, A> {
         ensures { IsTrue result ↔ HasPlaceBy InFreeList self.now request memory_type }
     {
         let heap = &self.heaps[self.limits.heap_index(memory_type)];
-        let list = &self.free_lists[memory_type as usize];
+        let list = &self.types[memory_type as usize].free_list;
         list.refuses(request.size, request.align_mask, heap, 0)
             .is_none()
     }
 
     /// Whether a fit chunk of a memory type has a place: its allocator does not refuse although no more objects may be
-    /// held.
+    /// held. Where buddy chunks are chosen there is no fit chunk.
     fn has_fit_place(&self, request: Request, memory_type: u32) -> bool
         requires askable { IsAskable (self.now.properties).buffer_device_address request }
         requires known { memory_type < length (self.now.properties).memory_types }
@@ -257,7 +255,9 @@ impl<M: MemoryObject, A: Allocator> GpuAllocator<M, A> {
         ensures { IsTrue result ↔ HasPlaceBy InFitChunk self.now request memory_type }
     {
         let heap = &self.heaps[self.limits.heap_index(memory_type)];
-        let fit = &self.fits[memory_type as usize];
+        let Chosen::Fit(fit) = &self.types[memory_type as usize].chosen else {
+            return false;
+        };
         let (size, mask) = (request.size, request.align_mask);
         let first = uncounted::refuses_fit::<M, A, Brand>(fit, size, mask, heap, 0, Blank::new(1));
         first.is_none()

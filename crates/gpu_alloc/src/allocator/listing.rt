@@ -10,10 +10,11 @@ ghost use Rattle.gpu_alloc.specs.Budget.{heap_bytes};
 ghost use Rattle.gpu_alloc.specs.Sound as Sound;
 ghost use Rattle.gpu_alloc.specs.Spans.{held_objects_in, held_of, span_in};
 ghost use Rattle.gpu_alloc.specs.Listing.{AreOfKnownTypes, AreOnce, IsRowOf};
-ghost use Rattle.gpu_alloc.specs.Whole.{list_part};
+ghost use Rattle.gpu_alloc.specs.Stores.{list_part};
 ghost use Rattle.gpu_alloc_freelist.specs.FreeListSound.{IsSoundFreeList};
 
 use super::GpuAllocator;
+use super::stores::Chosen;
 use crate::spans::{HeldRow, LiveSpan};
 use gpu_alloc_block::Kind;
 use gpu_alloc_buddy::Chunk;
@@ -54,20 +55,15 @@ impl<M: MemoryObject, A: Allocator> GpuAllocator<M, A> {
             return Some(row);
         }
         for memory_type in 0..self.type_count() {
-            let buddy = &self.buddies[memory_type as usize];
-            if let Some(row) = row_of(buddy.chunks(), memory_type, object) {
+            let stores = &self.types[memory_type as usize];
+            let chosen = match &stores.chosen {
+                Chosen::Buddy(buddy) => row_of(buddy.chunks(), memory_type, object),
+                Chosen::Fit(fit) => row_of(fit.chunks(), memory_type, object),
+            };
+            if let Some(row) = chosen {
                 return Some(row);
             }
-        }
-        for memory_type in 0..self.type_count() {
-            let list = &self.free_lists[memory_type as usize];
-            if let Some(row) = row_of(list.chunks(), memory_type, object) {
-                return Some(row);
-            }
-        }
-        for memory_type in 0..self.type_count() {
-            let fit = &self.fits[memory_type as usize];
-            if let Some(row) = row_of(fit.chunks(), memory_type, object) {
+            if let Some(row) = row_of(stores.free_list.chunks(), memory_type, object) {
                 return Some(row);
             }
         }
@@ -85,16 +81,12 @@ impl<M: MemoryObject, A: Allocator> GpuAllocator<M, A> {
         let mut rows = Vec::new(alloc);
         self.own.list_objects(&mut rows)?;
         for memory_type in 0..self.type_count() {
-            let buddy = &self.buddies[memory_type as usize];
-            list_chunks(buddy.chunks(), memory_type, &mut rows)?;
-        }
-        for memory_type in 0..self.type_count() {
-            let list = &self.free_lists[memory_type as usize];
-            list_chunks(list.chunks(), memory_type, &mut rows)?;
-        }
-        for memory_type in 0..self.type_count() {
-            let fit = &self.fits[memory_type as usize];
-            list_chunks(fit.chunks(), memory_type, &mut rows)?;
+            let stores = &self.types[memory_type as usize];
+            match &stores.chosen {
+                Chosen::Buddy(buddy) => list_chunks(buddy.chunks(), memory_type, &mut rows)?,
+                Chosen::Fit(fit) => list_chunks(fit.chunks(), memory_type, &mut rows)?,
+            }
+            list_chunks(stores.free_list.chunks(), memory_type, &mut rows)?;
         }
         Ok(rows)
     }
@@ -110,14 +102,12 @@ impl<M: MemoryObject, A: Allocator> GpuAllocator<M, A> {
         self.keeps_sound();
         let mut rows = Vec::new(alloc);
         self.own.list_spans(&mut rows)?;
-        for buddy in self.buddies.iter() {
-            buddy.list_live(&mut rows)?;
-        }
-        for list in self.free_lists.iter() {
-            list_slots(list, &mut rows)?;
-        }
-        for fit in self.fits.iter() {
-            fit.list_live(&mut rows)?;
+        for stores in self.types.iter() {
+            match &stores.chosen {
+                Chosen::Buddy(buddy) => buddy.list_live(&mut rows)?,
+                Chosen::Fit(fit) => fit.list_live(&mut rows)?,
+            }
+            list_slots(&stores.free_list, &mut rows)?;
         }
         Ok(rows)
     }
@@ -127,12 +117,13 @@ impl<M: MemoryObject, A: Allocator> GpuAllocator<M, A> {
 trait ListedChunk {
     ghost use Rattle.gpu_alloc.specs.declared.spans.HeldRow.{HeldRow};
 
-    /// Its object's name and its row, where it is of this memory type.
+    /// What [`entry`](ListedChunk::entry) returns.
     ghost listed: { Self → ℕ → ℕ × HeldRow };
 
     /// Its size fits 64 bits.
     ghost IsShort: { Self → Type 0 };
 
+    /// The name of the chunk's object, and its row, where the chunk is of this memory type.
     fn entry(&self, memory_type: u32) -> (u64, HeldRow)
         requires { IsShort self.now }
         ensures { result ≡ listed self.now memory_type };

@@ -7,9 +7,7 @@ ghost use Rattle.gpu_alloc.specs.Owned.{HoldsNothing};
 ghost use Rattle.gpu_alloc.specs.Sound as Sound;
 
 use super::GpuAllocator;
-use super::by_type::{
-    close_buddies, close_free_lists, empty_buddies, empty_fits, empty_free_lists, unused_heaps,
-};
+use super::stores::{empty_stores, unused_heaps};
 use crate::MemoryForUsage;
 use crate::limits::Limits;
 use crate::own::OwnObjects;
@@ -74,22 +72,7 @@ impl<M: MemoryObject, A: Allocator + Copy> GpuAllocator<M, A> {
         let memory_types = Vec::from_slice(alloc, props.memory_types)?;
         let heaps = unused_heaps(alloc, props.memory_heaps)?;
         let memory_for_usage = MemoryForUsage::new(props.memory_types);
-        let buddies = empty_buddies(alloc, config, &props)?;
-        let free_lists = match empty_free_lists(alloc, config, &props) {
-            Ok(free_lists) => free_lists,
-            Err(refusal) => {
-                close_buddies(buddies);
-                return Err(refusal);
-            }
-        };
-        let fits = match empty_fits(alloc, config, &props) {
-            Ok(fits) => fits,
-            Err(refusal) => {
-                close_buddies(buddies);
-                close_free_lists(free_lists);
-                return Err(refusal);
-            }
-        };
+        let types = empty_stores(alloc, config, sharing, &props)?;
         Ok(GpuAllocator {
             limits: Limits {
                 config,
@@ -102,9 +85,7 @@ impl<M: MemoryObject, A: Allocator + Copy> GpuAllocator<M, A> {
                 buffer_device_address: props.buffer_device_address,
             },
             heaps,
-            buddies,
-            free_lists,
-            fits,
+            types,
             own: OwnObjects::new(alloc),
             allocations_remains: props.max_memory_allocation_count,
         })

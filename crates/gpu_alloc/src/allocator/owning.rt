@@ -5,6 +5,7 @@ ghost use Rattle.gpu_alloc.specs.Sound as Sound;
 ghost use Rattle.gpu_alloc_block.specs.State.{IsOwned, is_shared};
 
 use super::GpuAllocator;
+use super::stores::Chosen;
 use crate::MemoryBlock;
 use gpu_alloc_base::free_list_block::Slot;
 use gpu_alloc_block::Kind;
@@ -59,10 +60,12 @@ impl<M: MemoryObject, A: Allocator> GpuAllocator<M, A> {
         ensures { IsTrue result ↔ IsOwned self.now block.now }
     {
         let object = block.memory().object();
-        match self.buddies.get(block.memory_type() as usize) {
-            Some(buddy) => buddy
-                .find(block.key(), object, block.offset(), block.size())
-                .is_some(),
+        let (offset, size) = (block.offset(), block.size());
+        match self.types.get(block.memory_type() as usize) {
+            Some(stores) => match &stores.chosen {
+                Chosen::Buddy(buddy) => buddy.find(block.key(), object, offset, size).is_some(),
+                Chosen::Fit(_) => false,
+            },
             None => false,
         }
     }
@@ -78,8 +81,8 @@ impl<M: MemoryObject, A: Allocator> GpuAllocator<M, A> {
             offset: block.offset(),
             size: block.size(),
         };
-        match self.free_lists.get(block.memory_type() as usize) {
-            Some(list) => list.is_live(block.key(), slot),
+        match self.types.get(block.memory_type() as usize) {
+            Some(stores) => stores.free_list.is_live(block.key(), slot),
             None => false,
         }
     }
@@ -91,8 +94,11 @@ impl<M: MemoryObject, A: Allocator> GpuAllocator<M, A> {
     {
         let object = block.memory().object();
         let (offset, size) = (block.offset(), block.size());
-        match self.fits.get(block.memory_type() as usize) {
-            Some(fit) => fit.find(block.key(), object, offset, size).is_some(),
+        match self.types.get(block.memory_type() as usize) {
+            Some(stores) => match &stores.chosen {
+                Chosen::Fit(fit) => fit.find(block.key(), object, offset, size).is_some(),
+                Chosen::Buddy(_) => false,
+            },
             None => false,
         }
     }

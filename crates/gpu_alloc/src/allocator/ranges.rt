@@ -6,6 +6,7 @@ ghost use Rattle.gpu_alloc_base.specs.RangeOrder.{AreInOrder};
 ghost use Rattle.gpu_alloc_types.specs.declared.types.FreeRange.{FreeRange as Range};
 
 use super::GpuAllocator;
+use super::stores::Chosen;
 use gpu_alloc_base::AllocationError;
 use gpu_alloc_base::range_order::put_in_order;
 use gpu_alloc_types::{FreeRange, MemoryObject};
@@ -34,19 +35,20 @@ impl<M: MemoryObject, A: Allocator + Copy> GpuAllocator<M, A> {
         }
     }
 
-    /// The free pieces of the buddy chunks and the free runs of the free list and of the fit chunks, as one list.
+    /// The free runs of the free list, and the free pieces or runs of the chosen store, as one list.
     fn pieces_and_runs(&self, memory_type: u32) -> Result<Vec<FreeRange, A>, AllocError>
         requires { memory_type < length (self.now.properties).memory_types }
         ensures exact { IfOk result
             (λ ranges. (r : Range) → Contains ranges.items r ↔ IsFreeRangeOf self.now memory_type r) }
         ensures order { IfOk result (λ ranges. AreInOrder ranges.items) }
     {
-        let mut ranges = self.buddies[memory_type as usize].free_ranges()?;
-        let runs = self.free_lists[memory_type as usize].free_ranges()?;
-        ranges.extend_from_slice(runs.as_slice())?;
-        let alloc = *ranges.allocator();
-        let fitted = self.fits[memory_type as usize].free_ranges(alloc)?;
-        ranges.extend_from_slice(fitted.as_slice())?;
+        let stores = &self.types[memory_type as usize];
+        let mut ranges = stores.free_list.free_ranges()?;
+        let chosen = match &stores.chosen {
+            Chosen::Buddy(buddy) => buddy.free_ranges()?,
+            Chosen::Fit(fit) => fit.free_ranges(*ranges.allocator())?,
+        };
+        ranges.extend_from_slice(chosen.as_slice())?;
         put_in_order(&mut ranges);
         Ok(ranges)
     }

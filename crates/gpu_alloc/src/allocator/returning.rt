@@ -7,6 +7,7 @@ ghost use Rattle.gpu_alloc.specs.Release.{Frees, ObjectsFreed, ReleasesChunks, R
 ghost use Rattle.gpu_alloc.specs.Sound as Sound;
 ghost use Rattle.gpu_alloc_block.specs.State.{IsOwned, is_shared, total};
 
+use super::stores::Chosen;
 use super::{GpuAllocator, uncounted};
 use crate::MemoryBlock;
 use gpu_alloc_base::free_list_block::Slot;
@@ -73,11 +74,15 @@ impl<M: MemoryObject, A: Allocator> GpuAllocator<M, A> {
         let (offset, size) = (block.offset(), block.size());
         let memory = into_memory(block);
         let object = memory.object();
+        let Chosen::Buddy(buddy) = &mut self.types[memory_type as usize].chosen else {
+            unreachable!()
+        };
+        let Some(leaf) = buddy.find(key, object, offset, size) else {
+            unreachable!()
+        };
         let heap = self.limits.heap_index(memory_type);
-        let found = self.buddies[memory_type as usize].find(key, object, offset, size);
-        let Some(leaf) = found else { unreachable!() };
         uncounted::dealloc::<M, A, D, Brand>(
-            &mut self.buddies[memory_type as usize],
+            buddy,
             device,
             BuddyBlock::new(memory, leaf),
             &mut self.heaps[heap],
@@ -111,7 +116,7 @@ impl<M: MemoryObject, A: Allocator> GpuAllocator<M, A> {
             size,
         };
         let heap = self.limits.heap_index(memory_type);
-        self.free_lists[memory_type as usize].dealloc(
+        self.types[memory_type as usize].free_list.dealloc(
             device,
             FreeListBlock::new(memory, slot, key),
             &mut self.heaps[heap],
@@ -133,8 +138,11 @@ impl<M: MemoryObject, A: Allocator> GpuAllocator<M, A> {
         let (offset, size) = (block.offset(), block.size());
         let memory = into_memory(block);
         let heap = self.limits.heap_index(memory_type);
+        let Chosen::Fit(fit) = &mut self.types[memory_type as usize].chosen else {
+            unreachable!()
+        };
         uncounted::dealloc_fit::<M, A, D, Brand>(
-            &mut self.fits[memory_type as usize],
+            fit,
             device,
             memory,
             key,
@@ -170,11 +178,9 @@ impl<M: MemoryObject, A: Allocator> GpuAllocator<M, A> {
         ensures total { total self.new ≡ total self.old }
     {
         let heap = self.limits.heap_index(memory_type);
-        self.fits[memory_type as usize].cleanup(
-            device,
-            &mut self.heaps[heap],
-            &mut self.allocations_remains,
-        );
+        if let Chosen::Fit(fit) = &mut self.types[memory_type as usize].chosen {
+            fit.cleanup(device, &mut self.heaps[heap], &mut self.allocations_remains);
+        }
     }
 
     /// Releases a memory type's free-list chunks without a live block, the oldest first.
@@ -187,7 +193,7 @@ impl<M: MemoryObject, A: Allocator> GpuAllocator<M, A> {
         ensures total { total self.new ≡ total self.old }
     {
         let heap = self.limits.heap_index(memory_type);
-        self.free_lists[memory_type as usize].cleanup(
+        self.types[memory_type as usize].free_list.cleanup(
             device,
             &mut self.heaps[heap],
             &mut self.allocations_remains,

@@ -1,57 +1,36 @@
 use Rattle.std.proofs.Common.{Some}
-use Rattle.gpu_alloc.proofs.Agreed.{allocates_agrees, chain_keeps}
-use Rattle.gpu_alloc.proofs.BlocksAgreed.{allocates_agrees_block, allocation_keeps_blocks}
-use Rattle.gpu_alloc.proofs.Decisions.{allocates_kept, allocates_total}
 use Rattle.gpu_alloc.specs.Allocation.{Allocates, plan}
-use Rattle.gpu_alloc.proofs.Granted.{allocates_granted, allocates_kind, alone_is, exact_is, is_plan, required_granted}
-use Rattle.gpu_alloc.proofs.InHand.{adds_in_hand, allocation_in_hand}
-use Rattle.gpu_alloc.proofs.Owning.{allocates_add, allocates_leave}
+use Rattle.gpu_alloc.proofs.Agreed.{chain_keeps}
+use Rattle.gpu_alloc.proofs.Allocations.{allocation}
+use Rattle.gpu_alloc.proofs.Granted.{allocates_kind, alone_is, exact_is, is_plan, required_granted}
 use Rattle.gpu_alloc.proofs.allocator.GpuAllocator.alloc_with_dedicated.Goals as goal
 
-pub returns-clause-refused : goal.returns-clause-refused
-returns-clause-refused g c = allocates_kept c.args.self.now (plan c.args.self.now c.args.request (Some c.args.dedicated)) _ _ _ c.allocate-answer.ensures.decided.2
-
-pub returns-clause-total : goal.returns-clause-total
-returns-clause-total g c = allocates_total c.args.self.now (plan c.args.self.now c.args.request (Some c.args.dedicated)) _ _ _ c.allocate-answer.ensures.decided.2
-
-pub returns-clause-decided : goal.returns-clause-decided
+pub returns : goal.returns
 unfolding Allocates
-returns-clause-decided g c = c.allocate-answer.ensures.decided
-
-pub returns-clause-alone : goal.returns-clause-alone
-returns-clause-alone g c = alone_is c.args.self.now c.args.request (Some c.args.dedicated) _ (allocates_kind c.args.self.now (plan c.args.self.now c.args.request (Some c.args.dedicated)) _ _ _ c.allocate-answer.ensures.decided.2)
-
-pub returns-clause-exact : goal.returns-clause-exact
-returns-clause-exact g c = exact_is c.args.self.now c.args.request (Some c.args.dedicated) _ (allocates_kind c.args.self.now (plan c.args.self.now c.args.request (Some c.args.dedicated)) _ _ _ c.allocate-answer.ensures.decided.2)
-
-pub returns-clause-granted : goal.returns-clause-granted
-returns-clause-granted g c = allocates_granted c.args.self.now c.args.request (plan c.args.self.now c.args.request (Some c.args.dedicated)) (is_plan c.args.self.now c.args.request (Some c.args.dedicated) c.requires.askable) c.keeps_sound.ensures.sound c.keeps_sound.ensures.atoms _ _ _ c.allocate-answer.ensures.decided.2
-
-pub returns-clause-properties : goal.returns-clause-properties
-returns-clause-properties g c = chain_keeps g.D.ObjectDevice.step g.D.ObjectDevice.properties g.met.D.ObjectDevice.keeps_properties _ _ _ c.allocate-answer.ensures.decided.1
-
-pub returns-clause-agrees : goal.returns-clause-agrees
-returns-clause-agrees g c =
+returns g c =
+    let s = c.args.self.now in
+    let w = plan s c.args.request (Some c.args.dedicated) in
     let decided = c.allocate-answer.ensures.decided in
-    allocates_agrees c.args.self.now _ _ _ c.requires.agrees _ (plan c.args.self.now c.args.request (Some c.args.dedicated)) _ _ _ (returns-clause-properties g c) decided.2 c.allocate-answer.ensures.objects
-
-pub returns-clause-leaves : goal.returns-clause-leaves
-returns-clause-leaves g c = allocates_leave c.args.self.now (plan c.args.self.now c.args.request (Some c.args.dedicated)) _ _ _ c.allocate-answer.ensures.decided.2
-
-pub returns-clause-added : goal.returns-clause-added
-returns-clause-added g c = allocates_add c.args.self.now (plan c.args.self.now c.args.request (Some c.args.dedicated)) _ c.args.request c.keeps_sound.ensures.sound _ _ c.keeps_sound-2.ensures.sound c.allocate-answer.ensures.decided.2 (returns-clause-granted g c)
-
-pub returns-clause-ready : goal.returns-clause-ready
-returns-clause-ready g c = allocates_agrees_block c.args.self.now c.args.request (plan c.args.self.now c.args.request (Some c.args.dedicated)) _ _ _ _ _ _ c.keeps_sound-2.ensures.sound (returns-clause-agrees g c) c.allocate-answer.ensures.decided.2 (returns-clause-granted g c) c.allocate-answer.ensures.objects
-
-pub returns-clause-keeps : goal.returns-clause-keeps
-returns-clause-keeps g c = allocation_keeps_blocks c.args.self.now _ _ _ _ (returns-clause-properties g c) _ _ c.allocate-answer.ensures.objects
-
-pub returns-clause-in_hand : goal.returns-clause-in_hand
-returns-clause-in_hand g c = allocation_in_hand c.args.self.now _ _ c.requires.agrees _ _ _ _ (returns-clause-refused g c) (returns-clause-leaves g c) (returns-clause-keeps g c) (returns-clause-added g c) c.allocate-answer.ensures.objects
-
-pub returns-clause-joins : goal.returns-clause-joins
-returns-clause-joins g c = adds_in_hand c.args.self.now _ _ _ _ _ c.args.request _ (returns-clause-in_hand g c) (returns-clause-granted g c) (returns-clause-ready g c) (returns-clause-added g c)
-
-pub returns-clause-own : goal.returns-clause-own
-returns-clause-own g c required = required_granted c.args.self.now c.args.request c.args.dedicated required _ (returns-clause-alone g c)
+    let properties = chain_keeps g.D.ObjectDevice.step g.D.ObjectDevice.properties g.met.D.ObjectDevice.keeps_properties _ _ _ decided.1 in
+    let kind = allocates_kind s w _ _ _ decided.2 in
+    let alone = alone_is s c.args.request (Some c.args.dedicated) _ kind in
+    let it = allocation s c.args.request w (is_plan s c.args.request (Some c.args.dedicated) c.requires.askable) c.keeps_sound.ensures.sound c.keeps_sound.ensures.atoms _ _ _ _ c.requires.agrees properties _ _ _ c.keeps_sound-2.ensures.sound decided.2 c.allocate-answer.ensures.objects in
+    record {
+      decided = decided;
+      objects = c.allocate-answer.ensures.objects;
+      properties = properties;
+      total = it.total_is;
+      sound = c.keeps_sound-2.ensures.sound;
+      agrees = it.agrees;
+      granted = it.granted;
+      ready = it.ready;
+      alone = alone;
+      own = λ required. required_granted s c.args.request c.args.dedicated required _ alone;
+      exact = exact_is s c.args.request (Some c.args.dedicated) _ kind;
+      added = it.added;
+      refused = it.refused;
+      leaves = it.leaves;
+      keeps = it.keeps;
+      in_hand = it.in_hand;
+      joins = it.joins;
+    }

@@ -55,7 +55,7 @@ returns-clause-ends g c unused =
     let never = rw (← c.self.view_is) at unused in
     let all = rw (← c.self.view_is) at way.3.all in
     let lets = rw (← c.self.view_is) at way.3.lets in
-    all_gone c.self.inside.limits _ _ _ _ _ _ (consistent _ _ _ _ _ _ _ _ _ c.self.invariant) never way.0 (rw (← last) all) _ _ lets
+    all_gone c.self.inside.limits _ _ _ _ (consistent _ _ _ _ _ _ _ c.self.invariant) never way.0 (rw (← last) all) _ _ lets
 
 pub returns-clause-left : goal.returns-clause-left
 returns-clause-left g c object h =
@@ -64,7 +64,7 @@ returns-clause-left g c object h =
     omega (arith, c.loop-memory_type.auto.memory_type-end, c.loop-memory_type-test.false, c.len-count.ensures, c.self.inside.limits.memory_types.ok) in
     let all = rw (← c.self.view_is) at way.3.all in
     let lets = rw (← c.self.view_is) at way.3.lets in
-    rw (← c.self.view_is) (left_is c.self.inside.limits _ _ _ _ _ _ (consistent _ _ _ _ _ _ _ _ _ c.self.invariant) way.0 (rw (← last) all) _ _ lets object h)
+    rw (← c.self.view_is) (left_is c.self.inside.limits _ _ _ _ (consistent _ _ _ _ _ _ _ c.self.invariant) way.0 (rw (← last) all) _ _ lets object h)
 
 pub returns-clause-leaves : goal.returns-clause-leaves
 returns-clause-leaves g c = let cleaned = returns-clause-cleaned g c in cleans_leave c.args.self.now cleaned.0 _ cleaned.2 c.keeps_sound.ensures.sound

@@ -1,9 +1,8 @@
-use Rattle.std.proofs.Common.{refl, arith}
+use Rattle.std.proofs.Common.{refl}
 use Rattle.gpu_alloc_block.specs.State.{span_of}
 use Rattle.gpu_alloc.proofs.FreeLists.Named.{list_is_named, list_named, slot_of_block}
 use Rattle.gpu_alloc.proofs.Links.{slot_at}
-use Rattle.gpu_alloc.proofs.Shared.Calls.{Has}
-use Rattle.gpu_alloc.proofs.Shared.Owned.{block_of, owned_of}
+use Rattle.gpu_alloc.proofs.Shared.Owned.{block_of, has_found, never_owned, owned_of}
 use Rattle.gpu_alloc.proofs.WholeOwned.{unknown_unowned}
 use Rattle.gpu_alloc.proofs.allocator.GpuAllocator.has_in_list.Goals as goal
 
@@ -11,8 +10,7 @@ pub returns-in-Some : goal.returns-in-Some
 returns-in-Some g c =
     let at = rw (c.deref.ensures.value, c.memory_type.ensures) at c.in-Some.ensures.lookup in
     let tells = rw (c.object.ensures, c.memory.ensures, c.offset.ensures, c.size.ensures) at c.is_live.ensures in
-    let has : Has list_named c.self.inside.limits c.self.inside.heaps.items (record { buddies = c.self.inside.buddies.items; lists = c.self.inside.free_lists.items; fits = c.self.inside.fits.items }) c.self.inside.own c.self.inside.allocations_remains c.args.block.now.memory_type c.in-Some.list.now
-    = record { kept = c.self.invariant; known = omega (arith, at.3.0, c.self.invariant.listed.count); at = at.1 } in
+    let has = has_found list_named c.self.inside.limits c.self.invariant at.3.0 at.1 refl in
     let slot = slot_at (span_of c.args.block.now) c.args.number in
     rw (← c.self.view_is) (
       λ yes. owned_of list_is_named has refl slot (record { live = tells.0 yes; span = refl; kind = c.requires }),
@@ -22,4 +20,4 @@ returns-in-Some g c =
 pub returns-in-None : goal.returns-in-None
 returns-in-None g c =
     let found = rw (c.deref.ensures.value, c.memory_type.ensures) at c.in-None.ensures.lookup in
-    (λ no. absurd (cc), λ owned. absurd (unknown_unowned c.self.inside.limits _ _ _ _ _ _ c.self.invariant c.args.block.now _ c.self.invariant.listed.count found.3 (rw (← c.self.view_is) at owned)))
+    rw (← c.self.view_is) (never_owned (unknown_unowned c.self.inside.limits _ _ _ _ c.self.invariant c.args.block.now _ c.self.invariant.shared.count found.3))

@@ -9,11 +9,11 @@ pub refuses-requires-clause-fits : goal.refuses-requires-clause-fits
 refuses-requires-clause-fits g c =
     let known = rw (← c.self.view_is) at c.requires.known in
     let fits = rw (← c.self.view_is) at c.requires.fits in
-    fits_list _ _ _ (serves {n = list_named} list_is_named {l = c.self.inside.limits} (record { kept = c.self.invariant; known = known; at = c.index-list.ensures })) c.args.request fits
+    fits_list _ _ _ (serves {n = list_named} list_is_named {l = c.self.inside.limits} (record { kept = c.self.invariant; known = known; at = c.index.ensures; is = refl })) c.args.request fits
 
 pub returns : goal.returns
 returns g c =
     let known = rw (← c.self.view_is) at c.requires.known in
-    let serving = serves {n = list_named} list_is_named {l = c.self.inside.limits} (record { kept = c.self.invariant; known = known; at = c.index-list.ensures }) in
+    let serving = serves {n = list_named} list_is_named {l = c.self.inside.limits} (record { kept = c.self.invariant; known = known; at = c.index.ensures; is = refl }) in
     let request = list_request _ c.args.memory_type _ serving c.args.request c.index-heap.result.now 0 _ refl in
-    rw (← c.self.view_is) (place_told list_asked InFreeList _ c.args.memory_type c.index-list.result.now c.index-heap.result.now c.args.request serving request c.refuses.result (c.refuses.ensures _) c.is_none.result c.is_none.ensures)
+    rw (← c.self.view_is) (place_told list_asked InFreeList _ c.args.memory_type c.index.result.now.free_list c.index-heap.result.now c.args.request serving request c.refuses.result (c.refuses.ensures _) c.is_none.result c.is_none.ensures)

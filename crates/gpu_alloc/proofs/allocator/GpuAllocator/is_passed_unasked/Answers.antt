@@ -13,7 +13,7 @@ not_larger heap size neither = elim (cases_lt heap size) [
 pub returns-then-not-fits-clause-passed : goal.returns-then-not-fits-clause-passed
 returns-then-not-fits-clause-passed g c =
     let known = rw (← c.self.view_is) at c.requires.known in
-    let of = type_heap_is c.self.inside.limits c.self.inside.heaps.items c.self.inside.buddies.items c.self.inside.free_lists.items c.self.inside.fits.items (whole c.self.inside.own c.self.inside.buddies.items c.self.inside.free_lists.items c.self.inside.fits.items) c.self.inside.allocations_remains c.self.invariant.books c.args.memory_type _ c.index.result.now known
+    let of = type_heap_is c.self.inside.limits c.self.inside.heaps.items c.self.inside.types.items (whole c.self.inside.own c.self.inside.types.items) c.self.inside.allocations_remains c.self.invariant.books c.args.memory_type _ c.index.result.now known
     c.heap_index.ensures c.index.ensures in
     let ways = rw (← c.self.view_is) at c.is_passed_over_budget.ensures in
     rw (← c.self.view_is) (λ passed. elim (ways.0 passed) [
@@ -29,13 +29,13 @@ returns-then-not-fits-clause-fits g c =
 pub returns-else-not-fits-clause-fits : goal.returns-else-not-fits-clause-fits
 returns-else-not-fits-clause-fits g c =
     let known = rw (← c.self.view_is) at c.requires.known in
-    let of = type_heap_is c.self.inside.limits c.self.inside.heaps.items c.self.inside.buddies.items c.self.inside.free_lists.items c.self.inside.fits.items (whole c.self.inside.own c.self.inside.buddies.items c.self.inside.free_lists.items c.self.inside.fits.items) c.self.inside.allocations_remains c.self.invariant.books c.args.memory_type _ c.index.result.now known
+    let of = type_heap_is c.self.inside.limits c.self.inside.heaps.items c.self.inside.types.items (whole c.self.inside.own c.self.inside.types.items) c.self.inside.allocations_remains c.self.invariant.books c.args.memory_type _ c.index.result.now known
     c.heap_index.ensures c.index.ensures in
     rw (← c.self.view_is) (λ within. omega (arith, c.fits.ensures.0 c.if-not-fits.false, of.limited, of.size))
 
 pub returns-else-not-fits-clause-within : goal.returns-else-not-fits-clause-within
 returns-else-not-fits-clause-within g c =
     let known = rw (← c.self.view_is) at c.requires.known in
-    let of = type_heap_is c.self.inside.limits c.self.inside.heaps.items c.self.inside.buddies.items c.self.inside.free_lists.items c.self.inside.fits.items (whole c.self.inside.own c.self.inside.buddies.items c.self.inside.free_lists.items c.self.inside.fits.items) c.self.inside.allocations_remains c.self.invariant.books c.args.memory_type _ c.index.result.now known
+    let of = type_heap_is c.self.inside.limits c.self.inside.heaps.items c.self.inside.types.items (whole c.self.inside.own c.self.inside.types.items) c.self.inside.allocations_remains c.self.invariant.books c.args.memory_type _ c.index.result.now known
     c.heap_index.ensures c.index.ensures in
     rw (← c.self.view_is) (λ within some. omega (arith, c.fits.ensures.0 c.if-not-fits.false, of.used, of.limit))

@@ -1,46 +1,41 @@
-use Rattle.std.proofs.Common.{◌++◌, Contains, sym, ◌∙◌, ap, subst}
-use Rattle.std.specs.List.{IsDistinct}
-use Rattle.gpu_alloc_base.specs.RangeOrder.{same_start}
-use Rattle.gpu_alloc.specs.FreeRanges.{IsFreeRangeOf}
-use Rattle.gpu_alloc_block.specs.State.{State}
-use Rattle.gpu_alloc.proofs.Linked.{consistent}
-use Rattle.gpu_alloc.proofs.Buddies.Named.{buddy_is_named, buddy_named}
-use Rattle.gpu_alloc.proofs.Fits.Named.{fit_is_named, fit_named}
-use Rattle.gpu_alloc.proofs.FreeLists.Named.{list_is_named, list_named}
-use Rattle.gpu_alloc.proofs.Shared.Calls.{serves}
-use Rattle.gpu_alloc.proofs.FreeRanges.{pieces_and_runs, all_apart}
+use Rattle.std.proofs.Common.{refl, ap}
+use Rattle.gpu_alloc.proofs.Buddies.Named.{buddy_in, buddy_is_named}
+use Rattle.gpu_alloc.proofs.ChosenStores.{not_buddies, not_fits}
+use Rattle.gpu_alloc.proofs.Fits.Named.{fit_in, fit_is_named}
+use Rattle.gpu_alloc.proofs.FreeLists.Named.{list_is_named}
+use Rattle.gpu_alloc.proofs.Shared.Calls.{serves, state_of}
+use Rattle.gpu_alloc.proofs.FreeRanges.{AreAllFree, AreFreeOn, all_free, fits_free, list_free, pieces_free}
+use Rattle.gpu_alloc.proofs.allocator.GpuAllocator.pieces_and_runs.Given.{Over}
+use Rattle.gpu_alloc.proofs.allocator.GpuAllocator.pieces_and_runs.Goals.{In_ok-extend_from_slice, in-Buddy+in_ok-chosen-in-Buddy, in-Fit+in_ok-chosen-in-Fit}
 use Rattle.gpu_alloc.proofs.allocator.GpuAllocator.pieces_and_runs.Goals as goal
 
-pub put_in_order-requires : goal.put_in_order-requires
-put_in_order-requires g c =
+-- the free list's ranges with those of the chosen store are all
+all_listed : (g : Over) (c : In_ok-extend_from_slice g) → AreAllFree c.args.self.now c.args.memory_type c.extend_from_slice.new.self.items
+all_listed g c =
+    let l = c.self.inside.limits in
+    let kept = c.self.invariant in
     let known = rw (← c.self.view_is) at c.requires in
-    let kept = consistent _ _ _ _ _ _ _ _ _ c.self.invariant in
-    let of_buddy = serves {n = buddy_named} buddy_is_named {l = c.self.inside.limits} (record { kept = c.self.invariant; known = known; at = c.index.ensures }) in
-    let of_list = serves {n = list_named} list_is_named {l = c.self.inside.limits} (record { kept = c.self.invariant; known = known; at = c.index-2.ensures }) in
-    let of_fits = serves {n = fit_named} fit_is_named {l = c.self.inside.limits} (record { kept = c.self.invariant; known = known; at = c.index-3.ensures }) in
-    let pieces = c.in_ok-ranges.ranges.items in
-    let runs = c.in_ok-runs.runs.items in
-    let fitted = c.in_ok-fitted.fitted.items in
-    let first = c.in_ok-extend_from_slice.ensures.items ∙ ap (λ xs. pieces ++ xs) c.as_slice.ensures.value in
-    let items = c.in_ok-extend_from_slice-2.ensures.items ∙ (λ i. first i ++ c.as_slice-2.ensures.value i) in
-    subst (IsDistinct same_start) (sym items)
-    (all_apart _ _ _ _ _ of_buddy of_list of_fits pieces runs fitted c.in_ok-ranges.ensures.pieces c.in_ok-runs.ensures.runs c.in_ok-fitted.ensures.runs c.in_ok-ranges.ensures.order c.in_ok-runs.ensures.order c.in_ok-fitted.ensures.order)
+    let at = c.index-stores.ensures in
+    let its = c.in_ok-ranges.ensures in
+    let s = state_of l c.self.inside.heaps.items c.self.inside.types.items c.self.inside.own c.self.inside.allocations_remains in
+    let runs = list_free s c.args.memory_type c.index-stores.result.now.free_list (serves list_is_named {l = l} (record { kept = kept; known = known; at = at; is = refl })) kept.chosen c.in_ok-ranges.ranges.items its.order its.runs in
+    let others : AreFreeOn s c.args.memory_type 0 c.match-stores.chosen.items = elim c.match-stores.branch [
+      | in-Buddy+in_ok-chosen-in-Buddy w ↦
+          let store = serves buddy_is_named {l = l} (record { kept = kept; known = known; at = at; is = ap buddy_in w.in-Buddy.is }) in
+          let pieces = w.in_ok-chosen-in-Buddy.ensures in
+          rw w.chosen-is (pieces_free s c.args.memory_type w.in-Buddy.buddy store kept.chosen (not_buddies l kept known at w.in-Buddy.is) _ pieces.order pieces.pieces)
+      | in-Fit+in_ok-chosen-in-Fit w ↦
+          let store = serves fit_is_named {l = l} (record { kept = kept; known = known; at = at; is = ap fit_in w.in-Fit.is }) in
+          let fitted = w.in_ok-chosen-in-Fit.ensures in
+          rw w.chosen-is (fits_free s c.args.memory_type w.in-Fit.fit store kept.chosen (not_fits l kept known at w.in-Fit.is) _ fitted.order fitted.runs)
+    ] in
+    rw (← c.self.view_is, c.in_ok-extend_from_slice.ensures.items, c.as_slice.ensures.value) (all_free s c.args.memory_type _ _ runs others)
+
+pub put_in_order-requires : goal.put_in_order-requires
+put_in_order-requires g c = (all_listed g (goal.at.put_in_order-requires g c).In_ok-extend_from_slice).apart
 
 pub returns-clause-exact : goal.returns-clause-exact
 returns-clause-exact g c r =
-    let known = rw (← c.self.view_is) at c.requires in
-    let kept = consistent _ _ _ _ _ _ _ _ _ c.self.invariant in
-    let of_buddy = serves {n = buddy_named} buddy_is_named {l = c.self.inside.limits} (record { kept = c.self.invariant; known = known; at = c.index.ensures }) in
-    let of_list = serves {n = list_named} list_is_named {l = c.self.inside.limits} (record { kept = c.self.invariant; known = known; at = c.index-2.ensures }) in
-    let of_fits = serves {n = fit_named} fit_is_named {l = c.self.inside.limits} (record { kept = c.self.invariant; known = known; at = c.index-3.ensures }) in
-    let pieces = c.in_ok-ranges.ranges.items in
-    let runs = c.in_ok-runs.runs.items in
-    let fitted = c.in_ok-fitted.fitted.items in
-    let first = c.in_ok-extend_from_slice.ensures.items ∙ ap (λ xs. pieces ++ xs) c.as_slice.ensures.value in
-    let items = c.in_ok-extend_from_slice-2.ensures.items ∙ (λ i. first i ++ c.as_slice-2.ensures.value i) in
     let same = c.put_in_order.ensures.same r in
-    let exact = pieces_and_runs _ _ _ _ _ of_buddy of_list of_fits pieces runs fitted c.in_ok-ranges.ensures.pieces c.in_ok-runs.ensures.runs c.in_ok-fitted.ensures.runs r in
-    let is = c.self.view_is in (
-      (λ has. subst (λ (s : State). IsFreeRangeOf s c.args.memory_type r) is (exact.0 (subst (λ xs. Contains xs r) items (same.0 has)))),
-      (λ free. same.1 (subst (λ xs. Contains xs r) (sym items) (exact.1 (subst (λ (s : State). IsFreeRangeOf s c.args.memory_type r) (sym is) free)))),
-    )
+    let exact = (all_listed g (goal.at.returns-clause-exact g c).In_ok-extend_from_slice).exact r in
+    (λ has. exact.0 (same.0 has), λ free. same.1 (exact.1 free))

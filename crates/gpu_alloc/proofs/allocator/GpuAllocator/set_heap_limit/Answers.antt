@@ -19,7 +19,7 @@ invariant_of-self g c =
     let is = c.self.invariant in
     let known = rw (← c.self.view_is) at c.requires in
     let inside : c.args.heap < length heaps = omega (arith, length-map heaps offer_of) in
-    subst (λ (q : Properties). IsKept c.self.inside.limits.sharing c.self.inside.limits.config q (set heaps c.args.heap c.set_limit.new.self) c.self.inside.buddies.items c.self.inside.free_lists.items c.self.inside.fits.items c.self.inside.own c.self.inside.allocations_remains)
+    subst (λ (q : Properties). IsKept c.self.inside.limits.sharing c.self.inside.limits.config q (set heaps c.args.heap c.set_limit.new.self) c.self.inside.types.items c.self.inside.own c.self.inside.allocations_remains)
     (sym (properties_kept c.self.inside.limits heaps c.args.heap c.set_limit.new.self c.index_mut.result.now c.index_mut.ensures.value (ap (λ (h : Heap). h.size) c.set_limit.ensures))) (record {
       books = record {
         usable = is.books.usable;
@@ -27,22 +27,20 @@ invariant_of-self g c =
         known = is.books.known;
         spans = is.books.spans;
         small = is.books.small;
-        ledgers = ledgers_limited (properties_in c.self.inside.limits heaps) heaps c.args.heap c.args.limit c.set_limit.new.self c.index_mut.result.now (finite.entries (whole c.self.inside.own c.self.inside.buddies.items c.self.inside.free_lists.items c.self.inside.fits.items).held) is.books.ledgers inside c.index_mut.ensures.value c.set_limit.ensures;
+        ledgers = ledgers_limited (properties_in c.self.inside.limits heaps) heaps c.args.heap c.args.limit c.set_limit.new.self c.index_mut.result.now (finite.entries (whole c.self.inside.own c.self.inside.types.items).held) is.books.ledgers inside c.index_mut.ensures.value c.set_limit.ensures;
       };
       shared = is.shared;
-      listed = is.listed;
-      fitted = is.fitted;
       chosen = is.chosen;
       apart = is.apart;
     })
 
-is_set : (g : Over) (c : After-keeps_sound g) → state_in c.self.inside.limits (set c.self.inside.heaps.items c.args.heap c.set_limit.new.self) c.self.inside.buddies.items c.self.inside.free_lists.items c.self.inside.fits.items (whole c.self.inside.own c.self.inside.buddies.items c.self.inside.free_lists.items c.self.inside.fits.items) c.self.inside.allocations_remains
+is_set : (g : Over) (c : After-keeps_sound g) → state_in c.self.inside.limits (set c.self.inside.heaps.items c.args.heap c.set_limit.new.self) c.self.inside.types.items (whole c.self.inside.own c.self.inside.types.items) c.self.inside.allocations_remains
     ≡ with_heap_limit c.args.self.now c.args.heap c.args.limit
 is_set g c =
     let heaps = c.self.inside.heaps.items in
     let known = rw (← c.self.view_is) at c.requires in
     let inside : c.args.heap < length heaps = omega (arith, length-map heaps offer_of) in
-    rw (← c.self.view_is) (limit_is_set c.self.inside.limits heaps c.self.inside.buddies.items c.self.inside.free_lists.items c.self.inside.fits.items (whole c.self.inside.own c.self.inside.buddies.items c.self.inside.free_lists.items c.self.inside.fits.items) c.self.inside.allocations_remains c.self.invariant.books.ledgers
+    rw (← c.self.view_is) (limit_is_set c.self.inside.limits heaps c.self.inside.types.items (whole c.self.inside.own c.self.inside.types.items) c.self.inside.allocations_remains c.self.invariant.books.ledgers
     c.args.heap c.args.limit c.set_limit.new.self c.index_mut.result.now inside c.index_mut.ensures.value c.set_limit.ensures)
 
 pub returns-clause-set : goal.returns-clause-set

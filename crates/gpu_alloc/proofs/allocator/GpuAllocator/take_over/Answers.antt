@@ -1,6 +1,5 @@
-use Rattle.std.proofs.Common.{◌≡◌, ◌-◌, ◌<◌, ◌^◌, None, refl, sym, ap, ◌∙◌, arith, subst, length, vec_len}
+use Rattle.std.proofs.Common.{◌≡◌, ◌-◌, ◌<◌, ◌^◌, None, refl, sym, ap, ◌∙◌, arith, subst}
 use Rattle.std.proofs.Math.ListN.{set}
-use Rattle.std.proofs.lemmas.Grind.{common_steps}
 use Rattle.std.specs.FinMap as finite
 use Rattle.std.specs.FinSet as set_of
 use Rattle.gpu_alloc_types.specs.Properties.{props_at}
@@ -12,7 +11,7 @@ use Rattle.gpu_alloc_block.specs.Parts.{Makes}
 use Rattle.gpu_alloc.proofs.Wholes.{own_comes, unheld_then}
 use Rattle.gpu_alloc_block.specs.State.{State, HeldObject, Block, span_of}
 use Rattle.gpu_alloc_base.specs.declared.heap.Heap.{Heap}
-use Rattle.gpu_alloc.proofs.Consistency.{HoldsMore, booked-held, heap_there, ledger-room}
+use Rattle.gpu_alloc.proofs.Consistency.{HoldsMore, booked-held, ledger-room}
 use Rattle.gpu_alloc.proofs.Grants.{state_held}
 use Rattle.gpu_alloc.proofs.HeapLists.{properties_kept}
 use Rattle.gpu_alloc.proofs.Imports.{imports}
@@ -21,13 +20,7 @@ use Rattle.gpu_alloc.proofs.allocator.GpuAllocator.take_over.Given.{Over}
 use Rattle.gpu_alloc.proofs.allocator.GpuAllocator.take_over.Goals as goal
 
 pub invariant_of-self : goal.invariant_of-self
-invariant_of-self g c = kept-room _ _ _ _ _ _ _ _ _ _ c.reserve.ensures.kept c.self.invariant
-
-pub index_mut-requires : goal.index_mut-requires
-index_mut-requires g c =
-    let known = rw (← c.self.view_is) at c.requires.known in
-    let n : vec_len c.self.inside.heaps ≡ length c.self.inside.heaps.items = grind (arith, common_steps) in
-    omega (arith, n, c.heap_index-heap.ensures, heap_there _ _ _ _ c.self.invariant.books refl c.args.memory_type known)
+invariant_of-self g c = kept-room _ _ _ _ _ _ _ _ c.reserve.ensures.kept c.self.invariant
 
 pub hold-requires-clause-room : goal.hold-requires-clause-room
 hold-requires-clause-room g c =
@@ -38,7 +31,7 @@ hold-requires-clause-room g c =
 -- What is known where there was room: the state before, the new row and block, and what follows from the steps.
 
 abbrev before : (g : Over) → goal.After-new g → State
-before g c = state_in c.self.inside.limits c.self.inside.heaps.items c.self.inside.buddies.items c.self.inside.free_lists.items c.self.inside.fits.items (whole c.self.inside.own c.self.inside.buddies.items c.self.inside.free_lists.items c.self.inside.fits.items) c.self.inside.allocations_remains
+before g c = state_in c.self.inside.limits c.self.inside.heaps.items c.self.inside.types.items (whole c.self.inside.own c.self.inside.types.items) c.self.inside.allocations_remains
 
 abbrev object : (g : Over) → goal.After-new g → HeldObject
 object g c = imported_object c.args.memory_type c.args.size
@@ -56,13 +49,13 @@ some g c = subst (λ s. 0 < s.remaining) (sym c.self.view_is) c.requires.remains
 free : (g : Over) (c : goal.After-new g) → finite.get (before g c).held (block g c).object ≡ None
 free g c = ap (λ (s : State). finite.get s.held (block g c).object) c.self.view_is ∙ c.requires.unheld
 
-came : (g : Over) (c : goal.After-new g) → Makes (IsPartFor (length c.self.inside.buddies.items) (length c.self.inside.free_lists.items)) (parts_of c.insert-key.new.self c.self.inside.buddies.items c.self.inside.free_lists.items c.self.inside.fits.items) (finite.insert (before g c).held (block g c).object (object g c)) (set_of.insert (before g c).live (span_of (block g c)))
+came : (g : Over) (c : goal.After-new g) → Makes IsPartFor (parts_of c.insert-key.new.self c.self.inside.types.items) (finite.insert (before g c).held (block g c).object (object g c)) (set_of.insert (before g c).live (span_of (block g c)))
 came g c =
-    own_comes c.self.inside.own c.self.inside.buddies.items c.self.inside.free_lists.items c.self.inside.fits.items c.self.invariant.apart c.insert-key.new.self (span_of (block g c)) (object g c) (free g c) refl
+    own_comes c.self.inside.own c.self.inside.types.items c.self.invariant.apart c.insert-key.new.self (span_of (block g c)) (object g c) (free g c) refl
     (c.insert-key.ensures.held ∙ (λ k. finite.insert (c.reserve.ensures.kept k).held (name g c k) (object g c)))
     (c.insert-key.ensures.live ∙ (λ k. set_of.insert (c.reserve.ensures.kept k).live (record (span_of (block g c)) { object = name g c k })))
 
-more : (g : Over) (c : goal.After-new g) → HoldsMore _ _ _ _ c.self.invariant.books refl (whole c.insert-key.new.self c.self.inside.buddies.items c.self.inside.free_lists.items c.self.inside.fits.items) (object g c) (span_of (block g c))
+more : (g : Over) (c : goal.After-new g) → HoldsMore _ _ _ _ c.self.invariant.books refl (whole c.insert-key.new.self c.self.inside.types.items) (object g c) (span_of (block g c))
 more g c =
     let known = rw (← c.self.view_is) at c.requires.known in
     let small : c.args.size < 2 ^ 64 = omega (arith, c.requires.ends) in
@@ -74,10 +67,10 @@ more g c =
     }
 
 state_is : (g : Over) (c : goal.After-new g)
-    → state_in c.self.inside.limits (set c.self.inside.heaps.items c.heap_index-heap.result c.hold.new.heap) c.self.inside.buddies.items c.self.inside.free_lists.items c.self.inside.fits.items (whole c.insert-key.new.self c.self.inside.buddies.items c.self.inside.free_lists.items c.self.inside.fits.items) (c.self.inside.allocations_remains - 1)
+    → state_in c.self.inside.limits (set c.self.inside.heaps.items c.heap_index-heap.result c.hold.new.heap) c.self.inside.types.items (whole c.insert-key.new.self c.self.inside.types.items) (c.self.inside.allocations_remains - 1)
     ≡ holding (before g c) (object g c) (block g c)
 state_is g c =
-    state_held c.self.inside.limits _ c.self.inside.buddies.items c.self.inside.free_lists.items c.self.inside.fits.items _ _ c.index_mut.result.now (whole c.self.inside.own c.self.inside.buddies.items c.self.inside.free_lists.items c.self.inside.fits.items) (whole c.insert-key.new.self c.self.inside.buddies.items c.self.inside.free_lists.items c.self.inside.fits.items) _ (object g c) (block g c) c.index_mut.ensures.value (ap (λ (h : Heap). h.size) c.hold.ensures.ledger) (ap (λ (h : Heap). h.limit) c.hold.ensures.ledger)
+    state_held c.self.inside.limits _ c.self.inside.types.items _ _ c.index_mut.result.now (whole c.self.inside.own c.self.inside.types.items) (whole c.insert-key.new.self c.self.inside.types.items) _ (object g c) (block g c) c.index_mut.ensures.value (ap (λ (h : Heap). h.size) c.hold.ensures.ledger) (ap (λ (h : Heap). h.limit) c.hold.ensures.ledger)
     (more g c).held (more g c).live
 
 block_is : (g : Over) (c : goal.After-new g) → c.new.result ≡ block g c
@@ -89,12 +82,10 @@ pub invariant_of-self-2 : goal.invariant_of-self-2
 invariant_of-self-2 g c =
     rw (properties_kept c.self.inside.limits c.self.inside.heaps.items c.heap_index-heap.result c.hold.new.heap c.index_mut.result.now c.index_mut.ensures.value (ap (λ (h : Heap). h.size) c.hold.ensures.ledger), c.hold.ensures.count)
     (record {
-      books = booked-held _ _ _ _ c.self.invariant.books refl (whole c.insert-key.new.self c.self.inside.buddies.items c.self.inside.free_lists.items c.self.inside.fits.items) (object g c) (span_of (block g c)) (more g c) c.index_mut.result.now _ _ (some g c)
+      books = booked-held _ _ _ _ c.self.invariant.books refl (whole c.insert-key.new.self c.self.inside.types.items) (object g c) (span_of (block g c)) (more g c) c.index_mut.result.now _ _ (some g c)
           c.heap_index-heap.ensures c.index_mut.ensures.value c.hold.ensures.ledger (λ asked. absurd (cc));
       shared = c.self.invariant.shared;
-      listed = c.self.invariant.listed;
-      fitted = c.self.invariant.fitted;
-      chosen = chosen_more _ (whole c.self.inside.own c.self.inside.buddies.items c.self.inside.free_lists.items c.self.inside.fits.items) (whole c.insert-key.new.self c.self.inside.buddies.items c.self.inside.free_lists.items c.self.inside.fits.items) (block g c).object (object g c) c.self.invariant.chosen refl (came g c).held_is;
+      chosen = chosen_more _ (whole c.self.inside.own c.self.inside.types.items) (whole c.insert-key.new.self c.self.inside.types.items) (block g c).object (object g c) c.self.invariant.chosen refl (came g c).held_is;
       apart = (came g c).apart;
     })
 
@@ -103,8 +94,8 @@ returns-clause-imported g c = rw (← c.self.view_is, c.hold.ensures.count) (imp
 
 -- The object's name is free in the table, and so are its spans.
 
-no_object : (g : Over) (c : goal.After-insert-arg-1 g) → finite.get (whole c.self.inside.own c.self.inside.buddies.items c.self.inside.free_lists.items c.self.inside.fits.items).held c.object.result ≡ None
+no_object : (g : Over) (c : goal.After-insert-arg-1 g) → finite.get (whole c.self.inside.own c.self.inside.types.items).held c.object.result ≡ None
 no_object g c = ap (λ (s : State). finite.get s.held c.object.result) c.self.view_is ∙ ap (finite.get (c.args.self.now).held) c.object.ensures ∙ c.requires.unheld
 
 pub insert-key-requires-clause-free : goal.insert-key-requires-clause-free
-insert-key-requires-clause-free g c = unheld_then c.self.inside.own c.reserve.new.self c.self.inside.buddies.items c.self.inside.free_lists.items c.self.inside.fits.items c.self.invariant.apart c.reserve.ensures.kept c.object.result (no_object g c)
+insert-key-requires-clause-free g c = unheld_then c.self.inside.own c.reserve.new.self c.self.inside.types.items c.self.invariant.apart c.reserve.ensures.kept c.object.result (no_object g c)

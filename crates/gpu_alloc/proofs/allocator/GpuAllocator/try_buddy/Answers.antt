@@ -1,107 +1,67 @@
-use Rattle.std.proofs.Common.{◌≡◌, ◌^◌, ◌<◌, refl, sym, ap, ◌∙◌, subst, arith}
-use Rattle.gpu_alloc_types.specs.Properties.{Properties}
+use Rattle.std.proofs.Common.{◌≡◌, Result, ap, ◌∙◌}
 use Rattle.gpu_alloc_base.specs.Accounts.{account}
 use Rattle.gpu_alloc_base.specs.declared.buddy_block.Leaf.{Leaf}
-use Rattle.gpu_alloc_base.proofs.AlignedPowers.{pow-le}
-use Rattle.gpu_alloc_block.specs.State.{Block, State}
+use Rattle.gpu_alloc_base.specs.declared.error.AllocationError.{AllocationError}
 use Rattle.gpu_alloc_block.specs.declared.block.Kind.TheVariants.{BuddyChunk}
-use Rattle.gpu_alloc_block.specs.declared.sharing.Sharing.TheVariants.{Buddy as BuddiesChosen}
-use Rattle.gpu_alloc.specs.Candidates.{candidate}
 use Rattle.gpu_alloc.specs.Sound.{is_chosen}
 use Rattle.gpu_alloc.specs.declared.allocator.Strategy.TheVariants.{InBuddyChunk}
 use Rattle.gpu_alloc.proofs.Atoms.{some_atom}
-use Rattle.gpu_alloc.proofs.Buddies.Named.{buddy_asked, buddy_is_named, buddy_named, buddy_request}
-use Rattle.gpu_alloc.proofs.Consistency.{heap_there}
-use Rattle.gpu_alloc.proofs.HandedOn.{address_there, below}
-use Rattle.gpu_alloc.proofs.Shared.Calls.{IsServed, refused, served, Handed, agrees_before, before, counted_before, handed, serves, unchanged, With}
-use Rattle.gpu_alloc.proofs.Shared.Stores.{block_at}
-use Rattle.gpu_alloc.proofs.Trials.{nothing_made, refused_tries}
+use Rattle.gpu_alloc.proofs.Buddies.Named.{buddy_asked, buddy_in, buddy_is_named, buddy_named, buddy_request}
+use Rattle.gpu_alloc.proofs.Shared.Calls.{Handed, agrees_before, before, counted_before, handed, serves}
+use Rattle.gpu_alloc.proofs.Shared.Tries.{IsTried, addressed, ends, parts_are, told_as, tried}
 use Rattle.gpu_alloc.proofs.allocator.GpuAllocator.try_buddy.Given.{Over}
+use Rattle.gpu_alloc.proofs.allocator.GpuAllocator.try_buddy.Goals.{After-alloc-answer, After-new-2}
 use Rattle.gpu_alloc.proofs.allocator.GpuAllocator.try_buddy.Goals as goal
 
-pub heap_index-heap-requires : goal.heap_index-heap-requires
-heap_index-heap-requires g c = rw (← c.self.view_is) at c.requires.known
+-- What the buddy allocator is handed.
 
-pub index_mut-requires : goal.index_mut-requires
-index_mut-requires g c = below refl (c.self.inside.buddies.ok.0 ∙ c.self.invariant.shared.count) (rw (← c.self.view_is) at c.requires.known)
-
-pub index_mut-requires-2 : goal.index_mut-requires-2
-index_mut-requires-2 g c = below c.heap_index-heap.ensures c.self.inside.heaps.ok.0 (heap_there _ _ _ _ c.self.invariant.books refl c.args.memory_type (rw (← c.self.view_is) at c.requires.known))
-
-pub alloc-answer-requires-clause-nonempty : goal.alloc-answer-requires-clause-nonempty
-alloc-answer-requires-clause-nonempty g c = c.requires.askable.nonempty
-
-pub alloc-answer-requires-clause-alignment : goal.alloc-answer-requires-clause-alignment
-alloc-answer-requires-clause-alignment g c = c.requires.askable.alignment
+handed_now : (g : Over) (c : After-new-2 g)
+    → Handed buddy_named c.self.inside.limits c.self.inside.heaps.items c.self.inside.types.items c.self.inside.own c.self.inside.allocations_remains c.args.memory_type c.heap_index-heap.result c.index_mut.result.now c.in-Buddy.buddy c.index_mut-2.result.now
+handed_now g c = handed buddy_named c.self.inside.limits c.self.invariant (rw (← c.self.view_is) at c.requires.known) c.index_mut.ensures.value (ap buddy_in c.in-Buddy.is) c.heap_index-heap.ensures c.index_mut-2.ensures.value
 
 pub alloc-answer-requires-clause-address : goal.alloc-answer-requires-clause-address
-alloc-answer-requires-clause-address g c = address_there _ _ _ c.flags-flags.ensures (ap (λ (p : Properties). p.buffer_device_address) (c.requires.agrees.properties ∙ ap (λ (s : State). s.properties) (sym c.self.view_is)))
+alloc-answer-requires-clause-address g c = let agrees = rw (← c.self.view_is) at c.requires.agrees in addressed (handed_now g c) agrees c.flags-flags.ensures
 
 pub alloc-answer-requires-clause-agrees : goal.alloc-answer-requires-clause-agrees
-alloc-answer-requires-clause-agrees g c =
-    let known = rw (← c.self.view_is) at c.requires.known in
-    let agrees = rw (← c.self.view_is) at c.requires.agrees in
-    agrees_before buddy_is_named (handed buddy_named c.self.inside.limits c.self.invariant known c.index_mut.ensures.value c.heap_index-heap.ensures c.index_mut-2.ensures.value) _ _ agrees
+alloc-answer-requires-clause-agrees g c = let agrees = rw (← c.self.view_is) at c.requires.agrees in agrees_before buddy_is_named (handed_now g c) _ _ agrees
 
 pub alloc-answer-requires-clause-counted : goal.alloc-answer-requires-clause-counted
-alloc-answer-requires-clause-counted g c =
-    let known = rw (← c.self.view_is) at c.requires.known in
-    counted_before buddy_is_named (handed buddy_named c.self.inside.limits c.self.invariant known c.index_mut.ensures.value c.heap_index-heap.ensures c.index_mut-2.ensures.value)
+alloc-answer-requires-clause-counted g c = counted_before buddy_is_named (handed_now g c)
 
-pub props-props-requires : goal.props-props-requires
-props-props-requires g c = rw (← c.self.view_is) at c.requires.known
+-- What its answer comes to.
+
+given : (g : Over) (c : After-alloc-answer g)
+    → Handed buddy_named c.self.inside.limits c.self.inside.heaps.items c.self.inside.types.items c.self.inside.own c.self.inside.allocations_remains c.args.memory_type c.heap_index-heap.result c.index_mut.result.now c.in-Buddy.buddy c.index_mut-2.result.now
+given g c = handed buddy_named c.self.inside.limits c.self.invariant (rw (← c.self.view_is) at c.requires.known) c.index_mut.ensures.value (ap buddy_in c.in-Buddy.is) c.heap_index-heap.ensures c.index_mut-2.ensures.value
+
+is : (g : Over) (c : After-alloc-answer g) {answer : Result Leaf AllocationError} → c.alloc-answer.result ≡ answer → IsTried (given g c) g.D.ObjectDevice.step c.args.device.now c.alloc-answer.new.device InBuddyChunk c.args.request answer
+    (account c.alloc-answer.new.buddy c.alloc-answer.new.heap c.alloc-answer.new.allocations_remains) (g.D.ObjectDevice.objects c.args.device.now) (g.D.ObjectDevice.objects c.alloc-answer.new.device)
+is g c same =
+    let agrees = rw (← c.self.view_is) at c.requires.agrees in
+    let h = given g c in
+    let request = buddy_request _ _ _ (serves buddy_is_named h.has) c.args.request c.index_mut-2.result.now _ _ c.flags-flags.ensures in
+    told_as h (tried h buddy_is_named buddy_asked request (λ b. ap (λ sharing. is_chosen sharing BuddyChunk) (rw (← c.self.view_is) at c.requires.chosen)) agrees c.alloc-answer.ensures.sound c.alloc-answer.result c.alloc-answer.ensures.allocates c.alloc-answer.ensures.objects) same
+
+-- A leaf becomes a block.
 
 pub new-requires-3 : goal.new-requires-3
-new-requires-3 g c =
-    let inside = c.in-Ok.ensures.granted.inside in
-    let power = c.in-Ok.ensures.sound.space.powers c.in-Ok.block.chunk inside.0 inside.1 in
-    let small : inside.0.size < 2 ^ 64 = omega (arith, power.1.1, pow-le power.0 63 power.1.0) in
-    let offset = ap (λ (leaf : Leaf). leaf.offset) c.into_parts-memory.ensures.leaf in
-    let size = ap (λ (leaf : Leaf). leaf.size) c.into_parts-memory.ensures.leaf in
-    record { finish = omega (arith, offset, size, inside.2.1, small); some = some_atom _ _ _ c.self.invariant.books.usable.atom c.atom-atom.ensures }
-
--- A grant.
-
-given : (g : Over) (c : goal.After-new-3 g)
-    → Handed buddy_named c.self.inside.limits c.self.inside.heaps.items (record { buddies = c.self.inside.buddies.items; lists = c.self.inside.free_lists.items; fits = c.self.inside.fits.items })
-    c.self.inside.own c.self.inside.allocations_remains c.args.memory_type c.heap_index-heap.result c.index_mut.result.now c.index_mut-2.result.now
-given g c = handed buddy_named c.self.inside.limits c.self.invariant (rw (← c.self.view_is) at c.requires.known) c.index_mut.ensures.value c.heap_index-heap.ensures c.index_mut-2.ensures.value
-
-is : (g : Over) (c : goal.After-new-3 g) → IsServed (given g c) (candidate InBuddyChunk (before (given g c)) c.args.request c.args.memory_type) c.in-Ok.ensures.allocates.0 c.in-Ok.block (g.D.ObjectDevice.objects c.args.device.now)
-    (g.D.ObjectDevice.objects c.alloc-answer.new.device) (account c.alloc-answer.new.buddy c.alloc-answer.new.heap c.alloc-answer.new.allocations_remains)
-is g c =
-    let told = c.in-Ok.ensures.allocates in
-    let agrees = rw (← c.self.view_is) at c.requires.agrees in
-    let chosen : c.self.inside.limits.sharing ≡ BuddiesChosen = rw (← c.self.view_is) at c.requires.chosen in
-    let request = buddy_request _ _ _ (serves buddy_is_named (given g c).has) c.args.request c.index_mut-2.result.now _ _ c.flags-flags.ensures in
-    served buddy_is_named (given g c) buddy_asked request told.0 _ c.in-Ok.block _ _ _ (ap (λ sharing. is_chosen sharing BuddyChunk) chosen) agrees told.2 c.in-Ok.ensures.objects c.in-Ok.ensures.sound
+new-requires-3 g c = record { finish = ends buddy_is_named c.in-Ok.ensures.sound c.in-Ok.ensures.granted.inside c.into_parts-memory.ensures.leaf; some = some_atom _ _ _ c.self.invariant.books.usable.atom c.atom-atom.ensures }
 
 pub invariant_of-self-2 : goal.invariant_of-self-2
-invariant_of-self-2 g c = (is g c).kept
+invariant_of-self-2 g c = (is g (goal.at.invariant_of-self-2 g c).After-alloc-answer c.in-Ok.is).kept
+
+-- It is what the try gives.
 
 pub returns : goal.returns
 returns g c =
-    let told = c.in-Ok.ensures.allocates in
-    let leaf = c.into_parts-memory.ensures.leaf in
-    let block : Block = block_at buddy_named (before (given g c)) c.args.memory_type c.in-Ok.block in
-    let block_is : c.new-3.result ≡ block = c.new-3.ensures ∙ (λ k. record block { object = c.into_parts-memory.ensures.handle k; offset = (leaf k).offset; size = (leaf k).size; props = c.props-props.ensures k; atom = c.atom-atom.ensures k; kind = BuddyChunk }) in
-    rw (← c.self.view_is, block_is) (record { tries = (told.0, told.1, (is g c).gives); objects = (is g c).objects_are })
+    let it = is g (goal.at.returns g c).After-alloc-answer c.in-Ok.is in
+    let block_is = c.new-3.ensures ∙ parts_are buddy_named (before (given g (goal.at.returns g c).After-alloc-answer)) c.args.memory_type c.into_parts-memory.ensures.handle c.into_parts-memory.ensures.leaf c.props-props.ensures c.atom-atom.ensures in
+    rw (← c.self.view_is, block_is) (record { tries = it.tries; objects = it.objects })
 
--- A refusal, after which the fields are as they were.
+-- And a refusal.
 
 pub invariant_of-self : goal.invariant_of-self
-invariant_of-self g c =
-    let h = handed buddy_named c.self.inside.limits c.self.invariant (rw (← c.self.view_is) at c.requires.known) c.index_mut.ensures.value c.heap_index-heap.ensures c.index_mut-2.ensures.value in
-    let same = c.in-Err.ensures.refused in
-    (subst (λ a. With h a (before h)) (λ k. account (sym same.0 k) (sym same.1.0 k) (sym same.1.1 k)) (unchanged buddy_is_named h)).0
+invariant_of-self g c = (is g (goal.at.invariant_of-self g c).After-alloc-answer c.in-Err.is).kept
 
 pub returns-in-Err : goal.returns-in-Err
-returns-in-Err g c =
-    let h = handed buddy_named c.self.inside.limits c.self.invariant (rw (← c.self.view_is) at c.requires.known) c.index_mut.ensures.value c.heap_index-heap.ensures c.index_mut-2.ensures.value in
-    let told = c.in-Err.ensures.allocates in
-    let request = buddy_request _ _ _ (serves buddy_is_named h.has) c.args.request c.index_mut-2.result.now _ _ c.flags-flags.ensures in
-    let left = refused buddy_is_named h buddy_asked request told.0 _ c.in-Err.refusal told.2 in
-    rw (c.passing.ensures, ← c.self.view_is, left.0.1) (record {
-      tries = (told.0, told.1, refused_tries _ told.0 c.in-Err.refusal _ left.1);
-      objects = nothing_made (before h) c.in-Err.refusal (before h) _ _ c.in-Err.ensures.objects;
-    })
+returns-in-Err g c = let it = is g (goal.at.returns-in-Err g c).After-alloc-answer c.in-Err.is in rw (c.passing.ensures, ← c.self.view_is) (record { tries = it.tries; objects = it.objects })

@@ -1,101 +1,69 @@
-use Rattle.std.proofs.Common.{◌≡◌, refl, sym, ap, ◌∙◌, subst, arith}
-use Rattle.gpu_alloc_types.specs.Properties.{Properties}
+use Rattle.std.proofs.Common.{◌≡◌, Result, refl, ap, ◌∙◌, arith}
 use Rattle.gpu_alloc_base.specs.Accounts.{account}
 use Rattle.gpu_alloc_base.specs.declared.free_list_block.Slot.{Slot}
-use Rattle.gpu_alloc_block.specs.State.{Block, State}
+use Rattle.gpu_alloc_base.specs.declared.error.AllocationError.{AllocationError}
 use Rattle.gpu_alloc_block.specs.declared.block.Kind.TheVariants.{FitChunk}
-use Rattle.gpu_alloc_block.specs.declared.sharing.Sharing.TheVariants.{Fit as FitsChosen}
-use Rattle.gpu_alloc.specs.Candidates.{candidate}
 use Rattle.gpu_alloc.specs.Sound.{is_chosen}
 use Rattle.gpu_alloc.specs.declared.allocator.Strategy.TheVariants.{InFitChunk}
 use Rattle.gpu_alloc.proofs.Atoms.{some_atom}
-use Rattle.gpu_alloc.proofs.Consistency.{heap_there}
-use Rattle.gpu_alloc.proofs.Fits.Named.{fit_asked, fit_is_named, fit_named, fit_request, fits_fit}
-use Rattle.gpu_alloc.proofs.HandedOn.{address_there, below}
-use Rattle.gpu_alloc.proofs.Shared.Calls.{IsServed, refused, served, Handed, agrees_before, before, counted_before, handed, serves, unchanged, With}
-use Rattle.gpu_alloc.proofs.Shared.Stores.{block_at}
-use Rattle.gpu_alloc.proofs.Trials.{nothing_made, refused_tries}
+use Rattle.gpu_alloc.proofs.Fits.Named.{fit_asked, fit_in, fit_is_named, fit_named, fit_request, fits_fit}
+use Rattle.gpu_alloc.proofs.Shared.Calls.{Handed, agrees_before, before, counted_before, handed, serves}
+use Rattle.gpu_alloc.proofs.Shared.Tries.{IsTried, addressed, ends, parts_are, told_as, tried}
 use Rattle.gpu_alloc.proofs.allocator.GpuAllocator.try_fit.Given.{Over}
+use Rattle.gpu_alloc.proofs.allocator.GpuAllocator.try_fit.Goals.{After-alloc_fit-answer}
 use Rattle.gpu_alloc.proofs.allocator.GpuAllocator.try_fit.Goals as goal
 
-pub heap_index-heap-requires : goal.heap_index-heap-requires
-heap_index-heap-requires g c = rw (← c.self.view_is) at c.requires.known
-
-pub index_mut-requires : goal.index_mut-requires
-index_mut-requires g c = below refl (c.self.inside.fits.ok.0 ∙ c.self.invariant.fitted.count) (rw (← c.self.view_is) at c.requires.known)
-
-pub index_mut-requires-2 : goal.index_mut-requires-2
-index_mut-requires-2 g c = below c.heap_index-heap.ensures c.self.inside.heaps.ok.0 (heap_there _ _ _ _ c.self.invariant.books refl c.args.memory_type (rw (← c.self.view_is) at c.requires.known))
+-- What the allocator of fit chunks is handed.
 
 pub alloc_fit-answer-requires : goal.alloc_fit-answer-requires
 alloc_fit-answer-requires g c =
-    let known = rw (← c.self.view_is) at c.requires.known in
     let fits = rw (← c.self.view_is) at c.requires.fits in
     let agrees = rw (← c.self.view_is) at c.requires.agrees in
-    let h = handed fit_named c.self.inside.limits c.self.invariant known c.index_mut.ensures.value c.heap_index-heap.ensures c.index_mut-2.ensures.value in
+    let h = handed fit_named c.self.inside.limits c.self.invariant (rw (← c.self.view_is) at c.requires.known) c.index_mut.ensures.value (ap fit_in c.in-Fit.is) c.heap_index-heap.ensures c.index_mut-2.ensures.value in
     record {
       begins = (refl, refl, omega (arith, c.new.ensures));
       nonempty = c.requires.askable.nonempty;
       fits = fits_fit _ _ _ (serves fit_is_named h.has) c.args.request fits;
       alignment = c.requires.askable.alignment;
-      address = address_there _ _ _ c.flags-flags.ensures (ap (λ (p : Properties). p.buffer_device_address) (c.requires.agrees.properties ∙ ap (λ (s : State). s.properties) (sym c.self.view_is)));
+      address = addressed h agrees c.flags-flags.ensures;
       agrees = agrees_before fit_is_named h _ _ agrees;
       counted = counted_before fit_is_named h;
     }
 
-pub props-props-requires : goal.props-props-requires
-props-props-requires g c = rw (← c.self.view_is) at c.requires.known
+given : (g : Over) (c : After-alloc_fit-answer g)
+    → Handed fit_named c.self.inside.limits c.self.inside.heaps.items c.self.inside.types.items c.self.inside.own c.self.inside.allocations_remains c.args.memory_type c.heap_index-heap.result c.index_mut.result.now c.in-Fit.fit c.index_mut-2.result.now
+given g c = handed fit_named c.self.inside.limits c.self.invariant (rw (← c.self.view_is) at c.requires.known) c.index_mut.ensures.value (ap fit_in c.in-Fit.is) c.heap_index-heap.ensures c.index_mut-2.ensures.value
+
+-- What comes of its answer, whatever it is.
+
+is : (g : Over) (c : After-alloc_fit-answer g) {answer : Result Slot AllocationError} → c.alloc_fit-answer.result ≡ answer → IsTried (given g c) g.D.ObjectDevice.step c.args.device.now c.alloc_fit-answer.new.device InFitChunk c.args.request answer
+    (account c.alloc_fit-answer.new.fits c.alloc_fit-answer.new.heap c.alloc_fit-answer.new.allocations_remains) (g.D.ObjectDevice.objects c.args.device.now) (g.D.ObjectDevice.objects c.alloc_fit-answer.new.device)
+is g c same =
+    let agrees = rw (← c.self.view_is) at c.requires.agrees in
+    let h = given g c in
+    let request = fit_request _ _ _ (serves fit_is_named h.has) c.args.request c.index_mut-2.result.now _ _ c.requires.askable.nonempty c.flags-flags.ensures in
+    told_as h (tried h fit_is_named fit_asked request (λ b. ap (λ sharing. is_chosen sharing FitChunk) (rw (← c.self.view_is) at c.requires.chosen)) agrees c.alloc_fit-answer.ensures.sound c.alloc_fit-answer.result c.alloc_fit-answer.ensures.allocates c.alloc_fit-answer.ensures.objects) same
+
+-- A grant: the block of its slot.
 
 pub new-requires-2 : goal.new-requires-2
-new-requires-2 g c =
-    let inside = c.in-Ok.ensures.granted.inside in
-    let small = (c.in-Ok.ensures.sound.space.sizes c.in-Ok.block.chunk inside.0 inside.1).1 in
-    let offset = ap (λ (slot : Slot). slot.offset) c.into_parts-memory.ensures.slot in
-    let size = ap (λ (slot : Slot). slot.size) c.into_parts-memory.ensures.slot in
-    record { finish = omega (arith, offset, size, inside.2.1, small); some = some_atom _ _ _ c.self.invariant.books.usable.atom c.atom-atom.ensures }
-
--- A grant.
-
-given : (g : Over) (c : goal.After-new-2 g)
-    → Handed fit_named c.self.inside.limits c.self.inside.heaps.items (record { buddies = c.self.inside.buddies.items; lists = c.self.inside.free_lists.items; fits = c.self.inside.fits.items })
-    c.self.inside.own c.self.inside.allocations_remains c.args.memory_type c.heap_index-heap.result c.index_mut.result.now c.index_mut-2.result.now
-given g c = handed fit_named c.self.inside.limits c.self.invariant (rw (← c.self.view_is) at c.requires.known) c.index_mut.ensures.value c.heap_index-heap.ensures c.index_mut-2.ensures.value
-
-is : (g : Over) (c : goal.After-new-2 g) → IsServed (given g c) (candidate InFitChunk (before (given g c)) c.args.request c.args.memory_type) c.in-Ok.ensures.allocates.0 c.in-Ok.block (g.D.ObjectDevice.objects c.args.device.now)
-    (g.D.ObjectDevice.objects c.alloc_fit-answer.new.device) (account c.alloc_fit-answer.new.fits c.alloc_fit-answer.new.heap c.alloc_fit-answer.new.allocations_remains)
-is g c =
-    let told = c.in-Ok.ensures.allocates in
-    let agrees = rw (← c.self.view_is) at c.requires.agrees in
-    let chosen : c.self.inside.limits.sharing ≡ FitsChosen = rw (← c.self.view_is) at c.requires.chosen in
-    let request = fit_request _ _ _ (serves fit_is_named (given g c).has) c.args.request c.index_mut-2.result.now _ _ c.requires.askable.nonempty c.flags-flags.ensures in
-    served fit_is_named (given g c) fit_asked request told.0 _ c.in-Ok.block _ _ _ (ap (λ sharing. is_chosen sharing FitChunk) chosen) agrees told.2 c.in-Ok.ensures.objects c.in-Ok.ensures.sound
+new-requires-2 g c = record { finish = ends fit_is_named c.in-Ok.ensures.sound c.in-Ok.ensures.granted.inside c.into_parts-memory.ensures.slot; some = some_atom _ _ _ c.self.invariant.books.usable.atom c.atom-atom.ensures }
 
 pub invariant_of-self-2 : goal.invariant_of-self-2
-invariant_of-self-2 g c = (is g c).kept
+invariant_of-self-2 g c = (is g (goal.at.invariant_of-self-2 g c).After-alloc_fit-answer c.in-Ok.is).kept
+
+-- So the try gives it.
 
 pub returns : goal.returns
 returns g c =
-    let told = c.in-Ok.ensures.allocates in
-    let slot = c.into_parts-memory.ensures.slot in
-    let block : Block = block_at fit_named (before (given g c)) c.args.memory_type c.in-Ok.block in
-    let block_is : c.new-2.result ≡ block = c.new-2.ensures ∙ (λ k. record block { object = c.into_parts-memory.ensures.handle k; offset = (slot k).offset; size = (slot k).size; props = c.props-props.ensures k; atom = c.atom-atom.ensures k; kind = FitChunk }) in
-    rw (← c.self.view_is, block_is) (record { tries = (told.0, told.1, (is g c).gives); objects = (is g c).objects_are })
+    let it = is g (goal.at.returns g c).After-alloc_fit-answer c.in-Ok.is in
+    let block_is = c.new-2.ensures ∙ parts_are fit_named (before (given g (goal.at.returns g c).After-alloc_fit-answer)) c.args.memory_type c.into_parts-memory.ensures.handle c.into_parts-memory.ensures.slot c.props-props.ensures c.atom-atom.ensures in
+    rw (← c.self.view_is, block_is) (record { tries = it.tries; objects = it.objects })
 
--- A refusal, after which the fields are as they were.
+-- Where it refuses, the fields stay as they were.
 
 pub invariant_of-self : goal.invariant_of-self
-invariant_of-self g c =
-    let h = handed fit_named c.self.inside.limits c.self.invariant (rw (← c.self.view_is) at c.requires.known) c.index_mut.ensures.value c.heap_index-heap.ensures c.index_mut-2.ensures.value in
-    let same = c.in-Err.ensures.refused in
-    (subst (λ a. With h a (before h)) (λ k. account (sym same.0 k) (sym same.1.0 k) (sym same.1.1 k)) (unchanged fit_is_named h)).0
+invariant_of-self g c = (is g (goal.at.invariant_of-self g c).After-alloc_fit-answer c.in-Err.is).kept
 
 pub returns-in-Err : goal.returns-in-Err
-returns-in-Err g c =
-    let h = handed fit_named c.self.inside.limits c.self.invariant (rw (← c.self.view_is) at c.requires.known) c.index_mut.ensures.value c.heap_index-heap.ensures c.index_mut-2.ensures.value in
-    let told = c.in-Err.ensures.allocates in
-    let request = fit_request _ _ _ (serves fit_is_named h.has) c.args.request c.index_mut-2.result.now _ _ c.requires.askable.nonempty c.flags-flags.ensures in
-    let left = refused fit_is_named h fit_asked request told.0 _ c.in-Err.refusal told.2 in
-    rw (c.passing.ensures, ← c.self.view_is, left.0.1) (record {
-      tries = (told.0, told.1, refused_tries _ told.0 c.in-Err.refusal _ left.1);
-      objects = nothing_made (before h) c.in-Err.refusal (before h) _ _ c.in-Err.ensures.objects;
-    })
+returns-in-Err g c = let it = is g (goal.at.returns-in-Err g c).After-alloc_fit-answer c.in-Err.is in rw (c.passing.ensures, ← c.self.view_is) (record { tries = it.tries; objects = it.objects })

@@ -1,6 +1,5 @@
-use Rattle.std.proofs.Common.{◌≡◌, ◌≢◌, ℕ, Bool, true, false, cond, IsTrue, List, ◌+◌, ◌-◌, ◌<◌, ◌≤◌, ◌∷◌, [], ◌^◌, None, Err, refl, sym, ap, ◌∙◌, arith, subst, inl, inr, length, vec_len}
+use Rattle.std.proofs.Common.{◌≡◌, ◌≢◌, ℕ, Bool, true, false, cond, IsTrue, List, ◌+◌, ◌-◌, ◌<◌, ◌≤◌, ◌∷◌, [], ◌^◌, None, Err, refl, sym, ap, ◌∙◌, arith, subst, inl, inr, length}
 use Rattle.std.proofs.Math.ListN.{set}
-use Rattle.std.proofs.lemmas.Grind.{common_steps}
 use Rattle.std.specs.FinMap as finite
 use Rattle.std.specs.FinSet as set_of
 use Rattle.gpu_alloc_types.specs.Device.{IsAllocatable}
@@ -17,46 +16,38 @@ use Rattle.gpu_alloc_base.specs.NewChunk.{flags_of, made}
 use Rattle.gpu_alloc.specs.Own.{OwnTable}
 use Rattle.gpu_alloc.specs.Spans.{span_at}
 use Rattle.gpu_alloc_block.specs.State.{State, HeldObject, Block}
-use Rattle.gpu_alloc_buddy.specs.BuddyState.{Buddy}
-use Rattle.gpu_alloc_freelist.specs.FreeListState.{FreeListState}
 use Rattle.gpu_alloc_base.specs.declared.heap.Heap.{Heap}
 use Rattle.gpu_alloc.specs.declared.limits.Limits.{Limits}
 use Rattle.gpu_alloc_base.proofs.Maps.{own_inserted}
 use Rattle.gpu_alloc.proofs.Agreeing.{not_held}
 use Rattle.gpu_alloc_base.specs.NewObject.{HasOneMore}
 use Rattle.gpu_alloc.specs.Allocation.{IsAsCounted}
-use Rattle.gpu_alloc.proofs.Consistency.{HoldsMore, booked-held, heap_there, ledger-room}
+use Rattle.gpu_alloc.proofs.Consistency.{HoldsMore, booked-held, ledger-room}
 use Rattle.gpu_alloc.proofs.Grants.{asks_own, own_object, state_held, decides_granted}
 use Rattle.gpu_alloc.proofs.HeapLists.{properties_kept, type_heap_is}
 use Rattle.gpu_alloc.proofs.Linked.{chosen_more, kept-room}
 use Rattle.gpu_alloc.proofs.allocator.GpuAllocator.try_object.Given.{Over}
 use Rattle.gpu_alloc_base.proofs.Outcomes.{when_ok}
 use Rattle.gpu_alloc.proofs.allocator.GpuAllocator.try_object.Goals as goal
-use Rattle.gpu_alloc_fit.specs.Fit.{FitState}
+use Rattle.gpu_alloc.specs.declared.allocator.stores.TypeStores.{TypeStores}
 
 positive : (n : ℕ) → n ≢ 0 → 0 < n
 positive n not_zero = omega arith
 
 -- Room is made, and nothing else changes.
 
-state_kept : {A : Type 0} (l : Limits A) (heaps : List Heap) (buddies : List Buddy) (lists : List FreeListState) (fits : List FitState) (new old : OwnTable) (remaining : ℕ) → new ≡ record old { room = new.room }
-    → state_in l heaps buddies lists fits (whole new buddies lists fits) remaining ≡ state_in l heaps buddies lists fits (whole old buddies lists fits) remaining
-state_kept l heaps buddies lists fits new old remaining kept = ap (λ t. state_in l heaps buddies lists fits (whole t buddies lists fits) remaining) kept
+state_kept : {A M X : Type 0} (l : Limits A) (heaps : List Heap) (ss : List (TypeStores M X)) (new old : OwnTable) (remaining : ℕ) → new ≡ record old { room = new.room }
+    → state_in l heaps ss (whole new ss) remaining ≡ state_in l heaps ss (whole old ss) remaining
+state_kept l heaps ss new old remaining kept = ap (λ t. state_in l heaps ss (whole t ss) remaining) kept
 
 pub invariant_of-self : goal.invariant_of-self
-invariant_of-self g c = kept-room _ _ _ _ _ _ _ _ _ _ c.reserve.ensures.kept c.self.invariant
+invariant_of-self g c = kept-room _ _ _ _ _ _ _ _ c.reserve.ensures.kept c.self.invariant
 
 pub invariant_of-self-in-Err-OutOfDeviceMemory : goal.invariant_of-self-in-Err-OutOfDeviceMemory
-invariant_of-self-in-Err-OutOfDeviceMemory g c = kept-room _ _ _ _ _ _ _ _ _ _ c.reserve.ensures.kept c.self.invariant
+invariant_of-self-in-Err-OutOfDeviceMemory g c = kept-room _ _ _ _ _ _ _ _ c.reserve.ensures.kept c.self.invariant
 
 pub invariant_of-self-in-Err-OutOfHostMemory : goal.invariant_of-self-in-Err-OutOfHostMemory
-invariant_of-self-in-Err-OutOfHostMemory g c = kept-room _ _ _ _ _ _ _ _ _ _ c.reserve.ensures.kept c.self.invariant
-
-pub index_mut-requires : goal.index_mut-requires
-index_mut-requires g c =
-    let known = rw (← c.self.view_is) at c.requires.known in
-    let n : vec_len c.self.inside.heaps ≡ length c.self.inside.heaps.items = grind (arith, common_steps) in
-    omega (arith, n, c.heap_index-heap.ensures, heap_there _ _ _ _ c.self.invariant.books refl c.args.memory_type known)
+invariant_of-self-in-Err-OutOfHostMemory g c = kept-room _ _ _ _ _ _ _ _ c.reserve.ensures.kept c.self.invariant
 
 -- `small` is what the size's type says, among what the argument `request` is known by
 pub hold-requires-clause-room : goal.hold-requires-clause-room
@@ -68,7 +59,7 @@ hold-requires-clause-room g c =
 -- What is known where the device granted an object: the state before, the new row and block, and what follows from the steps.
 
 abbrev before : (g : Over) → goal.After-new g → State
-before g c = state_in c.self.inside.limits c.self.inside.heaps.items c.self.inside.buddies.items c.self.inside.free_lists.items c.self.inside.fits.items (whole c.self.inside.own c.self.inside.buddies.items c.self.inside.free_lists.items c.self.inside.fits.items) c.self.inside.allocations_remains
+before g c = state_in c.self.inside.limits c.self.inside.heaps.items c.self.inside.types.items (whole c.self.inside.own c.self.inside.types.items) c.self.inside.allocations_remains
 
 abbrev object : (g : Over) → goal.After-new g → HeldObject
 object g c = own_object c.args.request.size c.args.memory_type
@@ -83,13 +74,13 @@ free g c =
     ap (λ (s : State). finite.get s.held c.object.result) c.self.view_is ∙ not_held c.args.self.now _ _ _ c.requires.agrees none
 
 came : (g : Over) (c : goal.After-new g)
-    → Makes (IsPartFor (length c.self.inside.buddies.items) (length c.self.inside.free_lists.items)) (parts_of c.insert-key.new.self c.self.inside.buddies.items c.self.inside.free_lists.items c.self.inside.fits.items) (finite.insert (before g c).held c.object.result (object g c)) (set_of.insert (before g c).live (span_at c.object.result 0 c.args.request.size))
+    → Makes IsPartFor (parts_of c.insert-key.new.self c.self.inside.types.items) (finite.insert (before g c).held c.object.result (object g c)) (set_of.insert (before g c).live (span_at c.object.result 0 c.args.request.size))
 came g c =
-    own_comes c.self.inside.own c.self.inside.buddies.items c.self.inside.free_lists.items c.self.inside.fits.items c.self.invariant.apart c.insert-key.new.self (span_at c.object.result 0 c.args.request.size) (object g c) (free g c) refl
+    own_comes c.self.inside.own c.self.inside.types.items c.self.invariant.apart c.insert-key.new.self (span_at c.object.result 0 c.args.request.size) (object g c) (free g c) refl
     (c.insert-key.ensures.held ∙ (λ k. finite.insert (c.reserve.ensures.kept k).held c.object.result (object g c)))
     (c.insert-key.ensures.live ∙ (λ k. set_of.insert (c.reserve.ensures.kept k).live (span_at c.object.result 0 c.args.request.size)))
 
-more : (g : Over) (c : goal.After-new g) → HoldsMore _ _ _ _ c.self.invariant.books refl (whole c.insert-key.new.self c.self.inside.buddies.items c.self.inside.free_lists.items c.self.inside.fits.items) (object g c) (span_at c.object.result 0 c.args.request.size)
+more : (g : Over) (c : goal.After-new g) → HoldsMore _ _ _ _ c.self.invariant.books refl (whole c.insert-key.new.self c.self.inside.types.items) (object g c) (span_at c.object.result 0 c.args.request.size)
 more g c =
     let known = rw (← c.self.view_is) at c.requires.known in
     let small : c.args.request.size < 2 ^ 64 = c.well_formed.1.1.0.1.1.0.1 in
@@ -107,15 +98,15 @@ asks g c = asks_own (positive c.self.inside.allocations_remains c.if-self-eq0.fa
 fits : (g : Over) (c : goal.After-new g) → c.index_mut.result.now.used + c.args.request.size ≤ c.index_mut.result.now.limit
 fits g c =
     let known = rw (← c.self.view_is) at c.requires.known in
-    let of = type_heap_is c.self.inside.limits c.self.inside.heaps.items c.self.inside.buddies.items c.self.inside.free_lists.items c.self.inside.fits.items (whole c.self.inside.own c.self.inside.buddies.items c.self.inside.free_lists.items c.self.inside.fits.items) c.self.inside.allocations_remains c.self.invariant.books c.args.memory_type _ c.index_mut.result.now known
+    let of = type_heap_is c.self.inside.limits c.self.inside.heaps.items c.self.inside.types.items (whole c.self.inside.own c.self.inside.types.items) c.self.inside.allocations_remains c.self.invariant.books c.args.memory_type _ c.index_mut.result.now known
     c.heap_index-heap.ensures c.index_mut.ensures.value in
     omega (arith, (asks g c).within, of.used, of.limit)
 
 state_is : (g : Over) (c : goal.After-new g)
-    → state_in c.self.inside.limits (set c.self.inside.heaps.items c.heap_index-heap.result c.hold.new.heap) c.self.inside.buddies.items c.self.inside.free_lists.items c.self.inside.fits.items (whole c.insert-key.new.self c.self.inside.buddies.items c.self.inside.free_lists.items c.self.inside.fits.items) (c.self.inside.allocations_remains - 1)
+    → state_in c.self.inside.limits (set c.self.inside.heaps.items c.heap_index-heap.result c.hold.new.heap) c.self.inside.types.items (whole c.insert-key.new.self c.self.inside.types.items) (c.self.inside.allocations_remains - 1)
     ≡ holding (before g c) (own_object c.args.request.size c.args.memory_type) (block g c)
 state_is g c =
-    state_held c.self.inside.limits _ c.self.inside.buddies.items c.self.inside.free_lists.items c.self.inside.fits.items _ _ c.index_mut.result.now (whole c.self.inside.own c.self.inside.buddies.items c.self.inside.free_lists.items c.self.inside.fits.items) (whole c.insert-key.new.self c.self.inside.buddies.items c.self.inside.free_lists.items c.self.inside.fits.items) _ (object g c) (block g c) c.index_mut.ensures.value (ap (λ (h : Heap). h.size) c.hold.ensures.ledger) (ap (λ (h : Heap). h.limit) c.hold.ensures.ledger)
+    state_held c.self.inside.limits _ c.self.inside.types.items _ _ c.index_mut.result.now (whole c.self.inside.own c.self.inside.types.items) (whole c.insert-key.new.self c.self.inside.types.items) _ (object g c) (block g c) c.index_mut.ensures.value (ap (λ (h : Heap). h.size) c.hold.ensures.ledger) (ap (λ (h : Heap). h.limit) c.hold.ensures.ledger)
     (more g c).held (more g c).live
 
 block_is : (g : Over) (c : goal.After-new g) → c.new.result ≡ block g c
@@ -125,12 +116,10 @@ pub invariant_of-self-in-Ok : goal.invariant_of-self-in-Ok
 invariant_of-self-in-Ok g c =
     rw (properties_kept c.self.inside.limits c.self.inside.heaps.items c.heap_index-heap.result c.hold.new.heap c.index_mut.result.now c.index_mut.ensures.value (ap (λ (h : Heap). h.size) c.hold.ensures.ledger), c.hold.ensures.count)
     (record {
-      books = booked-held _ _ _ _ c.self.invariant.books refl (whole c.insert-key.new.self c.self.inside.buddies.items c.self.inside.free_lists.items c.self.inside.fits.items) (object g c) (span_at c.object.result 0 c.args.request.size) (more g c) c.index_mut.result.now _ _
+      books = booked-held _ _ _ _ c.self.invariant.books refl (whole c.insert-key.new.self c.self.inside.types.items) (object g c) (span_at c.object.result 0 c.args.request.size) (more g c) c.index_mut.result.now _ _
           (positive c.self.inside.allocations_remains c.if-self-eq0.false) c.heap_index-heap.ensures c.index_mut.ensures.value c.hold.ensures.ledger (λ asked. fits g c);
       shared = c.self.invariant.shared;
-      listed = c.self.invariant.listed;
-      fitted = c.self.invariant.fitted;
-      chosen = chosen_more _ (whole c.self.inside.own c.self.inside.buddies.items c.self.inside.free_lists.items c.self.inside.fits.items) (whole c.insert-key.new.self c.self.inside.buddies.items c.self.inside.free_lists.items c.self.inside.fits.items) c.object.result (object g c) c.self.invariant.chosen refl (came g c).held_is;
+      chosen = chosen_more _ (whole c.self.inside.own c.self.inside.types.items) (whole c.insert-key.new.self c.self.inside.types.items) c.object.result (object g c) c.self.invariant.chosen refl (came g c).held_is;
       apart = (came g c).apart;
     })
 
@@ -157,7 +146,7 @@ returns-in-Ok-clause-objects g c =
 
 pub returns-in-Err-OutOfHostMemory-clause-tries : goal.returns-in-Err-OutOfHostMemory-clause-tries
 returns-in-Err-OutOfHostMemory-clause-tries g c =
-    let same = state_kept c.self.inside.limits c.self.inside.heaps.items c.self.inside.buddies.items c.self.inside.free_lists.items c.self.inside.fits.items c.reserve.new.self c.self.inside.own c.self.inside.allocations_remains c.reserve.ensures.kept in
+    let same = state_kept c.self.inside.limits c.self.inside.heaps.items c.self.inside.types.items c.reserve.new.self c.self.inside.own c.self.inside.allocations_remains c.reserve.ensures.kept in
     rw (← c.self.view_is) (
       Allocated c.args.request.size c.args.memory_type (flags_of (properties_in c.self.inside.limits c.self.inside.heaps.items)) (Err c.in-Err-OutOfHostMemory.field-0) ∷ [],
       (c.allocate_memory-answer.new.self, rw (← c.flags-flags.ensures) (rw c.in-Err-OutOfHostMemory.is at c.allocate_memory-answer.ensures), refl),
@@ -167,8 +156,8 @@ returns-in-Err-OutOfHostMemory-clause-tries g c =
 -- The device grants nothing: room was made, and the state is the one before.
 
 kept-is_err : (g : Over) (c : goal.Then-is_err g)
-    → state_in c.self.inside.limits c.self.inside.heaps.items c.self.inside.buddies.items c.self.inside.free_lists.items c.self.inside.fits.items (whole c.reserve.new.self c.self.inside.buddies.items c.self.inside.free_lists.items c.self.inside.fits.items) c.self.inside.allocations_remains ≡ c.args.self.now
-kept-is_err g c = state_kept c.self.inside.limits c.self.inside.heaps.items c.self.inside.buddies.items c.self.inside.free_lists.items c.self.inside.fits.items c.reserve.new.self c.self.inside.own c.self.inside.allocations_remains c.reserve.ensures.kept ∙ c.self.view_is
+    → state_in c.self.inside.limits c.self.inside.heaps.items c.self.inside.types.items (whole c.reserve.new.self c.self.inside.types.items) c.self.inside.allocations_remains ≡ c.args.self.now
+kept-is_err g c = state_kept c.self.inside.limits c.self.inside.heaps.items c.self.inside.types.items c.reserve.new.self c.self.inside.own c.self.inside.allocations_remains c.reserve.ensures.kept ∙ c.self.view_is
 
 pub returns-then-is_err-clause-tries : goal.returns-then-is_err-clause-tries
 returns-then-is_err-clause-tries g c =
@@ -178,7 +167,7 @@ returns-then-is_err-clause-tries g c =
 
 pub returns-in-Err-OutOfDeviceMemory-clause-tries : goal.returns-in-Err-OutOfDeviceMemory-clause-tries
 returns-in-Err-OutOfDeviceMemory-clause-tries g c =
-    let same = state_kept c.self.inside.limits c.self.inside.heaps.items c.self.inside.buddies.items c.self.inside.free_lists.items c.self.inside.fits.items c.reserve.new.self c.self.inside.own c.self.inside.allocations_remains c.reserve.ensures.kept in
+    let same = state_kept c.self.inside.limits c.self.inside.heaps.items c.self.inside.types.items c.reserve.new.self c.self.inside.own c.self.inside.allocations_remains c.reserve.ensures.kept in
     rw (← c.self.view_is) (
       Allocated c.args.request.size c.args.memory_type (flags_of (properties_in c.self.inside.limits c.self.inside.heaps.items)) (Err c.in-Err-OutOfDeviceMemory.field-0) ∷ [],
       (c.allocate_memory-answer.new.self, rw (← c.flags-flags.ensures) (rw c.in-Err-OutOfDeviceMemory.is at c.allocate_memory-answer.ensures), refl),
@@ -193,20 +182,14 @@ returns-in-Err-OutOfHostMemory-clause-objects g c = g.met.D.ObjectDevice.row _ _
 
 -- The new object's name is free in the table, and so is its span.
 
-no_object : (g : Over) (c : goal.After-insert-arg-1 g) → finite.get (whole c.self.inside.own c.self.inside.buddies.items c.self.inside.free_lists.items c.self.inside.fits.items).held c.object.result ≡ None
+no_object : (g : Over) (c : goal.After-insert-arg-1 g) → finite.get (whole c.self.inside.own c.self.inside.types.items).held c.object.result ≡ None
 no_object g c =
     let made = g.met.D.ObjectDevice.row _ _ _ c.in-Ok.ensures in
     let none : g.D.ObjectDevice.objects c.args.device.now c.object.result ≡ None = rw c.object.ensures made.0 in
     ap (λ (s : State). finite.get s.held c.object.result) c.self.view_is ∙ not_held c.args.self.now _ _ _ c.requires.agrees none
 
 pub insert-key-requires-clause-free : goal.insert-key-requires-clause-free
-insert-key-requires-clause-free g c = unheld_then c.self.inside.own c.reserve.new.self c.self.inside.buddies.items c.self.inside.free_lists.items c.self.inside.fits.items c.self.invariant.apart c.reserve.ensures.kept c.object.result (no_object g c)
-
-pub heap_index-heap-requires : goal.heap_index-heap-requires
-heap_index-heap-requires g c = rw (← c.self.view_is) at c.requires.known
-
-pub props-props-requires : goal.props-props-requires
-props-props-requires g c = rw (← c.self.view_is) at c.requires.known
+insert-key-requires-clause-free g c = unheld_then c.self.inside.own c.reserve.new.self c.self.inside.types.items c.self.invariant.apart c.reserve.ensures.kept c.object.result (no_object g c)
 
 flag : (b : Bool) → IsTrue (has_bit (cond b 1 0) 1) → IsTrue b
 flag true bit = refl
@@ -223,9 +206,6 @@ pub allocate_memory-answer-requires : goal.allocate_memory-answer-requires
 allocate_memory-answer-requires g c =
     askable c.args.self.now _ c.args.request.size c.args.memory_type _ c.requires.agrees.properties c.requires.askable.nonempty c.requires.known
     (c.flags-flags.ensures ∙ ap (λ (s : State). flags_of s.properties) c.self.view_is)
-
-pub hold-requires-clause-remains : goal.hold-requires-clause-remains
-hold-requires-clause-remains g c = positive c.self.inside.allocations_remains c.if-self-eq0.false
 
 pub insert-key-requires-clause-room : goal.insert-key-requires-clause-room
 insert-key-requires-clause-room g c = when_ok _ (sym c.if-is_err.ensures.value) c.reserve.ensures.room

@@ -1,6 +1,6 @@
-use Rattle.std.proofs.Common.{◌≡◌, ◌⊎◌, ◌<◌, ◌≤◌, ℕ, List, [], Option, Some, None, Result, Ok, Err, refl, ◌∙◌, subst, inl, inr}
+use Rattle.std.proofs.Common.{◌≡◌, ◌≢◌, ◌⊎◌, ◌<◌, ◌≤◌, ℕ, List, [], Option, Some, None, Result, Ok, Err, refl, ◌∙◌, subst, inl, inr}
 use Rattle.std.proofs.lemmas.Bool.{cases_lt}
-use Rattle.gpu_alloc_types.specs.Device.{Event}
+use Rattle.gpu_alloc_types.specs.Device.{Asked, Event}
 use Rattle.gpu_alloc_types.specs.Properties.{heap_size}
 use Rattle.gpu_alloc_base.specs.Case as case
 use Rattle.gpu_alloc.specs.Allocation.{strategy, TriesBy, TriesCandidate}
@@ -37,6 +37,11 @@ passed_unasked s r hint t own (inr over) = elim (cases_lt (heap_size s.propertie
   | inr fits ↦ tries_by OwnObject s r hint t [] (Ok None) s fits own (refl, inl (inr (has_own over.0, over.1), refl))
 ]
 
+-- and so where it is served by a shared chunk
+tries_shared : (w : Strategy) (s : State) (r : Request) (hint : Option Dedicated) (t : ℕ) {D : Type 0} {step : D → Event → D → Type 0} {old after : D} (answer : Result (Option Block) AllocationError) (new : State) → w ≡ strategy s r hint t → w ≢ OwnObject
+    → Asked step old after (λ es. TriesBy w s r t es answer new) → Asked step old after (λ es. TriesCandidate s r hint t es answer new)
+tries_shared w s r hint t answer new is shared told = (told.0, told.1, tries_by w s r hint t told.0 answer new (shared_below s r hint t w is shared) is told.2)
+
 pub returns-in-OwnObject-clause-tries : goal.returns-in-OwnObject-clause-tries
 returns-in-OwnObject-clause-tries g c = ([], refl, passed_unasked c.args.self.now c.args.request c.args.hint c.args.memory_type c.in-OwnObject.ensures (c.is_passed_unasked.ensures.passed c.if-is_passed_unasked.true))
 
@@ -47,31 +52,19 @@ returns-in-OwnObject-2-clause-tries g c =
     (tried.0, tried.1, tries_by OwnObject c.args.self.now c.args.request c.args.hint c.args.memory_type tried.0 c.try_object.result c.try_object.new.self fits c.in-OwnObject.ensures tried.2)
 
 pub returns-in-InBuddyChunk-clause-tries : goal.returns-in-InBuddyChunk-clause-tries
-returns-in-InBuddyChunk-clause-tries g c =
-    let s = c.args.self.now in
-    let tried = c.try_buddy.ensures.tries in
-    let fits = shared_below s c.args.request c.args.hint c.args.memory_type InBuddyChunk c.in-InBuddyChunk.ensures (λ same. absurd (cc)) in
-    (tried.0, tried.1, tries_by InBuddyChunk s c.args.request c.args.hint c.args.memory_type tried.0 c.try_buddy.result c.try_buddy.new.self fits c.in-InBuddyChunk.ensures tried.2)
+returns-in-InBuddyChunk-clause-tries g c = tries_shared InBuddyChunk c.args.self.now c.args.request c.args.hint c.args.memory_type c.try_buddy.result c.try_buddy.new.self c.in-InBuddyChunk.ensures (λ same. absurd (cc)) c.try_buddy.ensures.tries
+
+pub try_buddy-requires-clause-chosen : goal.try_buddy-requires-clause-chosen
+try_buddy-requires-clause-chosen g c = buddies_chosen c.args.self.now c.args.request c.args.hint c.args.memory_type c.in-InBuddyChunk.ensures
 
 pub returns-in-InFreeList-clause-tries : goal.returns-in-InFreeList-clause-tries
-returns-in-InFreeList-clause-tries g c =
-    let s = c.args.self.now in
-    let tried = c.try_free_list.ensures.tries in
-    let fits = shared_below s c.args.request c.args.hint c.args.memory_type InFreeList c.in-InFreeList.ensures (λ same. absurd (cc)) in
-    (tried.0, tried.1, tries_by InFreeList s c.args.request c.args.hint c.args.memory_type tried.0 c.try_free_list.result c.try_free_list.new.self fits c.in-InFreeList.ensures tried.2)
+returns-in-InFreeList-clause-tries g c = tries_shared InFreeList c.args.self.now c.args.request c.args.hint c.args.memory_type c.try_free_list.result c.try_free_list.new.self c.in-InFreeList.ensures (λ same. absurd (cc)) c.try_free_list.ensures.tries
 
 pub try_free_list-requires-clause-fits : goal.try_free_list-requires-clause-fits
 try_free_list-requires-clause-fits g c = fits_its_list c.args.self.now c.args.request c.args.hint c.args.memory_type c.in-InFreeList.ensures
 
 pub returns-in-InFitChunk-clause-tries : goal.returns-in-InFitChunk-clause-tries
-returns-in-InFitChunk-clause-tries g c =
-    let s = c.args.self.now in
-    let tried = c.try_fit.ensures.tries in
-    let fits = shared_below s c.args.request c.args.hint c.args.memory_type InFitChunk c.in-InFitChunk.ensures (λ same. absurd (cc)) in
-    (tried.0, tried.1, tries_by InFitChunk s c.args.request c.args.hint c.args.memory_type tried.0 c.try_fit.result c.try_fit.new.self fits c.in-InFitChunk.ensures tried.2)
-
-pub try_buddy-requires-clause-chosen : goal.try_buddy-requires-clause-chosen
-try_buddy-requires-clause-chosen g c = buddies_chosen c.args.self.now c.args.request c.args.hint c.args.memory_type c.in-InBuddyChunk.ensures
+returns-in-InFitChunk-clause-tries g c = tries_shared InFitChunk c.args.self.now c.args.request c.args.hint c.args.memory_type c.try_fit.result c.try_fit.new.self c.in-InFitChunk.ensures (λ same. absurd (cc)) c.try_fit.ensures.tries
 
 pub try_fit-requires-clause-chosen : goal.try_fit-requires-clause-chosen
 try_fit-requires-clause-chosen g c = (fits_chosen c.args.self.now c.args.request c.args.hint c.args.memory_type c.in-InFitChunk.ensures).0

@@ -1,26 +1,16 @@
-use Rattle.std.proofs.Common.{◌≡◌, ◌/◌, ◌^◌, ◌<◌, ◌≤◌, ◌==◌, ◌∙◌, ℕ, Bool, true, false, cond, min, refl, sym, subst, IsTrue, arith}
-use Rattle.std.proofs.lemmas.Bool.Decides.{nat_tests}
-use Rattle.std.proofs.lemmas.Option.{slice_get-get_or}
+use Rattle.std.proofs.Common.{◌≡◌, ◌^◌, ◌≤◌, ◌∙◌, ℕ, Bool, true, false, cond, sym, subst, IsTrue, arith}
 use Rattle.std.specs.Int.{is_power_of_two}
 use Rattle.gpu_alloc_types.specs.Properties.{properties_of}
-use Rattle.gpu_alloc_base.specs.Sizes.{cut, down}
 use Rattle.gpu_alloc.proofs.Atoms.{atom_power, one_more}
-use Rattle.gpu_alloc.proofs.Opened.{first_listing_is}
-use Rattle.gpu_alloc.proofs.allocator.by_type.empty_free_list.Goals as goal
+use Rattle.gpu_alloc.proofs.Fits.Small.{cut_some}
+use Rattle.gpu_alloc.proofs.Opened.{first_listing_is, offered}
+use Rattle.gpu_alloc.proofs.allocator.stores.empty_free_list.Goals as goal
 use Rattle.gpu_alloc_base.proofs.ChunkSizes.{cut_whole, starting_fits}
 
 -- an atom is no larger than the device's
 atom_below : (size atom : ℕ) (b : Bool) → size ≤ 2 ^ 62 → atom ≡ cond b size 1 → atom ≤ 2 ^ 62
 atom_below size atom true bound is = omega arith
 atom_below size atom false bound is = omega arith
-
--- a size that is cut is one atom at least
-cut_some : (heap atom size : ℕ) → 0 < atom → 0 < cut heap atom size
-cut_some heap atom size some = either (down (min size (heap / 32)) atom) _ refl
-  where
-    either : (n : ℕ) (none : Bool) → (n == 0) ≡ none → 0 < cond none atom n
-    either n true is = some
-    either n false is = grind (arith, nat_tests)
 
 pub new-requires-clause-atom : goal.new-requires-clause-atom
 new-requires-clause-atom g c =
@@ -69,7 +59,5 @@ pub returns-clause-first : goal.returns-clause-first
 returns-clause-first g c =
     let p = properties_of c.args.props.now in
     let power = atom_power c.args.props.now.non_coherent_atom_size c.atom_of-atom.result _ c.requires.usable.atom c.atom_of-atom.ensures in
-    let found = slice_get-get_or p.memory_types c.args.memory_type _ c.requires.known in
-    let in_heap = slice_get-get_or p.memory_heaps _ _ (c.requires.usable.heap_known c.args.memory_type _ c.requires.known) in
     c.new.ensures.opened
-    ∙ (rw (one_more c.atom_of-atom.result power, c.starting_size.ensures, c.final_size.ensures) (first_listing_is c.args.config p c.args.memory_type _ _ _ found in_heap c.atom_of-atom.ensures))
+    ∙ (rw (one_more c.atom_of-atom.result power, c.starting_size.ensures, c.final_size.ensures) (first_listing_is c.args.config p c.args.memory_type _ (offered p c.requires.usable c.args.memory_type _ _ _ c.requires.known c.atom_of-atom.ensures)))

@@ -1,27 +1,39 @@
-//! What each heap and each memory type has: a ledger, a buddy allocator, a free list and an allocator of fit chunks,
-//! opened and closed here.
+//! What each heap and each memory type has: a ledger, and stores of shared chunks, opened and closed here.
 
 ghost use Rattle.std.specs.Prelude.{◌≡◌, ◌<◌, length, map as map_list, All, IfOk};
-ghost use Rattle.std.specs.FinMap as map;
 ghost use Rattle.gpu_alloc_types.specs.Properties.{IsUsable, properties_of};
 ghost use Rattle.gpu_alloc_base.specs.Heap.{unused};
 ghost use Rattle.gpu_alloc_buddy.specs.BuddySound.{IsSoundBuddy};
 ghost use Rattle.gpu_alloc_freelist.specs.FreeListSound.{IsSoundFreeList};
 ghost use Rattle.gpu_alloc_fit.specs.FitSound.{IsSoundFit};
-ghost use Rattle.gpu_alloc.specs.Opening.{first_buddy, AreFirstBuddies, first_listing, AreFirstFreeLists};
-ghost use Rattle.gpu_alloc.specs.Opening.{first_fitting, AreFirstFits};
+ghost use Rattle.gpu_alloc.specs.Opening.{AreFirst, IsFirstStore, first_buddy, first_fitting, first_listing};
+ghost use Rattle.gpu_alloc.specs.Stores.{HaveNoChunk};
 
 use crate::limits::{LEAST_GRAIN, atom_of};
 use gpu_alloc_base::heap::Heap;
 use gpu_alloc_base::{AllocationError, Config};
+use gpu_alloc_block::Sharing;
 use gpu_alloc_buddy::BuddyAllocator;
 use gpu_alloc_fit::FitAllocator;
 use gpu_alloc_freelist::FreeListAllocator;
 use gpu_alloc_types::{DeviceProperties, MemoryHeap, MemoryObject};
-use std::alloc::{AllocError, Allocator};
+use std::alloc::{AllocError, Allocator, Global};
+
+/// A memory type's shared chunks: those of its free list, and those of the kind that was chosen.
+pub(super) struct TypeStores<M: MemoryObject, A: Allocator = Global> {
+    // (before the chosen store, which is large: behind it a call takes a few instructions more)
+    pub(super) free_list: FreeListAllocator<M, A>,
+    pub(super) chosen: Chosen<M, A>,
+}
+
+/// Chunks of the kind that was chosen.
+pub(super) enum Chosen<M: MemoryObject, A: Allocator = Global> {
+    Buddy(BuddyAllocator<M, A>),
+    Fit(FitAllocator<M, A>),
+}
 
 /// The heaps that a device offers, of which nothing is held.
-pub fn unused_heaps<A: Allocator + Copy>(
+pub(super) fn unused_heaps<A: Allocator + Copy>(
     alloc: A,
     heaps: &[MemoryHeap],
 ) -> Result<Vec<Heap, A>, AllocError>
@@ -30,31 +42,68 @@ pub fn unused_heaps<A: Allocator + Copy>(
     heaps.iter().map(|heap| Heap::new(heap.size)).collect(alloc)
 }
 
-/// A buddy allocator for each memory type, with no chunk.
-pub(super) fn empty_buddies<M: MemoryObject, A: Allocator + Copy>(
+/// Stores of shared chunks for each memory type, with no chunk. The only error is want of host memory.
+pub(super) fn empty_stores<M: MemoryObject, A: Allocator + Copy>(
     alloc: A,
     config: Config,
+    sharing: Sharing,
     props: &DeviceProperties<'_>,
-) -> Result<Vec<BuddyAllocator<M, A>, A>, AllocError>
+) -> Result<Vec<TypeStores<M, A>, A>, AllocError>
     requires { IsUsable (properties_of props.now) }
-    ensures count { IfOk result (λ buddies. length buddies.items ≡ length (properties_of props.now).memory_types) }
-    ensures each { IfOk result (λ buddies. AreFirstBuddies config (properties_of props.now) buddies.items) }
+    ensures count { IfOk result (λ types. length types.items ≡ length (properties_of props.now).memory_types) }
+    ensures each { IfOk result (λ types. AreFirst sharing config (properties_of props.now) types.items) }
 {
     let count = props.memory_types.len();
-    let mut buddies = Vec::with_capacity(alloc, count)?;
+    let mut types = Vec::with_capacity(alloc, count)?;
     for memory_type in 0..count {
-        match empty_buddy(alloc, config, props, memory_type) {
-            Ok(buddy) => buddies.push_reserved(buddy),
+        match empty_chosen(alloc, config, sharing, props, memory_type) {
+            Ok(chosen) => types.push_reserved(TypeStores {
+                chosen,
+                free_list: empty_free_list(alloc, config, props, memory_type),
+            }),
             Err(_) => {
-                close_buddies(buddies);
+                close_stores(types);
                 return Err(AllocError);
             }
         }
     }
-    Ok(buddies)
+    Ok(types)
 }
 
-/// A memory type's buddy allocator, with no chunk.
+/// A memory type's store of the kind that is chosen, with no chunk. The only error is want of host memory.
+fn empty_chosen<M: MemoryObject, A: Allocator + Copy>(
+    alloc: A,
+    config: Config,
+    sharing: Sharing,
+    props: &DeviceProperties<'_>,
+    memory_type: usize,
+) -> Result<Chosen<M, A>, AllocationError>
+    requires usable { IsUsable (properties_of props.now) }
+    requires known { memory_type < length (properties_of props.now).memory_types }
+    ensures { IfOk result (IsFirstStore sharing config (properties_of props.now) memory_type) }
+{
+    match sharing {
+        Sharing::Buddy => Ok(Chosen::Buddy(empty_buddy(alloc, config, props, memory_type)?)),
+        Sharing::Fit => Ok(Chosen::Fit(empty_fit(alloc, config, props, memory_type))),
+    }
+}
+
+/// Ends stores that hold no chunk.
+pub(super) fn close_stores<M: MemoryObject, A: Allocator>(mut types: Vec<TypeStores<M, A>, A>)
+    requires { All HaveNoChunk types.items }
+{
+    while let Some(stores) = types.pop() {
+        let TypeStores { chosen, free_list } = stores;
+        match chosen {
+            Chosen::Buddy(buddy) => buddy.close(),
+            Chosen::Fit(fit) => fit.close(),
+        }
+        free_list.close();
+    }
+    types.destroy_empty();
+}
+
+/// A memory type's buddy allocator, with no chunk. The only error is want of host memory.
 fn empty_buddy<M: MemoryObject, A: Allocator + Copy>(
     alloc: A,
     config: Config,
@@ -77,36 +126,6 @@ fn empty_buddy<M: MemoryObject, A: Allocator + Copy>(
         own.props,
         atom - 1,
     )
-}
-
-/// Ends buddy allocators that hold no chunk.
-pub(super) fn close_buddies<M: MemoryObject, A: Allocator>(
-    mut buddies: Vec<BuddyAllocator<M, A>, A>,
-)
-    requires { All (λ b. map.len b.chunks ≡ 0) buddies.items }
-{
-    while let Some(buddy) = buddies.pop() {
-        buddy.close();
-    }
-    buddies.destroy_empty();
-}
-
-/// A free list for each memory type, with no chunk.
-pub(super) fn empty_free_lists<M: MemoryObject, A: Allocator + Copy>(
-    alloc: A,
-    config: Config,
-    props: &DeviceProperties<'_>,
-) -> Result<Vec<FreeListAllocator<M, A>, A>, AllocError>
-    requires { IsUsable (properties_of props.now) }
-    ensures count { IfOk result (λ lists. length lists.items ≡ length (properties_of props.now).memory_types) }
-    ensures each { IfOk result (λ lists. AreFirstFreeLists config (properties_of props.now) lists.items) }
-{
-    let count = props.memory_types.len();
-    let mut lists = Vec::with_capacity(alloc, count)?;
-    for memory_type in 0..count {
-        lists.push_reserved(empty_free_list(alloc, config, props, memory_type));
-    }
-    Ok(lists)
 }
 
 /// A memory type's free list, with no chunk.
@@ -132,36 +151,6 @@ fn empty_free_list<M: MemoryObject, A: Allocator + Copy>(
         own.props,
         atom - 1,
     )
-}
-
-/// Ends free lists that hold no chunk.
-pub(super) fn close_free_lists<M: MemoryObject, A: Allocator>(
-    mut lists: Vec<FreeListAllocator<M, A>, A>,
-)
-    requires { All (λ l. map.len (l.space).chunks ≡ 0) lists.items }
-{
-    while let Some(list) = lists.pop() {
-        list.close();
-    }
-    lists.destroy_empty();
-}
-
-/// An allocator of fit chunks for each memory type, with no chunk.
-pub(super) fn empty_fits<M: MemoryObject, A: Allocator + Copy>(
-    alloc: A,
-    config: Config,
-    props: &DeviceProperties<'_>,
-) -> Result<Vec<FitAllocator<M, A>, A>, AllocError>
-    requires { IsUsable (properties_of props.now) }
-    ensures count { IfOk result (λ fits. length fits.items ≡ length (properties_of props.now).memory_types) }
-    ensures each { IfOk result (λ fits. AreFirstFits config (properties_of props.now) fits.items) }
-{
-    let count = props.memory_types.len();
-    let mut fits = Vec::with_capacity(alloc, count)?;
-    for memory_type in 0..count {
-        fits.push_reserved(empty_fit(alloc, config, props, memory_type));
-    }
-    Ok(fits)
 }
 
 /// A memory type's allocator of fit chunks, with no chunk.
@@ -190,14 +179,4 @@ fn empty_fit<M: MemoryObject, A: Allocator + Copy>(
         own.props,
         grain - 1,
     )
-}
-
-/// Ends allocators of fit chunks that hold no chunk.
-pub(super) fn close_fits<M: MemoryObject, A: Allocator>(mut fits: Vec<FitAllocator<M, A>, A>)
-    requires { All (λ f. map.len (f.space).chunks ≡ 0) fits.items }
-{
-    while let Some(fit) = fits.pop() {
-        fit.close();
-    }
-    fits.destroy_empty();
 }

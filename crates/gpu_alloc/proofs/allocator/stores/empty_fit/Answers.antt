@@ -1,11 +1,10 @@
 use Rattle.std.proofs.Common.{◌≡◌, ◌∙◌, sym, subst, IsTrue, arith}
-use Rattle.std.proofs.lemmas.Option.{slice_get-get_or}
 use Rattle.std.specs.Int.{is_power_of_two}
 use Rattle.gpu_alloc_types.specs.Properties.{properties_of}
 use Rattle.gpu_alloc.specs.FitSharing.{grain}
 use Rattle.gpu_alloc.proofs.Atoms.{atom_power, grain_power, one_more}
-use Rattle.gpu_alloc.proofs.Opened.{first_fitting_is, four_times, largest_whole, starting_within}
-use Rattle.gpu_alloc.proofs.allocator.by_type.empty_fit.Goals as goal
+use Rattle.gpu_alloc.proofs.Opened.{first_fitting_is, four_times, largest_whole, offered, starting_within}
+use Rattle.gpu_alloc.proofs.allocator.stores.empty_fit.Goals as goal
 use Rattle.gpu_alloc_base.proofs.ChunkSizes.{cut_whole}
 
 pub new-requires-clause-atom : goal.new-requires-clause-atom
@@ -34,8 +33,6 @@ returns-clause-first g c =
     let p = properties_of c.args.props.now in
     let power = grain_power c.atom_of.result c.max-grain.result (atom_power c.args.props.now.non_coherent_atom_size c.atom_of.result _ c.requires.usable.atom c.atom_of.ensures) c.max-grain.ensures in
     let grain_is : c.max-grain.result ≡ grain c.atom_of.result = omega (arith, c.max-grain.ensures) in
-    let found = slice_get-get_or p.memory_types c.args.memory_type _ c.requires.known in
-    let in_heap = slice_get-get_or p.memory_heaps _ _ (c.requires.usable.heap_known c.args.memory_type _ c.requires.known) in
     let is = four_times c.starting_size-starting.result c.final_size.result c.saturating_mul.result c.min.result c.final_size.type_inv c.saturating_mul.ensures c.min.ensures in
     c.new.ensures.opened
-    ∙ (rw (one_more c.max-grain.result power, is, c.starting_size-starting.ensures, c.final_size.ensures) (first_fitting_is c.args.config p c.args.memory_type _ _ _ _ found in_heap c.atom_of.ensures grain_is))
+    ∙ (rw (one_more c.max-grain.result power, is, c.starting_size-starting.ensures, c.final_size.ensures) (first_fitting_is c.args.config p c.args.memory_type _ (offered p c.requires.usable c.args.memory_type _ _ _ c.requires.known c.atom_of.ensures) _ grain_is))
