@@ -14,7 +14,7 @@ use crate::own::OwnObjects;
 use gpu_alloc_base::{AllocationError, Config};
 use gpu_alloc_block::Sharing;
 use gpu_alloc_types::{DeviceProperties, MemoryObject};
-use std::alloc::{AllocError, Allocator};
+use std::alloc::Allocator;
 
 impl<M: MemoryObject, A: Allocator + Copy> GpuAllocator<M, A> {
     /// An allocator that holds nothing, for the device with these properties. The device is not called. It may hold
@@ -51,34 +51,21 @@ impl<M: MemoryObject, A: Allocator + Copy> GpuAllocator<M, A> {
         ensures sound { IfOk result Sound.IsSound }
         ensures refused { IfErr result (λ e. e ≡ AllocationError.OutOfHostMemory) }
     {
-        match GpuAllocator::open(alloc, config, props, sharing) {
-            Ok(allocator) => {
-                allocator.keeps_sound();
-                Ok(allocator)
-            }
-            Err(_) => Err(AllocationError::OutOfHostMemory),
-        }
-    }
-
-    fn open(
-        alloc: A,
-        config: Config,
-        props: DeviceProperties<'_>,
-        sharing: Sharing,
-    ) -> Result<Self, AllocError>
-        requires { IsUsable (properties_of props) }
-        ensures { IfOk result (λ allocator. allocator ≡ opened_by sharing config (properties_of props.entry)) }
-    {
-        let memory_types = Vec::from_slice(alloc, props.memory_types)?;
-        let heaps = unused_heaps(alloc, props.memory_heaps)?;
-        let memory_for_usage = MemoryForUsage::new(props.memory_types);
-        let types = empty_stores(alloc, config, sharing, &props)?;
-        Ok(GpuAllocator {
+        let Ok(memory_types) = Vec::from_slice(alloc, props.memory_types) else {
+            return Err(AllocationError::OutOfHostMemory);
+        };
+        let Ok(heaps) = unused_heaps(alloc, props.memory_heaps) else {
+            return Err(AllocationError::OutOfHostMemory);
+        };
+        let Ok(types) = empty_stores(alloc, config, sharing, &props) else {
+            return Err(AllocationError::OutOfHostMemory);
+        };
+        let allocator = GpuAllocator {
             limits: Limits {
                 config,
                 sharing,
                 memory_types,
-                memory_for_usage,
+                memory_for_usage: MemoryForUsage::new(props.memory_types),
                 max_memory_allocation_count: props.max_memory_allocation_count,
                 max_memory_allocation_size: props.max_memory_allocation_size,
                 non_coherent_atom_size: props.non_coherent_atom_size,
@@ -88,6 +75,8 @@ impl<M: MemoryObject, A: Allocator + Copy> GpuAllocator<M, A> {
             types,
             own: OwnObjects::new(alloc),
             allocations_remains: props.max_memory_allocation_count,
-        })
+        };
+        allocator.keeps_sound();
+        Ok(allocator)
     }
 }
