@@ -41,7 +41,7 @@
  * - The library takes memory by malloc, realloc and free, which align to 16 bytes and return null on failure. A program
  *   that replaces one of them replaces all three. No call is made from a signal handler, nor in a child process between
  *   fork and exec.
- * - wt_open takes less than 104 KiB of the thread's stack, and each other call less than 12.
+ * - wt_open takes less than 96 KiB of the thread's stack, and each other call less than 12.
  *
  * What else to know:
  * - An object whose name wt_gone reports counts as free already. Free it before you make another one, or the device may

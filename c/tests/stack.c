@@ -5,7 +5,7 @@
 
 #include <pthread.h>
 
-enum { STACK = 1 << 18, OPENING = 104 << 10, OTHERS = 12 << 10, FILLED = 0xa5 };
+enum { STACK = 1 << 18, OPENING = 96 << 10, OTHERS = 12 << 10, FILLED = 0xa5 };
 
 static unsigned char stack[STACK] __attribute__((aligned(4096)));
 static wt_allocator allocator;
