@@ -1,7 +1,7 @@
 -- What follows from an answer to a request, whatever kind of chunks it is about: nothing changes where it is refused, the totals,
 -- what is counted, and agreement with the device.
 use Rattle.std.proofs.Common.{◌≡◌, ◌≢◌, inl, inr, ℕ, ◌+◌, ◌-◌, ◌≤◌, Bool, IsTrue, List, Option, Some, None, Result, Ok, Err, refl, sym, ◌∙◌, ap, subst, arith}
-use Rattle.std.specs.Prelude.{IfSome, max}
+use Rattle.std.specs.Prelude.{IfSome}
 use Rattle.std.specs.FinMap as map
 use Rattle.gpu_alloc_types.specs.Device.{Object, Event, HeldWith, put}
 use Rattle.gpu_alloc_types.specs.Flags.{has_bit}
@@ -109,16 +109,6 @@ module _ {B S : Type 0} {chunks : S → HeldChunks} {key : B → ℕ} {c : Case 
       let more = sum_by-insert (λ e. e.1.size) before (key b) (new_chunk_of c b) entered.was_free in
       rw (gives.state, entered.chunks_are) (omega (arith, more, entered.used, counted))
   answers_bytes es (Err e) new counted refused = rw (refused_keeps c es e new refused) counted
-
-  -- the ledger never passes the greater of what it was and the heap's limit
-  pub answers_within : (es : List Event) (answer : Result B AllocationError) (new : Account S) → Answers c es answer new → new.heap.used ≤ max c.before.heap.used c.before.heap.limit
-  answers_within es (Ok b) new (inl gives) =
-      let same = books.in_place b gives.place in
-      rw (gives.state, same.used) (omega arith)
-  answers_within es (Ok b) new (inr gives) =
-      let entered = books.in_new b gives.place in
-      rw (gives.state, entered.used) (omega (arith, books.ledger, books.limit, gives.asks.within))
-  answers_within es (Err e) new refused = rw (refused_keeps c es e new refused) (omega arith)
 
   pub answers_counted : (es : List Event) (answer : Result B AllocationError) (new : Account S) → IsCounted before c.before.heap c.before.remaining → Answers c es answer new → IsCounted (chunks new.allocator) new.heap new.remaining
   answers_counted es answer new counted answers = record {

@@ -1,5 +1,5 @@
 -- What calls leave of the blocks that a caller has in hand, by the sets of live blocks.
-use Rattle.std.proofs.Common.{◌≡◌, ◌≢◌, inl, inr, ℕ, zero, suc, ◌+◌, ◌-◌, ◌<◌, true, false, cond, List, length, [], ◌∷◌, ◌++◌, Option, Some, None, Ok, IsTrue, Equal, refl, sym, ◌∙◌, ap, subst, arith}
+use Rattle.std.proofs.Common.{◌≡◌, ◌≢◌, inl, inr, ℕ, zero, suc, ◌+◌, ◌-◌, ◌<◌, true, false, cond, List, length, [], ◌∷◌, ◌++◌, Option, Some, None, IsTrue, Equal, refl, sym, ◌∙◌, ap, subst, arith}
 use Rattle.std.specs.Cmp.{IsTotalOrder, nat_cmp_total}
 use Rattle.std.specs.FinMap as map
 use Rattle.std.specs.FinMap.{nat_cmp-IsAntisymmetric}
@@ -7,9 +7,7 @@ use Rattle.std.specs.FinSet as set
 use Rattle.std.specs.List.{sum_by}
 use Rattle.std.specs.Ordering.{nat_cmp}
 use Rattle.std.specs.declared.cmp.Ordering.{Ordering}
-use Rattle.gpu_alloc_types.specs.Device.{Event}
 use Rattle.gpu_alloc_base.specs.Accounts.{HeldChunks, chunk_bytes}
-use Rattle.gpu_alloc_base.specs.Case.{Case, Answers}
 use Rattle.gpu_alloc_base.specs.Chunks.{Chunk}
 use Rattle.gpu_alloc_base.specs.InHand.{Bytes, AreApart, AreTwo, IsBeside, IsInHand, AreInHand, Leaves, Adds, Removes, HoldsNothing}
 use Rattle.gpu_alloc_base.proofs.ListSets.{in_inserted, in_removed}
@@ -114,14 +112,6 @@ module _ {B : Type 0} {R : B → B → Ordering} (total : IsTotalOrder R) (exact
       block = left;
       all = λ cs all. all_left cs all.1 all.2;
     }
-
--- Answers to a request.
-
-module _ {B S : Type 0} {R : B → B → Ordering} (live : S → set.FinSet R) (c : Case B S) where
-  pub granted_live : ((b : B) → c.IsInPlace b → live (c.with_block b) ≡ set.insert (live c.before) b) → ((b : B) → c.IsInNewObject b → live (c.with_object b) ≡ set.insert (live c.before) b)
-      → (es : List Event) (b : B) (new : S) → Answers c es (Ok b) new → live new ≡ set.insert (live c.before) b
-  granted_live place object es b new (inl gives) = ap live gives.state ∙ place b gives.place
-  granted_live place object es b new (inr gives) = ap live gives.state ∙ object b gives.place
 
 -- Chunks.
 

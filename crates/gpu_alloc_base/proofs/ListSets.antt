@@ -1,5 +1,5 @@
 -- The set of a list's elements, as one is added or taken off.
-use Rattle.std.proofs.Common.{◌≡◌, ℕ, Bool, true, false, ◌⊎◌, inl, inr, List, [], ◌∷◌, ◌++◌, refl, sym, ◌∙◌, ap, subst, Equal}
+use Rattle.std.proofs.Common.{◌≡◌, ℕ, true, false, ◌⊎◌, inl, inr, List, refl, sym, ◌∙◌, ap, subst, Equal}
 use Rattle.std.specs.declared.cmp.Ordering.{Ordering}
 use Rattle.std.specs.Bool.{Decides}
 use Rattle.std.specs.Cmp.{IsTotalOrder, Equal-is}
@@ -8,11 +8,10 @@ use Rattle.std.specs.FinMap.{nat_cmp-IsAntisymmetric, slice_cmp-IsAntisymmetric}
 use Rattle.std.specs.FinSet as set
 use Rattle.std.specs.List.{Contains}
 use Rattle.std.specs.Ordering.{eq_by_cmp, nat_cmp}
-use Rattle.std.proofs.lemmas.Bool.Decides.{same_from_decides, Decides-and, Decides-not, Decides-or}
+use Rattle.std.proofs.lemmas.Bool.Decides.{Decides-and, Decides-not, Decides-or}
 use Rattle.std.proofs.lemmas.Cmp.{eq_by_cmp_equiv}
 use Rattle.std.proofs.lemmas.Map.Views.{Contains-from_any, list_any-from_Contains}
 use mathlib.Core.Bool.{true≢false}
-use Rattle.gpu_alloc_base.proofs.Lists.{IsLess}
 
 -- keys in the order of their numbers, from which they are read back, are told apart by that order
 pub exact_by : {K : Type 0} (numbers : K → List ℕ) (read : List ℕ → K) → ((k : K) → read (numbers k) ≡ k) → (a b : K) → slice_cmp nat_cmp (numbers a) (numbers b) ≡ Equal → a ≡ b
@@ -46,15 +45,3 @@ module _ {K : Type 0} (R : K → K → Ordering) (total : IsTotalOrder R) (exact
     | true ↦ λ e. inl ((key_test q k).0 e)
     | false ↦ λ e. inr ((in_removed s k q).1 ((λ same. true≢false (sym ((key_test q k).1 same) ∙ e)), has))
   ] refl
-
-  -- an element that is pushed is inserted
-  pub set_push : (ks : List K) (k : K) → set.from_list {R = R} (ks ++ k ∷ []) ≡ set.insert (set.from_list ks) k
-  set_push ks k = set.from_list_push total exact ks k
-
-  -- one that is taken off the list is removed
-  pub set_less : (e : K → K → Bool) (xs ys : List K) (x : K) → (Contains ys x → ⊥) → IsLess e xs ys x → set.from_list {R = R} ys ≡ set.remove (set.from_list xs) x
-  set_less e xs ys x gone l = set.same_set total exact _ _ (λ q.
-      same_from_decides _ _ (in_set ys q) (
-        (λ t. let h = (in_removed (set.from_list xs) x q).0 t in elim (l.cases q ((in_set xs q).0 h.1)) [ inl is ↦ absurd (h.0 is) | inr has ↦ has ]),
-        (λ has. (in_removed (set.from_list xs) x q).1 ((λ is. gone (subst (Contains ys) is has)), (in_set xs q).1 (l.kept q has))),
-      ))

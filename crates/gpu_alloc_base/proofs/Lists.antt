@@ -1,7 +1,6 @@
 -- Members of a list as one is added or taken off.
-use Rattle.std.proofs.Common.{◌≡◌, ℕ, zero, suc, ◌+◌, Bool, true, false, cond, not, ◌<◌, ◌≤◌, ◌∙◌, ap, ◌⊎◌, inl, inr, List, [], ◌∷◌, ◌++◌, length, get_or, refl, sym, subst, arith, Option, None, Some, IsSome}
-use Rattle.std.specs.List.{All, Contains, IsDistinct, AllByRecursion, swap_remove, position, prefix_len}
-use Rattle.std.proofs.lemmas.Bool.Decides.{nat_tests}
+use Rattle.std.proofs.Common.{◌≡◌, ℕ, zero, suc, ◌+◌, Bool, true, false, cond, ◌<◌, ◌≤◌, ◌∙◌, ap, ◌⊎◌, inl, inr, List, [], ◌∷◌, ◌++◌, length, get_or, refl, sym, subst, arith, Option, None, Some, IsSome}
+use Rattle.std.specs.List.{All, Contains, IsDistinct, AllByRecursion, swap_remove, prefix_len}
 use Rattle.std.specs.List.Sorted.{IsPermutation}
 use Rattle.std.proofs.lemmas.List.Sorted.{IsPermutation-swap_remove, IsPermutation-sym, IsPermutation-to_front, Contains-permutation}
 use Rattle.std.proofs.lemmas.List.Elements.{Contains-get_or, Contains-push_cases, recursion_from_All}
@@ -88,17 +87,6 @@ module _ {X : Type 0} where
     | true ↦ λ e more. elim (contains_cases y x ys has) [ inl is ↦ ap q is ∙ e | inr h ↦ passes q ys (omega arith) x h ]
     | false ↦ λ e none. absurd (omega (arith, none))
   ] refl le
-
-  -- where none is found, none passes
-  pub not_found : (p : X → Bool) (xs : List X) → position p xs ≡ None → (x : X) → Contains xs x → p x ≡ false
-  not_found p xs none x has = negated (p x) (passes (λ y. not (p y)) xs past x has)
-    where
-      past : length xs ≤ prefix_len (λ y. not (p y)) xs
-      past = grind (arith, nat_tests)
-
-      negated : (b : Bool) → not b ≡ true → b ≡ false
-      negated true e = cc
-      negated false e = refl
 
 -- `None` is not `Some`
 pub none_is_some : {X : Type 0} (o : Option X) → o ≡ None → IsSome o → ⊥

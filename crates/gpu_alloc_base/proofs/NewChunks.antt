@@ -1,9 +1,9 @@
 -- A new object that is mapped, or given back.
-use Rattle.std.proofs.Common.{◌≡◌, ◌≢◌, inl, inr, ℕ, ◌<◌, true, [], ◌∷◌, Option, Some, None, Ok, Err, refl, ◌∙◌, ap, arith}
+use Rattle.std.proofs.Common.{◌≡◌, inl, inr, ℕ, ◌<◌, true, [], ◌∷◌, Option, Some, None, Ok, Err, refl, ◌∙◌, ap, arith}
 use Rattle.gpu_alloc_types.specs.Properties.{Properties, is_host_visible}
 use Rattle.gpu_alloc_types.specs.Device.{Object, Row, HeldWith, IsHeld, IsMappable, put}
 use Rattle.gpu_alloc_types.specs.Device.Event.{Allocated, Mapped}
-use Rattle.gpu_alloc_types.specs.Objects.{put-same, put-other, put-put, put-undone}
+use Rattle.gpu_alloc_types.specs.Objects.{put-same, put-put, put-undone}
 use Rattle.gpu_alloc_types.specs.declared.types.DeviceMapError.{DeviceMapError}
 use Rattle.gpu_alloc_types.specs.declared.types.DeviceMapError.TheVariants.{OutOfDeviceMemory as MapDeviceFull, OutOfHostMemory as MapHostFull, MapFailed}
 use Rattle.gpu_alloc_types.specs.declared.types.OutOfMemory.{OutOfMemory}
@@ -69,9 +69,3 @@ refused_mapping q object MapHostFull visible = inr (visible, (object, (MapHostFu
 refused_mapping q object MapFailed visible = inr (visible, (object, (MapFailed, (λ e. absurd (cc)), refl)))
 
 -- Chunks on the device.
-
--- each held chunk is there still, once the device holds one object more
-pub still_held : (q : ChunkQuestion) (object : ℕ) (f g : ℕ → Option Object) (P : Object → Type 0) (name : ℕ) → HasOneChunkMore q object f g → HeldWith f name P → HeldWith g name P
-still_held q object f g P name more held =
-    let other : name ≢ object = λ same. let none : f name ≡ None = ap f same ∙ more.0 in let both = held.1 in cc in
-    (held.0, ap (λ h. h name) more.1.2 ∙ put-other f object (Some more.1.0) name other ∙ held.1, held.2)

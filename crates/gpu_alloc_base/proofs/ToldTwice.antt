@@ -1,8 +1,8 @@
 -- A request that is described twice, by an allocator's own chunks and by what a larger one holds: what the first
 -- refuses, the second does.
-use Rattle.std.proofs.Common.{◌≡◌, inl, inr, ◌<◌, List, [], Some, Err, refl, ap, subst, arith, IsTrue}
+use Rattle.std.proofs.Common.{◌≡◌, inl, inr, ◌<◌, List, Err, refl, ap, subst, arith, IsTrue}
 use Rattle.gpu_alloc_types.specs.Device.{Event}
-use Rattle.gpu_alloc_base.specs.Case.{Case, MayAsk, HasQuestion, Asks, IsWithinBudget, IsOverBudget, IsOpen, IsShut, IsPassedUnasked, IsPassed, LacksHost, Answers, RefusesFirst}
+use Rattle.gpu_alloc_base.specs.Case.{Case, MayAsk, HasQuestion, Asks, IsWithinBudget, IsOverBudget, IsOpen, IsShut, IsPassedUnasked, IsPassed, LacksHost, Answers}
 use Rattle.gpu_alloc_base.specs.NewChunk.{ChunkQuestion, LacksDeviceMemory, LacksHostMemory, IsReleased}
 use Rattle.gpu_alloc_base.specs.declared.error.AllocationError.{AllocationError}
 use Rattle.gpu_alloc_base.specs.declared.error.AllocationError.TheVariants.{OutOfDeviceMemory, OutOfHostMemory, NoCompatibleMemoryTypes, TooManyObjects}
@@ -69,10 +69,3 @@ module _ {B S B' S' : Type 0} {c : Case B S} {d : Case B' S'} (told : IsToldAs c
   refused_is es OutOfHostMemory new answers = (refl, lacks_is es answers.1)
   refused_is es TooManyObjects new answers = (refl, answers.1, shut_is answers.2)
   refused_is es NoCompatibleMemoryTypes new answers = absurd answers
-
-  -- before anything is asked
-  pub first_is : (e : AllocationError) → RefusesFirst c (Some e) → Answers d [] (Err e) d.before
-  first_is OutOfDeviceMemory unasked = (refl, inl (unasked_is unasked, refl))
-  first_is TooManyObjects shut = (refl, refl, shut_is shut)
-  first_is OutOfHostMemory never = absurd never
-  first_is NoCompatibleMemoryTypes never = absurd never

@@ -1,6 +1,5 @@
 -- Free pieces as they are kept, and how they change step by step.
-use Rattle.std.specs.Prelude.{◌≡◌, ℕ, ◌+◌, ◌*◌, ◌^◌, ◌⊎◌, Bool, ◌==◌, ◌&&◌, List}
-use Rattle.std.specs.List.{Contains, IsDistinct}
+use Rattle.std.specs.Prelude.{◌≡◌, ℕ, ◌+◌, ◌*◌, ◌^◌, ◌⊎◌, Bool, ◌==◌, ◌&&◌}
 use Rattle.gpu_alloc_base.specs.FreeSpace.{IsIn, IsMultipleOf}
 use Rattle.gpu_alloc_base.specs.declared.piece.Piece.{Piece}
 
@@ -45,13 +44,3 @@ pub record IsCanonicalBeside (Has : Piece → Type 0) (F : ℕ → ℕ → Type 
 -- two pieces that start at the same byte
 abbrev pub same_place : Piece → Piece → Bool
 same_place p q = (p.chunk == q.chunk) && (p.start == q.start)
-
--- the list has the free bytes in canonical form, and no piece twice
-pub record ArePiecesKept (pieces : List Piece) (F : ℕ → ℕ → Type 0) : Type 0 where
-  pub canonical : IsCanonical (Contains pieces) F
-  pub distinct : IsDistinct same_place pieces
-
--- the same for the free bytes without those of x, which is in hand
-pub record AreKeptBeside (pieces : List Piece) (F : ℕ → ℕ → Type 0) (x : Piece) : Type 0 where
-  pub beside : IsCanonicalBeside (Contains pieces) F x
-  pub distinct : IsDistinct same_place pieces

@@ -1,8 +1,8 @@
 -- What a call of a block leaves of the blocks in hand.
-use Rattle.std.proofs.Common.{◌≡◌, ◌≢◌, inl, inr, ℕ, ◌+◌, ◌<◌, ◌≤◌, List, [], ◌∷◌, ◌++◌, Option, Some, None, Result, Ok, Err, cond, is_some, refl, sym, ◌∙◌, ap, subst, arith}
+use Rattle.std.proofs.Common.{◌≡◌, ◌≢◌, inl, inr, ℕ, ◌+◌, ◌<◌, ◌≤◌, List, [], ◌∷◌, ◌++◌, Option, Some, None, cond, is_some, refl, sym, ◌∙◌, ap, subst, arith}
 use Rattle.std.specs.FinMap as map
 use Rattle.gpu_alloc_base.proofs.Names.{one_or_two}
-use Rattle.gpu_alloc_types.specs.Device.{Object, Range, Changes}
+use Rattle.gpu_alloc_types.specs.Device.{Object, Changes}
 use Rattle.gpu_alloc_types.specs.Objects.{put-other}
 use Rattle.gpu_alloc_types.specs.Properties.{Properties}
 use Rattle.gpu_alloc_block.proofs.Between.{agrees_with_other_bytes, keeps_remapped, keeps_with_other_bytes, mapped_so, unmapped_so}
@@ -15,7 +15,7 @@ use Rattle.gpu_alloc_block.specs.Bytes.{HasOnlyOtherBytes}
 use Rattle.gpu_alloc_block.specs.Contents.{HasSameBytes}
 use Rattle.gpu_alloc_block.specs.InHand.{AreOwned, AreTwo, IsBeside, IsSameBlock}
 use Rattle.gpu_alloc_block.specs.Kept.{AreKept, AreReady, ChangesKey, IsSameOutside, KeepsInHand, outside}
-use Rattle.gpu_alloc_block.specs.Mapped.{IsClosed, IsOpened, ObjectsMapped, mapping_of, refusal}
+use Rattle.gpu_alloc_block.specs.Mapped.{IsClosed, IsOpened, mapping_of, refusal}
 use Rattle.gpu_alloc_block.specs.Ranges.{rounded_range}
 use Rattle.gpu_alloc_block.specs.State.{AreSpansApart, Block, IsOwned, Span, State, span_of, is_shared}
 use Rattle.gpu_alloc_block.specs.declared.block.Mapping.{Mapping}
@@ -127,10 +127,6 @@ module _ (b : Block) (p q : Properties) (f g : ℕ → Option Object) (P : Objec
       (same_outside P f g b c)
 
 -- A call that maps a block, or ends that: no byte moves.
-
-pub mapped_bytes : {T E : Type 0} (b : Block) (r : Range) (answer : Result T E) (f g : ℕ → Option Object) → r.object ≡ b.object → ObjectsMapped b r answer f g → (c : Block) → HasSameBytes c f g
-mapped_bytes b r (Ok x) f g own opened c = opened_leaves (is_shared b.kind) r f g b c own opened
-mapped_bytes b r (Err e) f g own same c = same_objects c f g same
 
 -- a call that changes nothing
 pub nothing_in_hand : (b : Block) (p q : Properties) (f g : ℕ → Option Object) → q ≡ p → g ≡ f → BlockAgrees b p f → KeepsInHand b p f b q g

@@ -139,13 +139,6 @@ not_read b offset len o = record {
   device = refl;
 }
 
-pub got_partly : (r : Range) (e : OutOfMemory) (o new : Object) → IsInvalidated (Err e) r o new → IsPartlyRead r o new
-got_partly r e o new invalidated = rw (invalidated.2) (record {
-  rest = record { same_type = refl; same_size = refl; same_mapping = refl };
-  device = refl;
-  host = invalidated.1;
-})
-
 pub partly_read_within : (b : Block) (offset len : ℕ) (o new : Object) → IsPartlyRead (rounded_range b offset len) o new
     → ReadsWithin b offset len o new
 partly_read_within b offset len o new w = record { rest = w.rest; host = w.host.outside; device = w.device }

@@ -1,13 +1,7 @@
 -- What holds of a buddy allocator between calls.
 use Rattle.gpu_alloc_base.specs.FreeSpace.{IsPowerUpTo}
-use Rattle.gpu_alloc_base.specs.declared.buddy_block.Leaf.{Leaf}
 use Rattle.gpu_alloc_buddy.specs.BuddyState.{Buddy, space_of}
 use Rattle.gpu_alloc_pairs.specs.Space.{IsSoundBuddySpace}
-use Rattle.gpu_alloc_pairs.specs.Space as spaces
-
--- a live block lies in its chunk, at a multiple of its size, which is a power of two
-abbrev pub LiesInBuddyChunk : Buddy → Leaf → Type 0
-LiesInBuddyChunk b = spaces.LiesInChunk (space_of b)
 
 -- chunks have objects of their own, with a live block each, and live blocks are apart; the sizes are powers of two
 pub record IsSoundBuddy (b : Buddy) : Type 0 where

@@ -11,7 +11,7 @@ use Rattle.std.specs.FinMap as map
 use Rattle.std.specs.FinMap.{nat_cmp-IsAntisymmetric}
 use Rattle.std.specs.List.{Contains, remove}
 use Rattle.std.specs.List.Sorted.{IsPermutation}
-use Rattle.gpu_alloc_base.proofs.ListViews.{IsMore, IsLess, IsOneToOne, named_there, named_absent, named_more, named_less, seek_name}
+use Rattle.gpu_alloc_base.proofs.ListViews.{IsMore, IsLess, IsOneToOne, named_there, named_absent, named_less, seek_name}
 use Rattle.gpu_alloc_base.proofs.Lists.{contains_cases, contains_later}
 use Rattle.gpu_alloc_freelist.specs.Chunks.{by_number, AreNumbered}
 
@@ -59,9 +59,6 @@ module _ {T X : Type 0} (number : T → ℕ) (value : T → X) where
     kept = λ a has. Contains-append_left rows (x ∷ []) a has;
     cases = λ a has. elim (Contains-push_cases rows x a has) [ inl old ↦ inr old | inr new ↦ inl (sym new) ];
   }
-
-  pub pushed : (rows : List T) (x : T) → AreNumbered number rows → ((row : T) → Contains rows row → number row < number x) → by_number number value (rows ++ x ∷ []) ≡ map.insert (by_number number value rows) (number x) (value x)
-  pushed rows x rise greater = named_more nat_cmp_total nat_cmp-IsAntisymmetric number value rows (rows ++ x ∷ []) x (once (rows ++ x ∷ []) (numbered_push rows x rise greater)) (rows_more rows x)
 
   -- a row is removed
   pub numbered_remove : (rows : List T) (i : ℕ) → AreNumbered number rows → i < length rows → AreNumbered number (remove rows i)

@@ -42,9 +42,6 @@ module _ (l r : Piece) (h : AreHalves l r) where
     | inr le ↦ inr (record { from = omega (arith, h.beside); to = omega (arith, i.to, h.beside, length_right, doubled l.order) })
   ]
 
-  pub aligned_joined : IsMultipleOf (2 ^ (joined l).order) (joined l).start
-  aligned_joined = (h.aligned.0, h.aligned.1 ∙ ap (λ n. h.aligned.0 * n) (sym (doubled l.order)))
-
   -- a right half is no left half
   pub not_left : (q : Piece) → AreHalves r q → ⊥
   not_left q g =

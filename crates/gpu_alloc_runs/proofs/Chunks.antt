@@ -2,19 +2,18 @@
 use Rattle.std.proofs.Common.{◌≡◌, ◌≢◌, inl, inr, ℕ, ◌<◌, ◌≤◌, true, Option, Some, None, option_map, refl, sym, ◌∙◌, ap, subst, arith}
 use Rattle.std.proofs.lemmas.Bool.{cases_eq}
 use Rattle.std.specs.FinMap as map
-use Rattle.slab.specs.Slab.{ContainsKey, Slab, Updates, get}
+use Rattle.slab.specs.Slab.{Slab, Updates, get}
 use Rattle.gpu_alloc_base.specs.Chunks.{object_in}
 use Rattle.gpu_alloc_base.proofs.ListedRanges.{told_object}
 use Rattle.gpu_alloc_base.proofs.SlabViews.{get_by_key}
-use Rattle.gpu_alloc_runs.specs.Filed.{KeepsEnds, down_of}
 use Rattle.gpu_alloc_runs.specs.Inside.{chunk_of_row, chunk_size_in, chunks_of_rows, IsWholeTile, row_size}
 use Rattle.gpu_alloc_runs.specs.Links.{AreNodesKept, after_in, before_in}
-use Rattle.gpu_alloc_runs.specs.Tiles.{AreNeighbours, IsTiled, KeepsElsewhere, KeepsLive, Sets, tile_in}
+use Rattle.gpu_alloc_runs.specs.Tiles.{AreNeighbours, IsTiled, KeepsLive, Sets, tile_in}
 use Rattle.gpu_alloc_runs.specs.declared.fits.Chunk.{Chunk as Row}
 use Rattle.gpu_alloc_runs.specs.declared.tile.Node.{Node}
 use Rattle.gpu_alloc_runs.specs.declared.tile.Tile.{Tile}
 use Rattle.gpu_alloc_runs.proofs.Links.{fewer_linked}
-use Rattle.gpu_alloc_runs.proofs.Nodes.{has_tile, other_after, other_before, other_tile, puts, tile_of}
+use Rattle.gpu_alloc_runs.proofs.Nodes.{other_after, other_before, other_tile, puts, tile_of}
 use Rattle.gpu_alloc_runs.proofs.Tiles.{came, not_both, one_tile}
 
 -- one chunk has another size, and the others have theirs
@@ -118,9 +117,6 @@ module _ (old new : ℕ → ℕ) (chunk size : ℕ) (s0 s1 : Slab Node) (x : ℕ
 
 -- A wholly free chunk is removed, with its tile.
 module _ (old new : ℕ → ℕ) (s0 s1 : Slab Node) (x chunk : ℕ) (kept : AreNodesKept old s0) (whole : IsWholeTile old (tile_in s0) x chunk) (resizes : Resizes old new chunk 0) (goes : Updates s0 s1 x None) where
-  pub end_key : ContainsKey s0 x
-  end_key = has_tile s0 x whole.tile whole.at
-
   was : (k : ℕ) (c : Tile) → tile_in s1 k ≡ Some c → (k ≢ x) × (tile_in s0 k ≡ Some c)
   was k c is = elim (cases_eq k x) [
     | inl here ↦ absurd (let none : None ≡ Some c = sym (ap tile_of goes.changed) ∙ sym (ap (tile_in s1) here) ∙ is in cc)
@@ -158,19 +154,3 @@ module _ (old new : ℕ → ℕ) (s0 s1 : Slab Node) (x chunk : ℕ) (kept : Are
         let v = was k d is_d in
         (w.1, v.1, other_after s0 s1 x None goes j w.0, other_before s0 s1 x None goes k v.0));
   }
-
-  pub ended_lives : KeepsLive (tile_in s0) (tile_in s1)
-  ended_lives = record {
-    stays = λ k c h. (other_tile s0 s1 x None goes k (λ s. not_both whole.tile c (sym (one_tile (tile_in s0) k x c whole.tile h.0 whole.at s)) whole.free h.1) ∙ h.0, h.1);
-    was = λ k c h. ((was k c h.0).1, h.1);
-  }
-
-  pub ended_elsewhere : KeepsElsewhere chunk (tile_in s0) (tile_in s1)
-  ended_elsewhere k c is ne = other_tile s0 s1 x None goes k (other_place k c is ne) ∙ is
-
-  pub ended_ends : KeepsEnds chunk s0 s1
-  ended_ends k c is ne none = ap down_of (goes.others k (other_place k c is ne)) ∙ none
-
-  -- the chunk's row stands
-  pub end_some : 0 < old chunk
-  end_some = omega (arith, kept.tiled.nonempty x whole.tile whole.at, whole.start, whole.end)

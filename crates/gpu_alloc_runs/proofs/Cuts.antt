@@ -6,7 +6,7 @@ use Rattle.gpu_alloc_runs.specs.Classes.{class_of_bytes, filed_but}
 use Rattle.gpu_alloc_runs.specs.Filed.{AreFreeFiled, IsIndexed, KeepsEnds, KeepsLasts, KeepsLists, Refiles, class_at, down_of, filed_in}
 use Rattle.gpu_alloc_runs.specs.Inside.{chunk_size_in, row_size}
 use Rattle.gpu_alloc_runs.specs.Links.{AreLinked, AreNodesKept, KeepsNodes, SetsBefore, after_in, after_of, before_in, before_of, with_end, with_free}
-use Rattle.gpu_alloc_runs.specs.Tiles.{AreNeighbours, HasNoLiveTile, IsFreeRight, IsLiveAt, IsTiled, KeepsElsewhere, KeepsOthers, Sets, tile_in}
+use Rattle.gpu_alloc_runs.specs.Tiles.{AreNeighbours, IsFreeRight, IsTiled, Sets, tile_in}
 use Rattle.gpu_alloc_runs.specs.declared.classes.Classes.{Classes}
 use Rattle.gpu_alloc_runs.specs.declared.fits.Chunk.{Chunk as Row}
 use Rattle.gpu_alloc_runs.specs.declared.tile.Node.{Node}
@@ -15,7 +15,7 @@ use Rattle.gpu_alloc_runs.specs.declared.tile.Tile.{Tile}
 use Rattle.gpu_alloc_runs.proofs.Filed.{but_as, filed_differs, free_class, kept_lists, live_class, refiled_free, same_filing, unfiled_comes}
 use Rattle.gpu_alloc_runs.proofs.Links.{ends_before, key_after, retiled_linked}
 use Rattle.gpu_alloc_runs.proofs.Nodes.{before_left, has_tile, keeps_kept, node_of_tile, other_after, other_before, other_tile, put_after, put_before, puts, tile_of, tile_of_node, with_tiles, written}
-use Rattle.gpu_alloc_runs.proofs.Splits.{back_calm, calm_end, cut_tiled, others_cut, others_end, right_end, split_elsewhere, split_linked}
+use Rattle.gpu_alloc_runs.proofs.Splits.{back_calm, calm_end, cut_tiled, right_end, split_linked}
 use Rattle.gpu_alloc_runs.proofs.Tiles.{IsJoint, Splits, came, not_both, one_tile, retiled}
 
 -- A free tile is taken whole.
@@ -67,28 +67,6 @@ module _ (size : ℕ → ℕ) (s0 z s1 : Slab Node) (x : ℕ) (run : Tile) (kept
     calm = λ j k c d is_c is_d both. kept_z.calm j k c d (old j c is_c both.left).1 (old k d is_d both.right).1 both;
     linked = retiled_linked (tile_in z) (tile_in s1) (before_in z) (after_in z) (before_in s1) (after_in s1) kept_z.linked x run taken_tile at_t (record { chunk = refl; start = refl; end = refl }) sets same_before same_after;
   }
-
-  pub taken_live : (at : ℕ) → at ≡ run.start → IsLiveAt (tile_in s1) x (record { chunk = run.chunk; start = at; end = run.end; free = false })
-  taken_live at e = let same : taken_tile ≡ record { chunk = run.chunk; start = at; end = run.end; free = false } = (λ i. record { chunk = run.chunk; start = sym e i; end = run.end; free = false }) in (sets.changed ∙ ap Some same, refl)
-
-  pub taken_right : IsFreeRight x (tile_in s1)
-  taken_right k c t is_c c_free is_t near =
-      let e = one_tile (tile_in s1) x x t taken_tile is_t sets.changed refl in
-      kept_z.calm x k run c at_t (old k c is_c c_free).1 (record { chunk = sym (ap (λ (q : Tile). q.chunk) e) ∙ near.chunk; meet = sym (ap (λ (q : Tile). q.end) e) ∙ near.meet; left = free; right = c_free })
-
-  pub taken_unused : HasNoLiveTile (tile_in s0) x
-  taken_unused c live = not_both run c (one_tile (tile_in s0) x x run c at_run live.0 refl) free live.1
-
-  pub taken_others : KeepsOthers (tile_in s0) (tile_in s1) x
-  taken_others = record {
-    stays = λ k c ne live. (sets.others k ne ∙ k0.tiles k ∙ live.0, live.1);
-    was = λ k c ne live. (sym (k0.tiles k) ∙ sym (sets.others k ne) ∙ live.0, live.1);
-  }
-
-  pub taken_elsewhere : KeepsElsewhere run.chunk (tile_in s0) (tile_in s1)
-  taken_elsewhere k a is other =
-      let is_z = k0.tiles k ∙ is in
-      sets.others k (λ same. other (ap (λ (t : Tile). t.chunk) (one_tile (tile_in z) k x a run is_z at_t same))) ∙ is_z
 
   -- it is taken out of its list
   pub taken_filed : (classes new : Classes) (class : ℕ) → class ≡ class_of_bytes (run.end - run.start) → AreFreeFiled s0 classes → Refiles s0 classes z new x (Some class) None → KeepsLists z s1 → AreFreeFiled s1 new
@@ -194,9 +172,6 @@ module _ (size : ℕ → ℕ) (s0 s1 s2 : Slab Node) (x y cut : ℕ) (n o : Node
     cut_all : IsTiled size (tile_in s3)
     cut_all = cut_tiled size (tile_in s0) (tile_in s3) x y x y back_rest back_tile back_rest back_tile m kept.tiled at_m back_splits back_joint from to back_splits.rest back_splits.new (inl (refl, refl))
 
-    pub cut_off : KeepsElsewhere m.chunk (tile_in s0) (tile_in s4)
-    cut_off = with_tiles s3 s4 files (KeepsElsewhere m.chunk (tile_in s0)) (split_elsewhere size (tile_in s0) (tile_in s3) x y x y back_rest back_tile back_rest back_tile m kept.tiled at_m back_splits back_joint from to back_splits.rest back_splits.new (inl (refl, refl)))
-
     -- the lists are those of the first slab
     module _ (classes new : Classes) (keyed : y ≢ NONE) (lists_2 : KeepsLists s1 s2) (lists_3 : KeepsLists s2 s3) (filed : AreFreeFiled s0 classes) where
       cut_lists : IsIndexed (filed_in s0) s3 classes
@@ -242,12 +217,6 @@ module _ (size : ℕ → ℕ) (s0 s1 s2 : Slab Node) (x y cut : ℕ) (n o : Node
         linked = back_linked;
       })
 
-      pub back_live : IsLiveAt (tile_in s4) x (record m { end = cut })
-      back_live = (files.tiles x ∙ back_splits.rest, live)
-
-      pub back_others : KeepsOthers (tile_in s0) (tile_in s4) x
-      back_others = with_tiles s3 s4 files (λ T. KeepsOthers (tile_in s0) T x) (others_cut size (tile_in s0) (tile_in s3) x y back_rest back_tile m kept.tiled kept.calm at_m live free back_splits from to)
-
     -- That of a free one is taken.
     module _ (was_free : m.free ≡ true) (live : new_free ≡ false) where
       end_kept : AreNodesKept size s4
@@ -257,14 +226,8 @@ module _ (size : ℕ → ℕ) (s0 s1 s2 : Slab Node) (x y cut : ℕ) (n o : Node
         linked = back_linked;
       })
 
-      pub end_live : IsLiveAt (tile_in s4) y (record { chunk = m.chunk; start = cut; end = m.end; free = false })
-      end_live = (files.tiles y ∙ back_splits.new ∙ ap (λ b. Some (record { chunk = m.chunk; start = cut; end = m.end; free = b })) live, refl)
-
       end_right : IsFreeRight y (tile_in s4)
       end_right = with_tiles s3 s4 files (IsFreeRight y) (right_end size (tile_in s0) (tile_in s3) x y back_rest back_tile m kept.tiled kept.calm at_m was_free was_free live back_splits from to back_joint)
-
-      pub end_others : KeepsOthers (tile_in s0) (tile_in s4) y
-      end_others = with_tiles s3 s4 files (λ T. KeepsOthers (tile_in s0) T y) (others_end size (tile_in s0) (tile_in s3) x y back_rest back_tile m kept.tiled kept.calm at_m was_free was_free live back_splits from to back_joint)
 
     -- All that each of them leaves.
     module _ (classes new : Classes) (keyed : y ≢ NONE) (lists_2 : KeepsLists s1 s2) (lists_3 : KeepsLists s2 s3) (filed : AreFreeFiled s0 classes) where
@@ -277,31 +240,6 @@ module _ (size : ℕ → ℕ) (s0 s1 s2 : Slab Node) (x y cut : ℕ) (n o : Node
           → AreNodesKept size s4 × IsFreeRight y (tile_in s4) × AreFreeFiled s4 new × KeepsEnds m.chunk s0 s4
       end_cut free live was class was_is is refiles lasts =
           (end_kept free live, end_right free live, end_filed classes new keyed lists_2 lists_3 filed free live was class was_is is refiles, end_ends classes new keyed lists_2 lists_3 filed free was was_is lasts)
-
--- no tile stands under a vacant key
-pub vacant_unused : (s : Slab Node) (y : ℕ) → get s y ≡ None → HasNoLiveTile (tile_in s) y
-vacant_unused s y vacant c live = let none : None ≡ Some c = sym (ap tile_of vacant) ∙ live.0 in cc
-
--- Where nothing comes off.
-
-pub same_end : (T : ℕ → Option Tile) (x : ℕ) (a : Tile) (at : ℕ) → IsLiveAt T x a → at ≡ a.end → IsLiveAt T x (record a { end = at })
-same_end T x a at live e = let same : a ≡ record a { end = at } = (λ i. record a { end = sym e i }) in (live.0 ∙ ap Some same, live.1)
-
-pub same_others : (T : ℕ → Option Tile) (x : ℕ) → KeepsOthers T T x
-same_others T x = record { stays = λ k a ne live. live; was = λ k a ne live. live }
-
--- one change after another
-pub others_then : (old mid new : ℕ → Option Tile) (x : ℕ) → KeepsOthers old mid x → KeepsOthers mid new x → KeepsOthers old new x
-others_then old mid new x first last = record {
-  stays = λ k a ne h. last.stays k a ne (first.stays k a ne h);
-  was = λ k a ne h. first.was k a ne (last.was k a ne h);
-}
-
-pub elsewhere_then : (chunk : ℕ) (old mid new : ℕ → Option Tile) → KeepsElsewhere chunk old mid → KeepsElsewhere chunk mid new → KeepsElsewhere chunk old new
-elsewhere_then chunk old mid new first last k a is other = last k a (first k a is other) other
-
-pub ends_then : (chunk : ℕ) (n0 n1 n2 : Slab Node) → KeepsElsewhere chunk (tile_in n0) (tile_in n1) → KeepsEnds chunk n0 n1 → KeepsEnds chunk n1 n2 → KeepsEnds chunk n0 n2
-ends_then chunk n0 n1 n2 keeps first last k a is other none = last k a (keeps k a is other) other (first k a is other none)
 
 -- the chunk of a tile is held
 pub row_of_tile : {M : Type 0} (rows : Slab (Row M)) (T : ℕ → Option Tile) (k : ℕ) (a : Tile) → IsTiled (chunk_size_in rows) T → T k ≡ Some a → ContainsKey rows a.chunk

@@ -6,7 +6,7 @@ use Rattle.slab.specs.Slab.{Slab, ContainsKey, Updates, get}
 use Rattle.gpu_alloc_runs.specs.Classes.{class_of_bytes, filed_but}
 use Rattle.gpu_alloc_runs.specs.Filed.{AreFreeFiled, AreFreeFiledBut, IsIndexed, KeepsEnds, KeepsLasts, KeepsLists, Refiles, class_at, down_in, down_of, filed_in}
 use Rattle.gpu_alloc_runs.specs.Links.{AreLinked, AreNodesKept, AreNodesKeptBut, KeepsNodes, SetsBefore, after_in, after_of, before_in, before_of, with_end, with_free}
-use Rattle.gpu_alloc_runs.specs.Tiles.{AreFreeNeighbours, AreNeighbours, IsCalmBut, IsFirst, IsFreeTileOf, IsTiled, KeepsElsewhere, KeepsLive, PutsTileBack, Sets, tile_in}
+use Rattle.gpu_alloc_runs.specs.Tiles.{AreFreeNeighbours, AreNeighbours, IsCalmBut, IsFirst, IsTiled, KeepsElsewhere, KeepsLive, PutsTileBack, Sets, tile_in}
 use Rattle.gpu_alloc_runs.specs.declared.classes.Classes.{Classes}
 use Rattle.gpu_alloc_runs.specs.declared.tile.Node.{Node}
 use Rattle.gpu_alloc_runs.specs.declared.tile.TheConstants.{NONE}
@@ -53,9 +53,6 @@ module _ (size : ℕ → ℕ) (s0 s1 : Slab Node) (x : ℕ) (n : Node) (kept : A
     free = refl;
   }
 
-  pub freed_at : tile_in s1 x ≡ Some freed_tile
-  freed_at = sets.changed
-
   -- and is live no more
   pub freed_others : PutsTileBack (tile_in s0) (tile_in s1) x
   freed_others = record {
@@ -82,23 +79,11 @@ unnot false e = absurd (cc)
 pub beside_free : (size : ℕ → ℕ) (s : Slab Node) (x : ℕ) (n : Node) → AreNodesKeptBut size x s → get s x ≡ Some n → n.tile.free ≡ true
 beside_free size s x n beside at = ap (λ (t : Tile). t.free) (one_tile (tile_in s) x x n.tile beside.tile (tile_of_node s x n at) beside.at refl) ∙ beside.free
 
--- the tile under the key stays as it is
-pub stays_free : (size : ℕ → ℕ) (s : Slab Node) (x : ℕ) (n : Node) → AreNodesKeptBut size x s → get s x ≡ Some n → (a : Tile) → tile_in s x ≡ Some a → IsFreeTileOf a.chunk (tile_in s) x n.tile
-stays_free size s x n beside at a is =
-    let at_x = tile_of_node s x n at in
-    record { at = at_x; free = beside_free size s x n beside at; chunk_is = ap (λ (t : Tile). t.chunk) (one_tile (tile_in s) x x n.tile a at_x is refl) }
-
 -- Where nothing is joined.
 
 module _ (size : ℕ → ℕ) (s : Slab Node) (x : ℕ) (n : Node) (beside : AreNodesKeptBut size x s) (at : get s x ≡ Some n) where
   here_t : tile_in s x ≡ Some n.tile
   here_t = tile_of_node s x n at
-
-  -- at the chunk's start
-  pub at_start : n.tile.start ≡ 0 → IsFirst x (tile_in s)
-  at_start zero k c z is_c is_z both =
-      let e = one_tile (tile_in s) x x z n.tile is_z here_t refl in
-      omega (arith, beside.tiled.nonempty k c is_c, both.meet, ap (λ (t : Tile). t.start) e, zero)
 
   -- at its end
   pub at_end : n.tile.end ≡ size n.tile.chunk → IsLast x (tile_in s)
@@ -142,21 +127,6 @@ module _ (size : ℕ → ℕ) (s : Slab Node) (x : ℕ) (n : Node) (beside : Are
 
   pub back_else : (o : Node) → n.tile.end ≢ size n.tile.chunk → get s n.after ≡ Some o → n.after ≢ x
   back_else o less there = after_else size (tile_in s) beside.tiled x n.tile here_t n.after o.tile (tile_of_node s n.after o there) (back_near o less there)
-
-  -- a live one there touches as the only one
-  pub live_before : (o : Node) → n.tile.start ≢ 0 → get s n.before ≡ Some o → o.tile.free ≡ false → IsFirst x (tile_in s)
-  live_before o some there live k c z is_c is_z both =
-      let e = one_tile (tile_in s) x x z n.tile is_z here_t refl in
-      let near : AreNeighbours c n.tile = record { chunk = both.chunk ∙ ap (λ (t : Tile). t.chunk) e; meet = both.meet ∙ ap (λ (t : Tile). t.start) e } in
-      let key : n.before ≡ k = sym (ap before_of at) ∙ (beside.linked k x c n.tile is_c here_t near).1 in
-      not_both c o.tile (one_tile (tile_in s) k n.before c o.tile is_c (tile_of_node s n.before o there) (sym key)) both.left live
-
-  pub live_after : (o : Node) → get s n.after ≡ Some o → o.tile.free ≡ false → IsLast x (tile_in s)
-  live_after o there live k c z is_c is_z both =
-      let e = one_tile (tile_in s) x x z n.tile is_z here_t refl in
-      let near : AreNeighbours n.tile c = record { chunk = sym (ap (λ (t : Tile). t.chunk) e) ∙ both.chunk; meet = sym (ap (λ (t : Tile). t.end) e) ∙ both.meet } in
-      let key : n.after ≡ k = sym (ap after_of at) ∙ (beside.linked x k n.tile c here_t is_c near).0 in
-      not_both c o.tile (one_tile (tile_in s) k n.after c o.tile is_c (tile_of_node s n.after o there) (sym key)) both.right live
 
   -- then all is kept
   pub kept_beside : IsFirst x (tile_in s) → IsLast x (tile_in s) → AreNodesKept size s

@@ -1,12 +1,12 @@
 -- All tiles are searched for one of a kind.
-use Rattle.std.proofs.Common.{◌≡◌, ◌∷◌, ℕ, List, Contains, [], Some, inl, inr, ap}
+use Rattle.std.proofs.Common.{◌≡◌, ◌∷◌, ℕ, List, Contains, Some, inl, inr, ap}
 use Rattle.slab.specs.Slab.{Slab, get, entries}
 use Rattle.slab.proofs.SlabLemmas.{Contains-cons, Contains-cons_cases, Contains-entries}
-use Rattle.gpu_alloc_base.proofs.Lists.{contains_head, contains_none}
+use Rattle.gpu_alloc_base.proofs.Lists.{contains_head}
 use Rattle.gpu_alloc_runs.specs.Tiles.{tile_in}
 use Rattle.gpu_alloc_runs.specs.declared.tile.Node.{Node}
 use Rattle.gpu_alloc_runs.specs.declared.tile.Tile.{Tile}
-use Rattle.gpu_alloc_runs.proofs.Nodes.{node_of_tile, tile_of_node}
+use Rattle.gpu_alloc_runs.proofs.Nodes.{tile_of_node}
 
 -- those of the kind are among the entries that are left, and these are of the slab
 pub record AreLeft (nodes : Slab Node) (P : Tile → Type 0) (rest : List (ℕ × Node)) : Type 0 where
@@ -35,8 +35,3 @@ module _ (nodes : Slab Node) (P : Tile → Type 0) where
 
     pub is_found : P n.tile → (a : Tile) × ((tile_in nodes k ≡ Some a) × P a)
     is_found yes' = (n.tile, (tile_of_node nodes k n own_node, yes'))
-
-  pub none_left : AreLeft nodes P [] → (k : ℕ) → (a : Tile) × ((tile_in nodes k ≡ Some a) × P a) → ⊥
-  none_left left k h =
-      let n = node_of_tile nodes k h.0 h.1.0 in
-      contains_none (k, n.0) (left.all k n.0 n.1 (rw n.2 h.1.1))

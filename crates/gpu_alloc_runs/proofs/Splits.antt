@@ -2,7 +2,7 @@
 use Rattle.std.proofs.Common.{◌≡◌, ◌≢◌, inl, inr, ◌⊎◌, ℕ, ◌<◌, ◌≤◌, true, false, Option, Some, None, refl, sym, ◌∙◌, ap, subst, arith}
 use Rattle.std.proofs.lemmas.Bool.{cases_lt, cases_eq}
 use Rattle.gpu_alloc_runs.specs.Links.{AreLinked}
-use Rattle.gpu_alloc_runs.specs.Tiles.{AreNeighbours, IsCalm, IsFreeRight, IsTiled, KeepsElsewhere, KeepsOthers}
+use Rattle.gpu_alloc_runs.specs.Tiles.{AreNeighbours, IsCalm, IsFreeRight, IsTiled}
 use Rattle.gpu_alloc_runs.specs.declared.tile.Tile.{Tile}
 use Rattle.gpu_alloc_runs.proofs.Tiles.{IsJoint, Splits, not_both, one_tile}
 
@@ -10,9 +10,6 @@ use Rattle.gpu_alloc_runs.proofs.Tiles.{IsJoint, Splits, not_both, one_tile}
 
 module _ (chunks : ℕ → ℕ) (T T' : ℕ → Option Tile) (x y l r : ℕ) (p q n o m : Tile) (tiled : IsTiled chunks T) (at : T x ≡ Some m) (splits : Splits T T' x y n o) (joint : IsJoint p q m)
     (some_p : p.start < p.end) (some_q : q.start < q.end) (at_l : T' l ≡ Some p) (at_r : T' r ≡ Some q) (which : ((l ≡ x) × (r ≡ y)) ⊎ ((l ≡ y) × (r ≡ x))) where
-  new_else : y ≢ x
-  new_else e = let none : None ≡ Some m = sym splits.fresh ∙ ap T e ∙ at in cc
-
   came_cut : (k : ℕ) (c : Tile) → T' k ≡ Some c → ((k ≡ l) × (c ≡ p)) ⊎ (((k ≡ r) × (c ≡ q)) ⊎ ((k ≢ x) × (k ≢ y) × (T k ≡ Some c)))
   came_cut k c is = elim (cases_eq k l) [
     | inl here ↦ inl (here, one_tile T' k l c p is at_l here)
@@ -115,13 +112,6 @@ module _ (chunks : ℕ → ℕ) (T T' : ℕ → Option Tile) (x y l r : ℕ) (p 
       let some = cut_tiled.nonempty k c is in
       cut_tiled.apart k r c q is at_r (chunk ∙ joint.chunk) (omega (arith, some_q, meet, joint.meet)) (omega (arith, some, meet, joint.meet))
 
-  pub split_elsewhere : KeepsElsewhere m.chunk T T'
-  split_elsewhere k a is other =
-      splits.others k
-      (λ same. other (ap (λ (t : Tile). t.chunk) (one_tile T k x a m is at same)))
-      (λ same. let none : None ≡ Some a = sym splits.fresh ∙ sym (ap T same) ∙ is in cc)
-      ∙ is
-
   -- keys of neighbours stay true
   pub split_linked : (before after before' after' : ℕ → ℕ) → AreLinked T before after → after' l ≡ r → before' r ≡ l
       → ((j : ℕ) (a : Tile) → T j ≡ Some a → AreNeighbours a m → (after' j ≡ l) × (before' l ≡ j))
@@ -170,17 +160,6 @@ free_one T T' x y n o at_x at_y live others k c is c_free = elim (cases_eq k x) 
 -- The rest of a live tile is live, and what is cut off is free: o, which no free tile touches.
 module _ (chunks : ℕ → ℕ) (T T' : ℕ → Option Tile) (x y : ℕ) (n o m : Tile) (tiled : IsTiled chunks T) (calm : IsCalm T) (at : T x ≡ Some m) (live : n.free ≡ false) (o_free : o.free ≡ true) (splits : Splits T T' x y n o)
     (some_n : n.start < n.end) (some_o : o.start < o.end) where
-  pub others_cut : KeepsOthers T T' x
-  others_cut = record {
-    stays = λ k c ne h.
-        let ne_y : k ≢ y = λ e. (let none : None ≡ Some c = sym splits.fresh ∙ sym (ap T e) ∙ h.0 in cc) in
-        (splits.others k ne ne_y ∙ h.0, h.1);
-    was = λ k c ne h. elim (cases_eq k y) [
-      | inl here ↦ absurd (not_both o c (sym (one_tile T' k y c o h.0 splits.new here)) o_free h.1)
-      | inr ne_y ↦ (sym (splits.others k ne ne_y) ∙ h.0, h.1)
-    ];
-  }
-
   -- a free tile is the new one, or was one
   free_came : (k : ℕ) (c : Tile) → T' k ≡ Some c → c.free ≡ true → ((k ≡ y) × (c ≡ o)) ⊎ ((k ≢ y) × (T k ≡ Some c))
   free_came = free_one T T' y x o n splits.new splits.rest live (λ k ne_y ne_x. splits.others k ne_x ne_y)
@@ -201,17 +180,6 @@ module _ (chunks : ℕ → ℕ) (T T' : ℕ → Option Tile) (x y : ℕ) (n o m 
 -- The end of a free tile becomes a live one: o, under y. The front of it stays free: n, under x.
 module _ (chunks : ℕ → ℕ) (T T' : ℕ → Option Tile) (x y : ℕ) (n o m : Tile) (tiled : IsTiled chunks T) (calm : IsCalm T) (at : T x ≡ Some m) (free : m.free ≡ true) (n_free : n.free ≡ true) (live : o.free ≡ false) (splits : Splits T T' x y n o)
     (some_n : n.start < n.end) (some_o : o.start < o.end) (joint : IsJoint n o m) where
-  pub others_end : KeepsOthers T T' y
-  others_end = record {
-    stays = λ k c ne h.
-        let ne_x : k ≢ x = λ e. not_both m c (sym (one_tile T k x c m h.0 at e)) free h.1 in
-        (splits.others k ne_x ne ∙ h.0, h.1);
-    was = λ k c ne h. elim (cases_eq k x) [
-      | inl here ↦ absurd (not_both n c (sym (one_tile T' k x c n h.0 splits.rest here)) n_free h.1)
-      | inr ne_x ↦ (sym (splits.others k ne_x ne) ∙ h.0, h.1)
-    ];
-  }
-
   -- a free tile is the front, or was one
   free_end : (k : ℕ) (c : Tile) → T' k ≡ Some c → c.free ≡ true → ((k ≡ x) × (c ≡ n)) ⊎ ((k ≢ x) × (T k ≡ Some c))
   free_end = free_one T T' x y n o splits.rest splits.new live splits.others

@@ -82,14 +82,6 @@ module _ {M : Type 0} (object : M → ℕ) (rows rows' : Slab (Row M)) (nodes no
     whole_last = λ k a at free start end. ap down_of (same_node k) ∙ store.whole_last k a (sym (ap tile_of (same_node k)) ∙ at) free start (end ∙ ap row_size (same_row a.chunk));
   }
 
--- chunks are shorter than 2^64 bytes
-pub sizes_bounded : {M : Type 0} (object : M → ℕ) (rows : Slab (Row M)) (nodes : Slab Node) (spare : Option ℕ) → IsStoredInTiles object rows nodes spare → (key : ℕ) → chunk_size_in rows key < 2 ^ 64
-sizes_bounded {M} object rows nodes spare stored key = cases (get rows key) refl
-  where
-    cases : (o : Option (Row M)) → get rows key ≡ o → row_size o < 2 ^ 64
-    cases None e = omega arith
-    cases (Some row) e = (stored.sizes key row e).1
-
 module _ {M : Type 0} (object : M → ℕ) (rows : Slab (Row M)) (nodes : Slab Node) (kept : AreNodesKept (chunk_size_in rows) nodes) where
   abbrev chunks : HeldChunks
   chunks = chunks_of_rows object rows

@@ -53,9 +53,6 @@ pub record AreTheFree (s : State) (t : ℕ) : Type 0 where
   pub nonempty : (r : FreeRange) → IsFreeRangeOf s t r → r.start < r.end
 
 module _ (s : State) (object : ℕ) (h : HeldObject) (live : List LiveBlock) (free : List FreeRange) (k : IsKnownOf s object h live free) (law : AreTheFree s h.memory_type) where
-  of_block : LiveBlock → Bool
-  of_block b = b.object == object
-
   -- A live block of the object.
   record IsBlock (b : LiveBlock) : Type 0 where
     has : Contains live b

@@ -30,10 +30,6 @@ goes_on {a} {b} {c} {xs} {ys} {i} {j} {k} first second = record {
   on = λ text before is. subst (λ t. IsTextWritten t before c k) (append_assoc text xs ys) (second.on (text ++ xs) before (first.on text before is));
 }
 
--- nothing more
-pub stays : (a : List ℕ) (i : ℕ) → GoesOn a i [] a i
-stays a i = record { on = λ text before is. subst (λ t. IsTextWritten t before a i) (sym (append-nil text)) is }
-
 -- the whole text, from the start on
 pub written : {old text new : List ℕ} {end : ℕ} → GoesOn old 0 text new end → IsTextWritten text old new end
 written {old} goes = goes.on [] old (record { bytes = refl; length = refl })

@@ -24,11 +24,6 @@ in_use o b rest there = ap (λ x. fault_of_new_name x rest) there
 pub new_name : (o : Option Block) (rest : Option Fault) → o ≡ None → fault_of_new_name o rest ≡ rest
 new_name o rest none = ap (λ x. fault_of_new_name x rest) none
 
--- a new name without a fault had no block
-pub was_new : (o : Option Block) (rest : Option Fault) → fault_of_new_name o rest ≡ None → o ≡ None
-was_new None rest e = refl
-was_new (Some b) rest e = absurd (cc)
-
 -- a request that was tested by what the session keeps of the device's properties
 pub tested_request : {A : Type 0} {p : Properties} {objects : ℕ → Option Object} {s : Books} {o : Offer A} → IsSessionKept p objects s o
     → (r : Request) (fault : Option Fault) → fault_of_request o.buffer_device_address r ≡ fault → fault_of_request (s.allocator.properties).buffer_device_address r ≡ fault

@@ -10,7 +10,7 @@ use Rattle.gpu_alloc_base.specs.Chunks.{Chunk}
 use Rattle.gpu_alloc_block.specs.Parts.{ArePartsApart, Chunks, HaveOwnObjects, IsAt, Makes, Part, by_name, by_span, held_in_parts, live_in_parts}
 use Rattle.gpu_alloc_block.specs.State.{HeldObject, Span}
 use Rattle.gpu_alloc_block.proofs.Parts.ByName.{fresh_name, name_comes, name_goes, name_there, span_row_comes, span_row_goes, span_row_there}
-use Rattle.gpu_alloc_block.proofs.Parts.Steps.{holds_of, object_comes, object_goes, last_goes, span_comes, span_goes}
+use Rattle.gpu_alloc_block.proofs.Parts.Steps.{object_comes, object_goes, span_comes, span_goes}
 use Rattle.gpu_alloc_block.proofs.Parts.Unions.{none_at}
 
 module _ {K : Type 0} {R : K → K → Ordering} (total : IsTotalOrder R) (exact : IsAntisymmetric R) (span : K → Span) (IsPlace : ℕ → HeldObject → Type 0) (ps : List Part) (apart : ArePartsApart IsPlace ps) (i : ℕ)
@@ -20,10 +20,6 @@ module _ {K : Type 0} {R : K → K → Ordering} (total : IsTotalOrder R) (exact
 
   there : (key : ℕ) (c : Chunk) → map.get chunks key ≡ Some c → map.get part.held c.object ≡ Some (g key c)
   there key c is = name_there g chunks named key c is
-
-  -- what it holds, all hold
-  pub chunk_held : (key : ℕ) (c : Chunk) → map.get chunks key ≡ Some c → map.get (held_in_parts ps) c.object ≡ Some (g key c)
-  chunk_held key c is = holds_of IsPlace ps apart i part c.object (g key c) at (there key c is)
 
   module _ (new : Part) where
     pub row_comes : (k : K) (key : ℕ) (c : Chunk) → map.get chunks key ≡ Some c → (span k).object ≡ c.object → new.held ≡ by_name g chunks → new.live ≡ by_span span (set_of.insert rows k)
@@ -51,10 +47,3 @@ module _ {K : Type 0} {R : K → K → Ordering} (total : IsTotalOrder R) (exact
       pub row_goes : new.held ≡ by_name g chunks → Makes IsPlace (set ps i new) (held_in_parts ps) (set_of.remove (live_in_parts ps) (span k))
       row_goes held =
           span_goes IsPlace ps apart i part new at (span k) (g key c) (ap (map.get part.held) same ∙ there key c is) held (live ∙ span_row_goes total exact span rows k once live_row)
-
-      pub last_row_goes : ((other : K) → IsTrue (set_of.contains rows other) → (span other).object ≡ c.object → other ≡ k) → new.held ≡ by_name g (map.remove chunks key)
-          → Makes IsPlace (set ps i new) (map.remove (held_in_parts ps) (span k).object) (set_of.remove (live_in_parts ps) (span k))
-      last_row_goes last held =
-          last_goes IsPlace ps apart i part new at (span k) (g key c) (ap (map.get part.held) same ∙ there key c is)
-          (λ other stood named_so. let row = span_row_there total exact span rows other stood in sym row.2 ∙ ap span (last row.0 row.1 (ap (λ (x : Span). x.object) row.2 ∙ named_so ∙ same)))
-          (held ∙ name_goes g chunks named key c is ∙ ap (map.remove part.held) (sym same)) (live ∙ span_row_goes total exact span rows k once live_row)
