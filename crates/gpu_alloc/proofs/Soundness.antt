@@ -4,9 +4,11 @@ use Rattle.std.proofs.lemmas.Bool.{cases_eq, cases_lt, cases_Bool}
 use Rattle.std.proofs.lemmas.Nat.{pow_pos}
 use Rattle.std.specs.FinMap as map
 use Rattle.gpu_alloc_types.specs.Properties.{Properties, atom_of, heap_size, is_non_coherent}
+use Rattle.gpu_alloc_buddy.specs.BuddyRule.{buddy_rule}
 use Rattle.gpu_alloc_buddy.specs.BuddyState.{Buddy, IsLiveBuddyLeaf}
 use Rattle.gpu_alloc_base.specs.Chunks.{Chunk}
 use Rattle.gpu_alloc_base.specs.declared.buddy_block.Leaf.{Leaf}
+use Rattle.gpu_alloc_freelist.specs.FreeListRule.{list_rule}
 use Rattle.gpu_alloc_freelist.specs.FreeListState.{FreeListState, IsLiveSlot}
 use Rattle.gpu_alloc_base.specs.FreeSpace.{IsIn, IsMultipleOf, IsPowerOfTwo}
 use Rattle.gpu_alloc.specs.Atoms.{KeepsAtoms, IsNextFitChunk, IsNextListChunk}
@@ -14,12 +16,11 @@ use Rattle.gpu_alloc.specs.FitSharing.{fit_chunk_of, grain, grain_of, next_fit_c
 use Rattle.gpu_alloc.specs.FreeListSharing.{IsListChunk, latest_number, list_chunk_of, next_list_chunk, number_of}
 use Rattle.gpu_alloc.specs.FirstTypes.{first_types, first_type_state}
 use Rattle.gpu_alloc.specs.Inside.{state_in, types_with, properties_in, IsLiveIn, IsKnown, offer_of}
-use Rattle.gpu_alloc.specs.StoresFor.{span_of_leaf, span_of_slot}
 use Rattle.gpu_alloc.proofs.Wholes.{read_is, stands_at}
 use Rattle.gpu_alloc.proofs.Linked.{IsBuddyOf, IsChosenOf, IsConsistent, IsEachOf, IsFitOf, IsListOf}
 use Rattle.gpu_alloc.specs.Sound.{IsSound, IsUnused, LiesIn, is_chosen, may_be_unused}
 use Rattle.gpu_alloc.specs.Spans.{Table}
-use Rattle.gpu_alloc.specs.Stores.{chosen_sizes, type_sizes}
+use Rattle.gpu_alloc.specs.Stores.{block_span, chosen_sizes, type_sizes}
 use Rattle.gpu_alloc.specs.declared.allocator.stores.Chosen.{Chosen}
 use Rattle.gpu_alloc.specs.declared.allocator.stores.Chosen.TheVariants.{Buddy as InBuddies, Fit as InFits}
 use Rattle.gpu_alloc_base.specs.Sizes.{starting_size}
@@ -47,6 +48,7 @@ use Rattle.gpu_alloc.proofs.Atoms.{atom_power}
 use Rattle.gpu_alloc_base.proofs.Maps.{one_value}
 use Rattle.gpu_alloc_base.proofs.PowersOfTwo.{power_of_bit}
 use Rattle.gpu_alloc_fit.specs.Fit.{FitState}
+use Rattle.gpu_alloc_fit.specs.FitRule.{fit_rule}
 use Rattle.gpu_alloc_runs.specs.Space.{IsWhollyFree, IsLiveSlot as IsLiveFit}
 use Rattle.gpu_alloc.specs.declared.allocator.stores.TypeStores.{TypeStores}
 
@@ -92,7 +94,7 @@ module _ {c : Config} {p : Properties} {t : Table} {b : Buddy} {object : ℕ} {h
   by_key = let there = is.linked.objects object h held_as in (there.0, there.1)
 
   -- a live span is a live block of the chunk
-  leaf_of : (span : Span) → IsLiveIn t span → span.object ≡ object → (leaf : Leaf) × IsLiveBuddyLeaf b leaf × (span_of_leaf leaf ≡ span)
+  leaf_of : (span : Span) → IsLiveIn t span → span.object ≡ object → (leaf : Leaf) × IsLiveBuddyLeaf b leaf × (block_span buddy_rule leaf ≡ span)
   leaf_of span live named = is.linked.spans span h live (subst (λ o. IsHeldAs buddy_named t b o h) (sym named) held_as)
 
   of_chunk : (leaf : Leaf) → IsLiveBuddyLeaf b leaf → leaf.object ≡ object → (leaf.chunk ≡ by_key.0) × (leaf.offset + leaf.size ≤ h.counted) × (0 < leaf.size)
@@ -122,14 +124,14 @@ module _ {c : Config} {p : Properties} {t : Table} {b : Buddy} {object : ℕ} {h
       subst (λ (s : Span). (s.offset + s.size ≤ y.offset) ⊎ (y.offset + y.size ≤ s.offset)) leaf.2
       (subst (λ (s : Span). (leaf.0.offset + leaf.0.size ≤ s.offset) ⊎ (s.offset + s.size ≤ leaf.0.offset)) leaf'.2
       (ranges_apart leaf.0.offset leaf.0.size leaf'.0.offset leaf'.0.size of.2 of'.2
-      (λ at i j. other (sym leaf.2 ∙ ap span_of_leaf (is.sound.space.apart leaf.0 leaf'.0 leaf.1 leaf'.1 (of.0 ∙ sym of'.0) at i j) ∙ leaf'.2))))
+      (λ at i j. other (sym leaf.2 ∙ ap (block_span buddy_rule) (is.sound.space.apart leaf.0 leaf'.0 leaf.1 leaf'.1 (of.0 ∙ sym of'.0) at i j) ∙ leaf'.2))))
 
   chunk_used : HasSpan t object
   chunk_used =
       let leaf = is.sound.space.used by_key.0 (chunk_at object h) by_key.1 in
       let lies = is.sound.space.inside leaf.0 leaf.1.0 in
       let same : lies.chunk ≡ chunk_at object h = one_value _ lies.chunk (chunk_at object h) lies.held (ap (λ k. map.get b.chunks k) leaf.1.1 ∙ by_key.1) in
-      (span_of_leaf leaf.0, is.linked.blocks leaf.0 leaf.1.0, lies.object ∙ ap (λ (x : Chunk). x.object) same)
+      (block_span buddy_rule leaf.0, is.linked.blocks leaf.0 leaf.1.0, lies.object ∙ ap (λ (x : Chunk). x.object) same)
 
 -- A chunk of a free list.
 
@@ -152,7 +154,7 @@ module _ {c : Config} {p : Properties} {t : Table} {l : FreeListState} {object n
       let slot = slot_of x live named in
       let slot' = slot_of y also same in
       ranges_apart x.offset x.size y.offset y.size (of_slot x named slot).1 (of_slot y same slot').1
-      (λ at i j. other (ap span_of_slot (is.sound.space.apart (slot_at x number) (slot_at y number) slot slot' refl at i j)))
+      (λ at i j. other (ap (block_span list_rule) (is.sound.space.apart (slot_at x number) (slot_at y number) slot slot' refl at i j)))
 
 -- A fit chunk.
 
@@ -188,7 +190,7 @@ module _ {c : Config} {p : Properties} {t : Table} {f : FitState} {object : ℕ}
       let of = of_fit x slot.0 slot.1 named in
       let of' = of_fit y slot'.0 slot'.1 same in
       ranges_apart x.offset x.size y.offset y.size of.2 of'.2
-      (λ at i j. other (ap span_of_slot (is.sound.space.apart (slot_at x slot.0) (slot_at y slot'.0) slot.1 slot'.1 (of.0 ∙ sym of'.0) at i j)))
+      (λ at i j. other (ap (block_span fit_rule) (is.sound.space.apart (slot_at x slot.0) (slot_at y slot'.0) slot.1 slot'.1 (of.0 ∙ sym of'.0) at i j)))
 
   -- a live span lies in it from grain to grain
   fit_grains : (span : Span) → IsLiveIn t span → span.object ≡ object → IsMultipleOf (grain (atom_of p h.memory_type)) span.offset × IsMultipleOf (grain (atom_of p h.memory_type)) span.size
@@ -203,7 +205,7 @@ module _ {c : Config} {p : Properties} {t : Table} {f : FitState} {object : ℕ}
     unused = λ slot live there.
         let lies = is.sound.space.inside slot live in
         let same : lies.chunk ≡ chunk_at object h = one_value _ lies.chunk (chunk_at object h) lies.held (ap (λ k. map.get f.space.chunks k) there ∙ fit_key.1) in
-        unused (span_of_slot slot) (is.linked.blocks slot live) (lies.object ∙ ap (λ (x : Chunk). x.object) same);
+        unused (block_span fit_rule slot) (is.linked.blocks slot live) (lies.object ∙ ap (λ (x : Chunk). x.object) same);
   }
 
 -- Each held object.

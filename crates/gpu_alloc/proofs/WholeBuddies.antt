@@ -9,15 +9,14 @@ use Rattle.gpu_alloc_base.specs.declared.buddy_block.Leaf.{Leaf}
 use Rattle.gpu_alloc_base.proofs.Leaves.{leaf_exact, leaf_total}
 use Rattle.gpu_alloc_block.specs.Parts.{HaveOwnObjects}
 use Rattle.gpu_alloc_block.specs.declared.block.Kind.TheVariants.{BuddyChunk}
+use Rattle.gpu_alloc_buddy.specs.BuddyRule.{buddy_rule}
 use Rattle.gpu_alloc_buddy.specs.BuddySound.{IsSoundBuddy}
 use Rattle.gpu_alloc_buddy.specs.BuddyState.{Buddy}
 use Rattle.gpu_alloc_pairs.specs.HeldLists.{ListsChunks}
 use Rattle.gpu_alloc_pairs.specs.declared.pairs.Chunk.{Chunk as Row}
-use Rattle.gpu_alloc.specs.StoresFor.{chunk_object, span_of_leaf}
 use Rattle.gpu_alloc.specs.Listing.{AreOnce}
 use Rattle.gpu_alloc.specs.Spans.{span_in}
-use Rattle.gpu_alloc.specs.Stores.{part}
-use Rattle.gpu_alloc_buddy.specs.BuddyRule.{buddy_rule}
+use Rattle.gpu_alloc.specs.Stores.{block_span, chunk_row, part}
 use Rattle.gpu_alloc.specs.declared.spans.HeldRow.{HeldRow}
 use Rattle.gpu_alloc.proofs.WholeRows.{AreRowsOf, key_listed, listed_by_key, rows_of, own_spans_are, own_spans_once}
 use Rattle.gpu_alloc.proofs.Wholes.{one_buddy}
@@ -39,14 +38,14 @@ module _ {M : Type 0} (object : M → ℕ) (b : Buddy) (named : HaveOwnObjects b
 
   pub buddy_rows : (memory_type : ℕ) → b.memory_type ≡ memory_type → AreRowsOf (part buddy_rule (λ key. BuddyChunk) b).held (buddy_row object memory_type) listed
   buddy_rows memory_type typed =
-      rows_of named (listed_by_key said b.chunks named lists.rows lists.exact listed lists.are) (λ _. chunk_object b) (buddy_row object memory_type)
+      rows_of named (listed_by_key said b.chunks named lists.rows lists.exact listed lists.are) (chunk_row buddy_rule (λ key. BuddyChunk) b) (buddy_row object memory_type)
       (λ e i. (object e.1.memory, record { memory_type = sym typed i; counted = 2 ^ e.1.order; kind = BuddyChunk }))
 
 -- Its live blocks.
 
 module _ (b : Buddy) (sound : IsSoundBuddy b) (leaves : List Leaf) (exact : set.from_list leaves ≡ b.live) (once : IsDistinct (eq_by_cmp leaf_cmp) leaves) where
   pub leaf_rows_are : set.from_list (map span_in leaves) ≡ (part buddy_rule (λ key. BuddyChunk) b).live
-  leaf_rows_are = own_spans_are leaf_total leaf_exact span_of_leaf b.live (one_buddy b sound) leaves exact once
+  leaf_rows_are = own_spans_are leaf_total leaf_exact (block_span buddy_rule) b.live (one_buddy b sound) leaves exact once
 
   pub leaf_rows_once : AreOnce (map span_in leaves)
-  leaf_rows_once = own_spans_once leaf_total leaf_exact span_of_leaf b.live (one_buddy b sound) leaves exact once
+  leaf_rows_once = own_spans_once leaf_total leaf_exact (block_span buddy_rule) b.live (one_buddy b sound) leaves exact once

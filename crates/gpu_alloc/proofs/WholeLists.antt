@@ -21,14 +21,14 @@ use Rattle.gpu_alloc_block.specs.Parts.{HaveOwnObjects}
 use Rattle.gpu_alloc_block.specs.State.{Span, span_cmp}
 use Rattle.gpu_alloc_block.specs.declared.block.Kind.TheVariants.{FreeListChunk}
 use Rattle.gpu_alloc_freelist.specs.Chunks.{ListsChunks, chunk_of}
+use Rattle.gpu_alloc_freelist.specs.FreeListRule.{list_rule}
 use Rattle.gpu_alloc_freelist.specs.FreeListSound.{IsSoundFreeList}
 use Rattle.gpu_alloc_freelist.specs.FreeListState.{FreeListState}
 use Rattle.gpu_alloc_freelist.specs.Live.{ListsSlots}
 use Rattle.gpu_alloc_freelist.specs.declared.freelist.chunks.NumberedChunk.{NumberedChunk}
-use Rattle.gpu_alloc.specs.StoresFor.{list_object, span_of_slot}
 use Rattle.gpu_alloc.specs.Listing.{AreOnce}
 use Rattle.gpu_alloc.specs.Spans.{span_in}
-use Rattle.gpu_alloc.specs.Stores.{list_part}
+use Rattle.gpu_alloc.specs.Stores.{block_span, chunk_row, list_part}
 use Rattle.gpu_alloc.specs.declared.spans.HeldRow.{HeldRow}
 use Rattle.gpu_alloc_base.specs.declared.buddy_block.Leaf.{Leaf as LiveSpan}
 use Rattle.gpu_alloc.proofs.Tables.Listed.{mapped_twice, once_named, rows_apart}
@@ -38,8 +38,8 @@ use Rattle.gpu_alloc.proofs.Wholes.{one_slot}
 -- A free list's chunks.
 
 -- what a chunk of a memory type is listed as
-abbrev pub chunk_row : {M : Type 0} → (M → ℕ) → ℕ → ℕ × NumberedChunk M → ℕ × HeldRow
-chunk_row object memory_type e =
+abbrev pub list_row : {M : Type 0} → (M → ℕ) → ℕ → ℕ × NumberedChunk M → ℕ × HeldRow
+list_row object memory_type e =
     (object e.1.memory, record { memory_type = memory_type; counted = e.1.size; kind = FreeListChunk e.1.number })
 
 module _ {M : Type 0} (object : M → ℕ) (l : FreeListState) (named : HaveOwnObjects l.space.chunks) (listed : List (ℕ × NumberedChunk M)) (lists : ListsChunks object l.space.chunks listed) where
@@ -81,9 +81,9 @@ module _ {M : Type 0} (object : M → ℕ) (l : FreeListState) (named : HaveOwnO
   apart : AreNamedApart (λ (e : ℕ × NumberedChunk M). object e.1.memory) listed
   apart = subst (AreNamedApart (λ (e : ℕ × NumberedChunk M). object e.1.memory)) (sym lists.are) (rows_apart (λ (row : NumberedChunk M). object row.memory) lists.rows one_key)
 
-  pub chunk_rows : (memory_type : ℕ) → l.memory_type ≡ memory_type → AreRowsOf (list_part l).held (chunk_row object memory_type) listed
-  chunk_rows memory_type typed =
-      rows_of named (record { held = as_held; all = entry_for; apart = apart }) (list_object l) (chunk_row object memory_type)
+  pub list_rows : (memory_type : ℕ) → l.memory_type ≡ memory_type → AreRowsOf (list_part l).held (list_row object memory_type) listed
+  list_rows memory_type typed =
+      rows_of named (record { held = as_held; all = entry_for; apart = apart }) (chunk_row list_rule FreeListChunk l) (list_row object memory_type)
       (λ e i. (object e.1.memory, record { memory_type = sym typed i; counted = e.1.size; kind = FreeListChunk e.1.number }))
 
 -- Its live blocks.
@@ -103,12 +103,12 @@ module _ (l : FreeListState) (sound : IsSoundFreeList l) (listed : List (ℕ × 
       let same = ap (λ (s : set.FinSet slot_cmp). set.contains s slot) lists.exact in
       (λ live. of_rows.0 (sym same ∙ live), λ there. same ∙ of_rows.1 there)
 
-  one_row : HasOneKeyEach span_of_slot lists.slots
+  one_row : HasOneKeyEach (block_span list_rule) lists.slots
   one_row i k a b at_i at_k same =
       lists.once i k a b at_i at_k (one_slot l sound a b ((is_live a).1 (i, a, at_i, refl)) ((is_live b).1 (k, b, at_k, refl)) same)
 
-  spans_apart : AreNamedApart (λ (e : ℕ × Slot). span_of_slot e.1) listed
-  spans_apart = subst (AreNamedApart (λ (e : ℕ × Slot). span_of_slot e.1)) (sym lists.are) (rows_apart span_of_slot lists.slots one_row)
+  spans_apart : AreNamedApart (λ (e : ℕ × Slot). block_span list_rule e.1) listed
+  spans_apart = subst (AreNamedApart (λ (e : ℕ × Slot). block_span list_rule e.1)) (sym lists.are) (rows_apart (block_span list_rule) lists.slots one_row)
 
   abbrev block : ℕ × Slot → Slot
   block e = e.1
@@ -121,11 +121,11 @@ module _ (l : FreeListState) (sound : IsSoundFreeList l) (listed : List (ℕ × 
     λ there. (is_live slot).1 (there.0.0, there.0.1, under there.0 there.1, there.2),
   )
 
-  named_so : map span_in (map slot_row listed) ≡ map (λ (e : ℕ × Slot). span_of_slot e.1) listed
-  named_so = mapped_twice slot_row span_in (λ e. span_of_slot e.1) (λ e. refl) listed
+  named_so : map span_in (map slot_row listed) ≡ map (λ (e : ℕ × Slot). block_span list_rule e.1) listed
+  named_so = mapped_twice slot_row span_in (λ e. block_span list_rule e.1) (λ e. refl) listed
 
   pub slot_rows_are : set.from_list (map span_in (map slot_row listed)) ≡ (list_part l).live
-  slot_rows_are = ap (λ (xs : List Span). set.from_list {R = span_cmp} xs) named_so ∙ spans_are slot_total slot_exact span_of_slot l.space.live block listed listed_live
+  slot_rows_are = ap (λ (xs : List Span). set.from_list {R = span_cmp} xs) named_so ∙ spans_are slot_total slot_exact (block_span list_rule) l.space.live block listed listed_live
 
   pub slot_rows_once : AreOnce (map span_in (map slot_row listed))
-  slot_rows_once = subst AreOnce (sym named_so) (once_named (λ (e : ℕ × Slot). span_of_slot e.1) listed spans_apart)
+  slot_rows_once = subst AreOnce (sym named_so) (once_named (λ (e : ℕ × Slot). block_span list_rule e.1) listed spans_apart)

@@ -20,7 +20,7 @@ use Rattle.gpu_alloc.specs.declared.allocator.stores.TypeStores.{TypeStores}
 use Rattle.gpu_alloc.specs.declared.spans.HeldRow.{HeldRow}
 use Rattle.gpu_alloc.proofs.WholeBuddies.{buddy_row, buddy_rows, is_short}
 use Rattle.gpu_alloc.proofs.WholeFits.{fit_row, fit_rows}
-use Rattle.gpu_alloc.proofs.WholeLists.{chunk_row, chunk_rows}
+use Rattle.gpu_alloc.proofs.WholeLists.{list_row, list_rows}
 use Rattle.gpu_alloc.proofs.WholeParts.{AreMet, Held, met_next}
 use Rattle.gpu_alloc.proofs.WholeRows.{AreRowsOf}
 
@@ -47,8 +47,8 @@ module _ {M X N : Type 0} (object : N → ℕ) {c : Config} {p : Properties} {sh
 
   -- Its free list.
 
-  pub list_rows_in : (listed : List (ℕ × NumberedChunk N)) → ListsNumbered object e.free_list.space.chunks listed → AreRowsOf (list_part e.free_list).held (chunk_row object i) listed
-  list_rows_in listed lists = chunk_rows object e.free_list its.free_list.sound.one_object listed lists i its.free_list.for_type.memory_type
+  pub list_rows_in : (listed : List (ℕ × NumberedChunk N)) → ListsNumbered object e.free_list.space.chunks listed → AreRowsOf (list_part e.free_list).held (list_row object i) listed
+  list_rows_in listed lists = list_rows object e.free_list its.free_list.sound.one_object listed lists i its.free_list.for_type.memory_type
 
 -- rows that are added to a list, of the first part of those that are left
 pub rows_met : {E : Type 0} (all : Held) (rows now : List (ℕ × HeldRow)) (p : Part) (ps : List Part) (row : E → ℕ × HeldRow) (listed : List E) → AreMet all rows (p ∷ ps) → AreRowsOf p.held row listed → now ≡ rows ++ map row listed → AreMet all now ps

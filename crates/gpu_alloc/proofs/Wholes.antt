@@ -18,15 +18,17 @@ use Rattle.gpu_alloc_block.proofs.Parts.ByName.{span_row_there}
 use Rattle.gpu_alloc_block.proofs.Parts.Entries.{there_entry}
 use Rattle.gpu_alloc_block.proofs.Parts.Steps.{holds_of, own_part, part_span, object_comes, last_goes}
 use Rattle.gpu_alloc_block.proofs.Parts.Unions.{none_at, none_of, live_at}
+use Rattle.gpu_alloc_buddy.specs.BuddyRule.{buddy_rule}
 use Rattle.gpu_alloc_buddy.specs.BuddySound.{IsSoundBuddy}
 use Rattle.gpu_alloc_buddy.specs.BuddyState.{Buddy, IsLiveBuddyLeaf, space_of}
 use Rattle.gpu_alloc_pairs.proofs.LiveSpans.{one_leaf}
+use Rattle.gpu_alloc_freelist.specs.FreeListRule.{list_rule}
 use Rattle.gpu_alloc_freelist.specs.FreeListSound.{IsSoundFreeList}
 use Rattle.gpu_alloc_freelist.specs.FreeListState.{FreeListState, IsLiveSlot}
+use Rattle.gpu_alloc_fit.specs.FitRule.{fit_rule}
 use Rattle.gpu_alloc_fit.specs.FitSound.{IsSoundFit}
 use Rattle.gpu_alloc_runs.specs.Space.{IsLiveSlot as IsLiveFit}
 use Rattle.gpu_alloc_shared.specs.Rule.{Rule}
-use Rattle.gpu_alloc.specs.StoresFor.{span_of_leaf, span_of_slot}
 use Rattle.gpu_alloc.specs.Own.{OwnTable, own_held, own_span, IsRowOf}
 use Rattle.gpu_alloc.specs.declared.own.OwnRow.{OwnRow}
 use Rattle.gpu_alloc.specs.Stores.{block_span, chosen_part, chunk_row, list_part, part, parts_in}
@@ -68,12 +70,6 @@ pub there_at : {X : Type 0} (xs : List X) (i : ℕ) (x : X) → IsAt xs i x → 
 there_at [] i x here = absurd here
 there_at (y ∷ ys) zero x here = ap Some here
 there_at (y ∷ ys) (suc i) x here = there_at ys i x here
-
--- what is read of a place twice is one
-pub one_read : {A : Type 0} (xs : List A) (i : ℕ) (x y : A) → i < length xs → x ≡ get_or xs i x → y ≡ get_or xs i y → x ≡ y
-one_read [] i x y inside a b = absurd (omega (arith, inside))
-one_read (z ∷ zs) zero x y inside a b = a ∙ sym b
-one_read (z ∷ zs) (suc i) x y inside a b = one_read zs i x y (omega (arith, inside)) a b
 
 -- Parts of one memory type.
 
@@ -143,22 +139,22 @@ module _ {M X : Type 0} (own now : OwnTable) (ss : List (TypeStores M X)) (apart
 -- A memory type's buddy allocator.
 
 -- no two live blocks have one span
-pub one_buddy : (b : Buddy) → IsSoundBuddy b → (x y : Leaf) → IsLiveBuddyLeaf b x → IsLiveBuddyLeaf b y → ◌≡◌ {A = Span} (span_of_leaf x) (span_of_leaf y) → x ≡ y
+pub one_buddy : (b : Buddy) → IsSoundBuddy b → (x y : Leaf) → IsLiveBuddyLeaf b x → IsLiveBuddyLeaf b y → block_span buddy_rule x ≡ block_span buddy_rule y → x ≡ y
 one_buddy b sound x y live also same = one_leaf (space_of b) sound.space x y live also (ap (λ (s : Span). s.object) same) (ap (λ (s : Span). s.offset) same)
 
 -- A memory type's free list, and its allocator of fit chunks.
 
 -- slots of chunks with objects of their own are one where their spans are
-same_slot : (chunks : Chunks) → HaveOwnObjects chunks → {a b : Slot} {c d : Chunk} → finite.get chunks a.chunk ≡ Some c → a.object ≡ c.object → finite.get chunks b.chunk ≡ Some d → b.object ≡ d.object → ◌≡◌ {A = Span} (span_of_slot a) (span_of_slot b) → a ≡ b
+same_slot : (chunks : Chunks) → HaveOwnObjects chunks → {a b : Slot} {c d : Chunk} → finite.get chunks a.chunk ≡ Some c → a.object ≡ c.object → finite.get chunks b.chunk ≡ Some d → b.object ≡ d.object → block_span list_rule a ≡ block_span list_rule b → a ≡ b
 same_slot chunks one {a} {b} {c} {d} held_a of_a held_b of_b same =
     let key = one a.chunk b.chunk c d held_a held_b (sym of_a ∙ ap (λ (s : Span). s.object) same ∙ of_b) in
     λ k. record { object = (same k).object; chunk = key k; offset = (same k).offset; size = (same k).size }
 
 -- so no two live slots have one span
-pub one_slot : (l : FreeListState) → IsSoundFreeList l → (a b : Slot) → IsLiveSlot l.space a → IsLiveSlot l.space b → ◌≡◌ {A = Span} (span_of_slot a) (span_of_slot b) → a ≡ b
+pub one_slot : (l : FreeListState) → IsSoundFreeList l → (a b : Slot) → IsLiveSlot l.space a → IsLiveSlot l.space b → block_span list_rule a ≡ block_span list_rule b → a ≡ b
 one_slot l sound a b live also = let lies = sound.space.inside in same_slot _ sound.one_object (lies a live).held (lies a live).object (lies b also).held (lies b also).object
 
-pub one_fit : (f : FitState) → IsSoundFit f → (a b : Slot) → IsLiveFit f.space a → IsLiveFit f.space b → ◌≡◌ {A = Span} (span_of_slot a) (span_of_slot b) → a ≡ b
+pub one_fit : (f : FitState) → IsSoundFit f → (a b : Slot) → IsLiveFit f.space a → IsLiveFit f.space b → block_span fit_rule a ≡ block_span fit_rule b → a ≡ b
 one_fit f sound a b live also = let lies = sound.space.inside in same_slot _ sound.space.one_object (lies a live).held (lies a live).object (lies b also).held (lies b also).object
 
 -- Where nothing is held.

@@ -4,11 +4,7 @@ use Rattle.std.specs.FinMap as map_of
 use Rattle.gpu_alloc_types.specs.Properties.{Properties, heap_size, props_at, atom_of}
 use Rattle.gpu_alloc_base.specs.Chunks.{Chunk}
 use Rattle.gpu_alloc_base.specs.Sizes.{minimal_size, final_size}
-use Rattle.gpu_alloc_base.specs.declared.buddy_block.Leaf.{Leaf}
 use Rattle.gpu_alloc_base.specs.declared.config.Config.{Config}
-use Rattle.gpu_alloc_base.specs.declared.free_list_block.Slot.{Slot}
-use Rattle.gpu_alloc_block.specs.State.{HeldObject, Span}
-use Rattle.gpu_alloc_block.specs.declared.block.Kind.TheVariants.{BuddyChunk, FreeListChunk, FitChunk}
 use Rattle.gpu_alloc_buddy.specs.BuddySound.{IsSoundBuddy}
 use Rattle.gpu_alloc_buddy.specs.BuddyState.{Buddy}
 use Rattle.gpu_alloc_fit.specs.Fit.{FitState}
@@ -18,13 +14,6 @@ use Rattle.gpu_alloc_freelist.specs.FreeListState.{FreeListState}
 use Rattle.gpu_alloc.specs.FitSharing.{IsFitChunkSize, grain, largest_fit}
 
 -- A buddy allocator.
-
--- a held chunk as an object
-abbrev pub chunk_object : Buddy → Chunk → HeldObject
-chunk_object b c = record { memory_type = b.memory_type; counted = c.size; kind = BuddyChunk }
-
-abbrev pub span_of_leaf : Leaf → Span
-span_of_leaf leaf = record { object = leaf.object; offset = leaf.offset; size = leaf.size }
 
 -- what a memory type's buddy allocator was given
 pub record IsForType (c : Config) (p : Properties) (index : ℕ) (b : Buddy) : Type 0 where
@@ -40,13 +29,6 @@ pub record IsBuddyFor (c : Config) (p : Properties) (index : ℕ) (b : Buddy) : 
 
 -- A free list.
 
--- a held chunk as an object
-abbrev pub list_object : FreeListState → ℕ → Chunk → HeldObject
-list_object l number c = record { memory_type = l.memory_type; counted = c.size; kind = FreeListChunk number }
-
-abbrev pub span_of_slot : Slot → Span
-span_of_slot slot = record { object = slot.object; offset = slot.offset; size = slot.size }
-
 -- what a memory type's free list was given
 pub record IsListForType (c : Config) (p : Properties) (index : ℕ) (l : FreeListState) : Type 0 where
   pub memory_type : l.memory_type ≡ index
@@ -60,10 +42,6 @@ pub record IsListFor (c : Config) (p : Properties) (index : ℕ) (l : FreeListSt
   pub sound : list.IsSoundFreeList l
 
 -- An allocator of fit chunks.
-
--- a held chunk as an object
-abbrev pub fit_object : FitState → Chunk → HeldObject
-fit_object f c = record { memory_type = f.memory_type; counted = c.size; kind = FitChunk }
 
 -- what a memory type's allocator of fit chunks was given
 pub record IsFitForType (c : Config) (p : Properties) (index : ℕ) (f : FitState) : Type 0 where

@@ -151,8 +151,7 @@ Removes = shared.Removes buddy_rule
 
 -- nothing is held: so it agrees with every device that offers this memory type
 abbrev pub HoldsNothing : ℕ → ℕ → Buddy → Type 0
-HoldsNothing memory_type props b =
-    (b.memory_type ≡ memory_type) × (b.props ≡ props) × in_hand.HoldsNothing memory_type props b.live b.chunks
+HoldsNothing = shared.HoldsNothing buddy_rule
 
 -- where no block is live, no chunk is held
 abbrev pub LeavesNoRest : Buddy → Type 0

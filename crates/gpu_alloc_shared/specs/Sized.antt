@@ -107,7 +107,8 @@ module _ {S : Type 0} where
     pub atom : new.atom ≡ t.atom
 
 -- What holds of an allocator between calls, whatever its space: chunks have objects of their own and are no larger than
--- the largest, and chunks and blocks have whole atoms.
+-- the largest, and chunks and blocks have whole atoms. (The last three fields are `AreSizes`, told again: as one
+-- field they are a level deeper, and what is searched for a caller with two blocks was not found.)
 pub record IsSoundSized {S : Type 0} (chunks_of : S → HeldChunks) (live_in : S → set.FinSet slot_cmp) (IsSoundSpace : S → Type 0)
     (t : SizedState S) : Type 0 where
   pub space : IsSoundSpace t.space

@@ -5,7 +5,7 @@ use Rattle.gpu_alloc.specs.Stores.{chosen_part, list_part}
 use Rattle.gpu_alloc.specs.Whole.{IsPartFor, own_part, parts_of}
 use Rattle.gpu_alloc.proofs.WholeBuddies.{buddy_row}
 use Rattle.gpu_alloc.proofs.WholeFits.{fit_row}
-use Rattle.gpu_alloc.proofs.WholeLists.{chunk_row}
+use Rattle.gpu_alloc.proofs.WholeLists.{list_row}
 use Rattle.gpu_alloc.proofs.WholeParts.{AreMet, are_next, left_from, met_all, met_next, met_none, none_left, separate}
 use Rattle.gpu_alloc.proofs.WholeStores.{buddy_rows_in, fit_rows_in, list_rows_in, rows_met, short_in}
 use Rattle.gpu_alloc.proofs.allocator.GpuAllocator.objects.Goals.{in-Buddy+in_ok-list_chunks-in-Buddy, in-Fit+in_ok-list_chunks-in-Fit}
@@ -43,7 +43,7 @@ loop-memory_type-preserved g c =
       | in-Fit+in_ok-list_chunks-in-Fit w ↦ rows_met all rows c.match-stores.rows.items (chosen_part e.chosen) (list_part e.free_list ∷ after) (fit_row object i) w.chunks-in-Fit.result met
           (fit_rows_in object its.for_type w.in-Fit.is w.chunks-in-Fit.result w.chunks-in-Fit.ensures) ((λ k. (w.rows-is k).items) ∙ w.in_ok-list_chunks-in-Fit.ensures)
     ] in
-    rows_met all c.match-stores.rows.items c.list_chunks-in-loop-memory_type.new.rows.items (list_part e.free_list) after (chunk_row object i) c.chunks-in-loop-memory_type.result chosen_met
+    rows_met all c.match-stores.rows.items c.list_chunks-in-loop-memory_type.new.rows.items (list_part e.free_list) after (list_row object i) c.chunks-in-loop-memory_type.result chosen_met
     (list_rows_in object its.for_type c.chunks-in-loop-memory_type.result c.chunks-in-loop-memory_type.ensures) c.in_ok-list_chunks.ensures
 
 pub returns-clause-exact : goal.returns-clause-exact
