@@ -19,7 +19,7 @@ from proved import OUT, ROOT
 
 # Checks of pages and sources, which need no proof: those that take seconds, and one that takes longer.
 QUICK = tuple(f"scripts/gate/{name}" for name in (
-    "check_readme", "check_edits", "check_pages", "check_steps", "soaking/test", "check_quotes"))
+    "check_readme", "check_edits", "check_pages", "check_steps", "check_unused", "soaking/test", "check_quotes"))
 SLOW = "scripts/gate/refuse_forgotten"
 # A line by which a check says what it leaves out for want of something: `left out: WHAT, since WHY`, or
 # `WHAT: left out, since WHY`.
