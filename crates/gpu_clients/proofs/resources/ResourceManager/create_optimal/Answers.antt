@@ -13,3 +13,9 @@ invariant_of-self-2 g c =
 pub returns-clause-ended : goal.returns-clause-ended
 returns-clause-ended g c = rw (← c.self.view_is) (λ handle gone.
     c.insert_reserved.ensures.gone handle (subst (λ s. IsGone s handle) (sym c.reserve.ensures.kept) gone))
+
+pub returns-clause-granted : goal.returns-clause-granted
+returns-clause-granted g c = rw (← c.self.view_is) (c.in_ok-block.block, c.insert_reserved.ensures.puts.there, c.in_ok-block.ensures.granted)
+
+pub returns-clause-pages : goal.returns-clause-pages
+returns-clause-pages g c = (c.in_ok-block.block, c.insert_reserved.ensures.puts.there, c.in_ok-block.ensures.pages)

@@ -11,3 +11,6 @@ invariant_of-result g c =
       count = c.in-Ok.ensures.empty.live ∙ sym none.count;
       pages = c.requires.granularity;
     }
+
+pub agrees_at_first-requires : goal.agrees_at_first-requires
+agrees_at_first-requires g c = rw c.requires.same c.in-Ok.ensures.empty

@@ -19,3 +19,10 @@ loop-block-preserved g c =
 
 pub returns-clause-beside : goal.returns-clause-beside
 returns-clause-beside g c = λ name. c.close.ensures.beside name ∙ c.loop-block.invariant.outside name
+
+-- search finds this and the next too; with a line a wrong body is refused sooner
+pub destroy_empty-requires : goal.destroy_empty-requires
+destroy_empty-requires g c = c.in_default.ensures.empty
+
+pub close-requires-clause-none : goal.close-requires-clause-none
+close-requires-clause-none g c = c.loop-block.invariant.cached.count ∙ c.in_default.ensures.none
