@@ -4,10 +4,14 @@ and the texts that they stand in.
 An edit in crates/*/must-fail-second holds wrong bodies of private functions, or second ones of functions that a crate's
 first edit turns: rt ci tries that one alone, and scripts/gate/refuse_each all. Where a store is refused, no goal of an
 allocator over it is tried, so bodies of both stand in different edits.
+
+A check proves also each function that an edit does not turn. So under a line 'leaves out: WHAT' texts leave out what
+nothing else needs, as laws: the crate without it is proved, and with the wrong bodies refused.
 """
 import os
 
 FIRST, SECOND = "must-fail", "must-fail-second"
+LEAVES_OUT = "leaves out: "
 
 
 def read(path):
@@ -45,6 +49,6 @@ def apply_edit(edit, crate):
         elif line.startswith("new:"):
             assert texts[path].count(old) == 1, f"{edit}: '{old}' stands {texts[path].count(old)} times in {path}"
             texts[path] = texts[path].replace(old, line[len("new: "):])
-        elif line.strip():
+        elif line.strip() and not line.startswith(LEAVES_OUT):
             functions.append(line.partition(": ")[0])
     return functions, texts
