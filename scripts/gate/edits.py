@@ -5,13 +5,16 @@ An edit in crates/*/must-fail-second holds wrong bodies of private functions, or
 first edit turns: rt ci tries that one alone, and scripts/gate/refuse_each all. Where a store is refused, no goal of an
 allocator over it is tried, so bodies of both stand in different edits.
 
-A check proves also each function that an edit does not turn. So under a line 'leaves out: WHAT' texts leave out what
-nothing else needs, as laws: the crate without it is proved, and with the wrong bodies refused.
+A check proves also each function that an edit does not turn. So texts under a line 'leaves out: WHAT' take away what
+nothing else needs, as laws. The crate is proved without it, so the wrong bodies alone are refused.
 """
 import os
+import re
 
 FIRST, SECOND = "must-fail", "must-fail-second"
 LEAVES_OUT = "leaves out: "
+# What an edit leaves out by its name.
+LEFT_OUT = re.compile(r"^new:\s*#\[cfg\(test\)\] (?:pub )?(?:mod|fn) (\w+)", re.M)
 
 
 def read(path):
@@ -51,4 +54,7 @@ def apply_edit(edit, crate):
             texts[path] = texts[path].replace(old, line[len("new: "):])
         elif line.strip() and not line.startswith(LEAVES_OUT):
             functions.append(line.partition(": ")[0])
+    for name in LEFT_OUT.findall(read(edit)):
+        turned = [function for function in functions if name in function.split("::")]
+        assert not turned, f"{edit}: {turned} cannot be refused, since {name} is left out"
     return functions, texts
